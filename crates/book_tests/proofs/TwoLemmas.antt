@@ -1,8 +1,7 @@
 -- Two open groups stay the same two while cells are lent and come back, and what that says of their cells.
 use Rattle.std.proofs.Common.{◌≡◌, ◌≢◌, ℕ, zero, suc, ◌<◌, Bool, true, false, true≢false, List, [], ◌∷◌, length, get_or, refl, sym, ap, ◌∙◌, subst, arith, Contains, IsPermutation}
 use Rattle.std.specs.Prelude.{◌↔◌, ◌==◌, Option, Some, None, is_some, IsSome, All, Any, replicate, if◌then◌else◌}
-use Rattle.ot_model.specs.Cells.{cell_of, lengths}
-use Rattle.ot_model.specs.Uses.{is_fold}
+use Rattle.ot_model.specs.Cells.{cell_of, lengths, is_fold}
 use Rattle.ot_model.specs.Names.{IsInShape}
 use Rattle.ot_model.specs.declared.expr.Cell.{Cell}
 use Rattle.ot_model.specs.declared.fold.Fold.{Fold as Operation}
@@ -17,9 +16,8 @@ use Rattle.std.proofs.lemmas.List.Sorted.{length_permutation, IsPermutation-cons
 use Rattle.ot_owner.proofs.OutLemmas.{permutation_rest}
 use Rattle.ot_model.specs.declared.stmt.Mode.TheVariants.{Reads, Folds}
 use Rattle.ot_owner.specs.Lending.{use_of, uses_of, MayChange}
-use Rattle.ot_owner.specs.Back.{taken_back, all_back}
-use Rattle.ot_owner.specs.Owning.{Loan, IsFreeFor}
-use Rattle.ot_owner.specs.Rows.{Summed, is_of, place_in, names, IsNamed, IsSummed, IsSummedBy, folded_in, folded, without}
+use Rattle.ot_owner.specs.Worth.{taken_back, all_back}
+use Rattle.ot_owner.specs.Owning.{Loan, IsFreeFor, Summed, is_of, place_in, names, IsNamed, IsSummed, IsSummedBy, folded_in, folded, without}
 use Rattle.ot_owner.specs.declared.lent.LentCell.{LentCell}
 use Rattle.ot_owner.proofs.NameLemmas.{place-named}
 use Rattle.book_tests.specs.TwoGroups.{nth, IsFoldOf, IsOver, AreTwo}

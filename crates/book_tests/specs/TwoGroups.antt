@@ -4,7 +4,7 @@ use Rattle.ot_model.specs.declared.expr.Cell.{Cell}
 use Rattle.ot_model.specs.declared.fold.Fold.{Fold as Operation}
 use Rattle.ot_model.specs.declared.stmt.Mode.TheVariants.{Folds}
 use Rattle.ot_model.specs.declared.stmt.Use.{Use}
-use Rattle.ot_owner.specs.Rows.{Summed, names}
+use Rattle.ot_owner.specs.Owning.{Summed, names}
 
 -- a cell of the only array
 abbrev pub nth : ℕ → Cell

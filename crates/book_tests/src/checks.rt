@@ -1,7 +1,6 @@
 //! What the checker tells of programs, and what those that it accepts leave.
 ghost use Rattle.std.specs.Prelude.{◌≡◌, ◌∷◌, []};
-ghost use Rattle.ot_model.specs.Shapes.{array_lengths};
-ghost use Rattle.ot_model.specs.Programs.{expanded_of, IsNamedIn};
+ghost use Rattle.ot_model.specs.Programs.{array_lengths, expanded_of, IsNamedIn};
 
 use super::table::{Asked, assert_rows};
 use ot_check::{CheckFault, check};

@@ -1,7 +1,7 @@
 //! Leases over 1, 2, 3: what comes back, what stays out, and want of memory.
 ghost use Rattle.std.specs.Prelude.{◌≡◌, ◌≤◌, ◌<◌, ◌∷◌, [], false, IfOk, IsPermutation};
-ghost use Rattle.ot_model.specs.Uses.{is_fold};
-ghost use Rattle.ot_owner.specs.Leases.{lent_from};
+ghost use Rattle.ot_model.specs.Cells.{is_fold};
+ghost use Rattle.ot_owner.specs.Lending.{lent_from};
 ghost use Rattle.ot_owner.specs.Owning.{loan_of};
 
 use super::table::{Asked, assert_rows};

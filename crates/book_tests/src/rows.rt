@@ -1,9 +1,9 @@
 //! Two groups that are open over three cells, by one operation: the rows of workers that fold, what the cells
 //! are worth, what the groups leave behind, who is free beside whom, and want of memory.
-ghost use Rattle.std.specs.Prelude.{◌≡◌, ◌≢◌, ◌↔◌, ◌≤◌, ◌++◌, ◌∷◌, [], IfOk, OnOk, All, Contains};
+ghost use Rattle.std.specs.Prelude.{◌≡◌, ◌≢◌, ◌↔◌, ◌≤◌, ◌++◌, ◌∷◌, [], IfOk, OnOk, All, Contains, ◌<◌, IsPermutation};
 ghost use Rattle.ot_model.specs.declared.expr.Cell.{Cell};
 ghost use Rattle.ot_owner.specs.Keeping.{IsLast, IsOpenable};
-ghost use Rattle.ot_owner.specs.Rows.{IsNamed, IsSummed, Summed};
+ghost use Rattle.ot_owner.specs.Owning.{IsNamed, IsSummed, Summed, loan_of};
 ghost use Rattle.book_tests.specs.TwoGroups.{nth, IsFoldOf, IsOver};
 
 use super::modes::OPERATIONS;
@@ -88,9 +88,7 @@ impl Model for Groups {
 }
 
 impl Groups {
-    ghost use Rattle.std.specs.Prelude.{◌≡◌, ◌≤◌, ◌<◌, ◌∷◌, [], IfOk, OnOk, Contains, IsPermutation};
     ghost use Rattle.ot_owner.specs.Lending.{uses_of};
-    ghost use Rattle.ot_owner.specs.Owning.{loan_of};
 
     /// Both are opened over this number, 2, 3. Nothing is out.
     fn new(alloc: Global, op: Fold, first: u64) -> Result<Groups, AllocError>

@@ -1,5 +1,5 @@
 //! Jobs over one array of three cells, of which is told what the cells hold and what they are worth.
-ghost use Rattle.std.specs.Prelude.{◌≡◌, ◌∷◌, [], IsTrue};
+ghost use Rattle.std.specs.Prelude.{◌≡◌, ◌∷◌, [], IsTrue, ◌≤◌};
 ghost use Rattle.ot_model.specs.Cells.{lengths};
 
 use ot_check::JobSpec;
@@ -42,8 +42,6 @@ impl Model for ThreeCells {
 }
 
 impl ThreeCells {
-    ghost use Rattle.std.specs.Prelude.{◌≤◌};
-
     /// A job that begins. Where memory is refused, the spec comes back.
     pub(crate) fn start(alloc: Global, spec: JobSpec) -> Result<ThreeCells, (JobSpec, AllocError)> {
         if !has_three(&spec) {

@@ -2,7 +2,7 @@
 use Rattle.std.specs.Prelude.{◌≡◌, ◌≢◌, true, ℕ, List, [], map, Option, Some, IfSome, codes, nat_eq, Bool, option_map, slice_get, string_bytes, unwrap_or}
 use Rattle.std.specs.List.{ends_with}
 use Rattle.clap.specs.Words.{Row, Text, all_of, first_of, one_of}
-use Rattle.ot_commands.specs.Matched.{IsRead, IsSaid, entered_name, entered_rows}
+use Rattle.ot_commands.specs.Rules.{IsRead, IsSaid, entered_name, entered_rows}
 use Rattle.omptask.specs.declared.asked.Ask.{Ask}
 use Rattle.omptask.specs.declared.asked.Check.{Check}
 use Rattle.omptask.specs.declared.asked.Manner.{Manner}

@@ -5,8 +5,7 @@ use Rattle.clap.specs.Words.{FailsBy, HasKind, Kinds, Row, Text, fault_of, is_si
 use Rattle.clap.specs.declared.error.Error.{Error}
 use Rattle.clap.specs.declared.error.kind.ErrorKind.TheVariants.{OutOfMemory}
 use Rattle.clap.proofs.OnLiterals.{clap_on_literals}
-use Rattle.ot_commands.specs.Matched.{entered_name}
-use Rattle.ot_commands.specs.Rules.{names_rule, number_rule, socket_rule}
+use Rattle.ot_commands.specs.Rules.{entered_name, names_rule, number_rule, socket_rule}
 use Rattle.omptaskd.specs.declared.asked.Words.{Words}
 use Rattle.omptaskd.specs.declared.asked.Words.TheVariants as asked
 use Rattle.omptaskd.specs.Asked.{AsksFor, Means}

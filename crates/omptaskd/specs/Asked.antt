@@ -3,7 +3,7 @@ use Rattle.std.specs.Prelude.{◌≡◌, ◌≢◌, ℕ, List, [], Option, Some,
 use Rattle.clap.specs.Words.{Row, Text, all_of, first_of, kind_of, one_of}
 use Rattle.clap.specs.declared.error.Error.{Error}
 use Rattle.clap.specs.declared.error.kind.ErrorKind.TheVariants.{OutOfMemory}
-use Rattle.ot_commands.specs.Matched.{IsRead, entered_name, entered_rows}
+use Rattle.ot_commands.specs.Rules.{IsRead, entered_name, entered_rows}
 use Rattle.ot_serve.specs.declared.serve.Serve.{Serve}
 use Rattle.ot_serve.specs.Serving as serving
 use Rattle.omptaskd.specs.declared.asked.Words.{Words}

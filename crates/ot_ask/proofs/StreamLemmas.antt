@@ -7,13 +7,11 @@ use Rattle.std.proofs.KnownBytes.{Consumes-trans}
 use Rattle.std.proofs.Math.Seq.{take-append_seam}
 use Rattle.std.proofs.lemmas.Bool.Decides.{nat_tests}
 use Rattle.std.proofs.lemmas.List.Elements.{All-from_get_or}
-use Rattle.ot_lines.specs.Counts.{Flow}
-use Rattle.ot_lines.specs.Lines.{HasNoEnd, Hearing, Hears, stream}
+use Rattle.ot_lines.specs.Lines.{Flow, HasNoEnd, Hearing, Hears, stream}
 use Rattle.ot_lines.specs.declared.lines.Heard.TheVariants.{Line, End, Long}
 use Rattle.ot_lines.specs.declared.lines.LineFault.{LineFault}
 use Rattle.ot_lines.proofs.Hearing.{clean_both}
-use Rattle.ot_ask.specs.Lines.{IsWhole, is_ended}
-use Rattle.ot_ask.specs.Streams.{Known}
+use Rattle.ot_ask.specs.Streams.{IsWhole, is_ended, Known}
 
 -- ---- where bytes end
 

@@ -6,10 +6,8 @@ use Rattle.std.proofs.Math.Bool.{or-false, or-true}
 use Rattle.std.proofs.KnownBytes.{Appends-nil, Appends-trans, Consumes-nil, Consumes-trans}
 use Rattle.std.proofs.lemmas.List.Folds.{concat-append, list_any-append}
 use Rattle.std.proofs.lemmas.List.Elements.{All-nil, All-push, All-take, AllZip-push}
-use Rattle.ot_ask.specs.Asking.{BreaksBy, Counts, Ends, GoesOn, IsAnswered, IsCutShort, IsShown, LeavesServer, SaysBye, TakesOneLine, Talk, Talks, Ways, asked_after, asked_of}
-use Rattle.ot_ask.specs.Lines.{IsWhole, is_last, is_refusal, sent_for}
-use Rattle.ot_ask.specs.Streams.{Gives, Incoming, Link, Outgoing, Writes}
-use Rattle.ot_ask.specs.Tallies.{tally_of, with_reply}
+use Rattle.ot_ask.specs.Asking.{BreaksBy, Counts, Ends, GoesOn, IsAnswered, IsCutShort, IsShown, LeavesServer, SaysBye, TakesOneLine, Talk, Talks, Ways, asked_after, asked_of, tally_of, with_reply}
+use Rattle.ot_ask.specs.Streams.{IsWhole, is_last, is_refusal, sent_for, Gives, Incoming, Link, Outgoing, Writes}
 use Rattle.ot_ask.specs.declared.asked.Tally.{Tally}
 use Rattle.ot_ask.specs.declared.asked.Asked.TheVariants.{AllTaken, SomeRefused, CutShort}
 use Rattle.ot_ask.specs.declared.asked.AskFault.TheVariants.{Busy, UnknownTenant, StrangeGreeting, Closed, ReadFailed, WriteFailed, Memory, TooManyLines}

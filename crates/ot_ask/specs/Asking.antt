@@ -1,11 +1,9 @@
--- What a client reads, sends, hears and prints.
-use Rattle.std.specs.Prelude.{◌≡◌, ◌⊎◌, ◌-◌, ◌^◌, ◌&&◌, ℕ, Bool, true, false, if◌then◌else◌, List, [], ◌∷◌, ◌++◌, length, map, take, Result, Ok, Err}
-use Rattle.std.specs.List.{All, AllZip, concat, list_any}
+-- How many lines of a client were answered.
+use Rattle.std.specs.Prelude.{◌≡◌, ◌⊎◌, ◌-◌, ◌^◌, ◌&&◌, ℕ, Bool, true, false, if◌then◌else◌, List, [], ◌∷◌, ◌++◌, length, map, take, Result, Ok, Err, ◌||◌, ◌+◌, Option, Some, None}
+use Rattle.std.specs.List.{All, AllZip, concat, list_any, filter, position_from}
 use Rattle.std.specs.Io.KnownBytes.{Consumes}
 use Rattle.ot_ask.specs.Greeting.{GreetsServer}
-use Rattle.ot_ask.specs.Lines.{IsWhole, goodbye, is_last, is_refusal, says_bye, sent_for}
-use Rattle.ot_ask.specs.Streams.{BreaksOff, Gives, GivesLine, HasFailed, Incoming, IsLost, IsStreamOver, Link, Outgoing, Writes, link}
-use Rattle.ot_ask.specs.Tallies.{none_counted, tally_of}
+use Rattle.ot_ask.specs.Streams.{IsWhole, goodbye, is_last, is_refusal, says_bye, sent_for, BreaksOff, Gives, GivesLine, HasFailed, Incoming, IsLost, IsStreamOver, Link, Outgoing, Writes, link}
 use Rattle.ot_ask.specs.declared.asked.Tally.{Tally}
 use Rattle.ot_ask.specs.declared.asked.Asked.{Asked}
 use Rattle.ot_ask.specs.declared.asked.Asked.TheVariants.{AllTaken, SomeRefused, CutShort}
@@ -13,6 +11,33 @@ use Rattle.ot_ask.specs.declared.asked.AskFault.{AskFault}
 use Rattle.ot_ask.specs.declared.asked.AskFault.TheVariants.{Closed, Memory, ReadFailed, TooManyLines, WriteFailed}
 use Rattle.ot_ask.specs.declared.exchange.Step.{Step}
 use Rattle.ot_ask.specs.declared.exchange.Step.TheVariants as step
+
+-- a reply says that its line isn't taken
+abbrev pub is_untaken : List ℕ → Bool
+is_untaken reply = is_refusal reply || is_last reply
+
+abbrev pub tally : ℕ → ℕ → Option ℕ → Tally
+tally lines refused first_refused = record { lines = lines; refused = refused; first_refused = first_refused }
+
+-- the tally of these replies
+abbrev pub tally_of : List (List ℕ) → Tally
+tally_of replies = tally (length replies) (length (filter is_untaken replies)) (position_from is_untaken 1 replies)
+
+-- that of none
+abbrev pub none_counted : Tally
+none_counted = tally 0 0 None
+
+-- the first refusal, where none stands before this one
+abbrev pub first_or : Option ℕ → ℕ → Option ℕ
+first_or None number = Some number
+first_or (Some first) number = Some first
+
+-- with one reply more, which refuses its line or doesn't
+abbrev pub with_reply : Tally → Bool → Tally
+with_reply t is_refused =
+    if is_refused then tally (t.lines + 1) (t.refused + 1) (first_or t.first_refused (t.lines + 1)) else tally (t.lines + 1) t.refused t.first_refused
+
+-- What a client reads, sends, hears and prints.
 
 -- the lines to come, the stream to and from the server, and what was printed
 pub record Ways : Type 0 where

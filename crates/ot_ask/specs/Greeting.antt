@@ -1,8 +1,7 @@
 -- The greeting.
 use Rattle.std.specs.Prelude.{◌≡◌, ◌≢◌, ◌⊎◌, ℕ, true, false, List, Result, Ok, Err, ⊤}
-use Rattle.ot_program.specs.Names.{is_name}
-use Rattle.ot_ask.specs.Lines.{busy_text, hello_line, is_welcome, unknown_text}
-use Rattle.ot_ask.specs.Streams.{GivesLine, IsUnanswered, Link, Writes}
+use Rattle.ot_program.specs.Meanings.{is_name}
+use Rattle.ot_ask.specs.Streams.{busy_text, hello_line, is_welcome, unknown_text, GivesLine, IsUnanswered, Link, Writes}
 use Rattle.ot_ask.specs.declared.asked.AskFault.{AskFault}
 use Rattle.ot_ask.specs.declared.asked.AskFault.TheVariants.{Busy, Closed, Memory, StrangeGreeting, UnknownTenant}
 

@@ -1,7 +1,6 @@
 -- A line that is read to be sent, and a reply that is heard.
 use Rattle.std.specs.Prelude.{◌≡◌, ℕ, List, Result, Ok, Err, ⊤}
-use Rattle.ot_ask.specs.Lines.{sent_for}
-use Rattle.ot_ask.specs.Streams.{Gives, GivesLine, HasFailed, Incoming, IsLost}
+use Rattle.ot_ask.specs.Streams.{sent_for, Gives, GivesLine, HasFailed, Incoming, IsLost}
 use Rattle.ot_ask.specs.declared.asked.AskFault.{AskFault}
 use Rattle.ot_ask.specs.declared.asked.AskFault.TheVariants.{Closed, Memory, ReadFailed}
 

@@ -1,6 +1,4 @@
-pub mod Lines
 pub mod Streams
 pub mod Hearing
 pub mod Greeting
-pub mod Tallies
 pub mod Asking

@@ -1,6 +1,6 @@
 //! Lines that are sent, and lines that are heard.
 ghost use Rattle.std.specs.Prelude.{◌≡◌, OnOk, string_bytes, IfOk};
-ghost use Rattle.ot_ask.specs.Lines.{begins_with, hello_line, is_ended, is_last, is_refusal, is_welcome, says_bye, sent_for};
+ghost use Rattle.ot_ask.specs.Streams.{begins_with, hello_line, is_ended, is_last, is_refusal, is_welcome, says_bye, sent_for};
 
 use ot_lines::is_bye;
 use std::alloc::{AllocError, Global};

@@ -3,8 +3,7 @@
 //! A stream tells, for proofs alone, which bytes it has ahead, or nothing of them, and how often it told its end
 //! and failed. It counts in 64 bits, so a count begins again at 0 after 2^64.
 ghost use Rattle.std.specs.Prelude.{◌≡◌, ◌+◌, ◌++◌, ◌≤◌, [], vec_len, vec_capacity, IfOk};
-ghost use Rattle.ot_lines.specs.Counts.{flow};
-ghost use Rattle.ot_lines.specs.Lines.{heard_by, Hears};
+ghost use Rattle.ot_lines.specs.Lines.{flow, heard_by, Hears};
 ghost use Rattle.ot_ask.specs.Streams.{Incoming, IsStreamOver, ReadsLine, incoming};
 
 use ot_lines::{Bounds, Heard, LineFault, Lines, Source};

@@ -4,18 +4,15 @@ use Rattle.std.proofs.lemmas.Bool.Decides.{leb_tells}
 use Rattle.std.specs.Prelude.{◌⊎◌, if◌then◌else◌, Option, Some, None}
 use Rattle.std.specs.List.{list_any}
 use Rattle.std.specs.Option.{option_or}
-use Rattle.ot_model.specs.Tree.{S, Set, Fold, If, Task, Wait, Group, Body, End, Next}
-use Rattle.ot_model.specs.Counts.{size, size_one}
+use Rattle.ot_model.specs.Tree.{S, Set, Fold, If, Task, Wait, Group, Body, End, Next, size, size_one}
 use Rattle.ot_model.specs.declared.stmt.Mode.TheVariants.{Writes}
 use Rattle.ot_model.specs.declared.stmt.Use.{Use}
-use Rattle.ot_check.specs.Paths.{Mark, Touch, Create, Await, Enter, Leave, touches, use_as}
-use Rattle.ot_check.specs.Offences.{Declared, Openings, awaits, clashes, Offends}
+use Rattle.ot_check.specs.Offences.{Mark, Touch, Create, Await, Enter, Leave, touches, use_as, Declared, Openings, awaits, clashes, Offends}
 use Rattle.ot_check.specs.Discipline.{Children, anyone, nobody, nothing_open, through, behind, behind_one, with_group, may_break, marks, ends_with_children, is_offence}
 use Rattle.ot_check.specs.declared.fault.Offence.{Offence}
 use Rattle.ot_check.specs.declared.fault.Offence.TheVariants.{ConflictsWithChild, EndsWithChildren}
 use Rattle.ot_check.proofs.Cited.{or_true, true_or, or_right, or_false, and_left, and_right, any-map, Meets, MeetsInside, meets-on_path, meets-in_tasks}
-use Rattle.ot_blame.specs.Races.{uses_of}
-use Rattle.ot_blame.specs.Walk.{Pending, only, carried, carried_one, met, met_one, met_inside, inside_of, IsSpared}
+use Rattle.ot_blame.specs.Races.{uses_of, Pending, only, carried, carried_one, met, met_one, met_inside, inside_of, IsSpared}
 use Rattle.ot_blame.proofs.FollowLemmas.{here-is, here-not, met-here, met-past, met-first}
 
 -- ---- places

@@ -3,14 +3,13 @@ use Rattle.std.proofs.Common.{◌≡◌, ◌≢◌, ℕ, ◌+◌, Bool, true, fa
 use Rattle.std.specs.Prelude.{◌⊎◌, ◌==◌, if◌then◌else◌, Option, Some, None, Result, Ok, Err}
 use Rattle.std.specs.Option.{option_or}
 use Rattle.std.proofs.lemmas.Bool.Decides.{nat_tests}
-use Rattle.ot_model.specs.Tree.{E, S, If, Body, Next}
-use Rattle.ot_model.specs.Counts.{size, size_one}
+use Rattle.ot_model.specs.Tree.{E, S, If, Body, Next, size, size_one}
 use Rattle.ot_model.specs.declared.stmt.Use.{Use}
 use Rattle.ot_check.proofs.Cited.{not_true}
 use Rattle.ot_blame.specs.declared.walk.Search.{Search}
 use Rattle.ot_blame.specs.declared.walk.Arrived.{Arrived}
 use Rattle.ot_blame.specs.declared.walk.Behind.{Behind}
-use Rattle.ot_blame.specs.Walk.{Pending, pending_of, Declares, only, carried, carried_one, met, met_one, met_inside, Follows, FollowsOne, FollowsInside}
+use Rattle.ot_blame.specs.Races.{Pending, pending_of, Declares, only, carried, carried_one, met, met_one, met_inside, Follows, FollowsOne, FollowsInside}
 
 -- ---- the choices of the code
 

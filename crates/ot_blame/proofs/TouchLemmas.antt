@@ -5,20 +5,16 @@ use Rattle.std.specs.List.{list_any}
 use Rattle.std.proofs.lemmas.List.FromFn.{length-map-range_with_len, get_or-map-range_with_len}
 use Rattle.std.proofs.lemmas.Bool.Decides.{nat_tests}
 use Rattle.std.proofs.lemmas.List.Folds.{list_any_at, Any-from_list_any}
-use Rattle.ot_model.specs.Tree.{S}
-use Rattle.ot_model.specs.Cells.{same_cell}
-use Rattle.ot_model.specs.Uses.{conflicts}
-use Rattle.ot_model.specs.Value.{cell_at, cells_of}
+use Rattle.ot_model.specs.Tree.{S, cell_at, cells_of}
+use Rattle.ot_model.specs.Cells.{same_cell, conflicts}
 use Rattle.ot_model.specs.declared.expr.Cell.{Cell}
 use Rattle.ot_model.specs.declared.expr.Section.{Section}
 use Rattle.ot_model.specs.declared.stmt.Mode.{Mode}
 use Rattle.ot_model.specs.declared.stmt.Use.{Use}
 use Rattle.ot_model.proofs.CellsLemmas as model
-use Rattle.ot_check.specs.Paths.{use_as}
-use Rattle.ot_check.specs.Offences.{clashes}
+use Rattle.ot_check.specs.Offences.{use_as, clashes}
 use Rattle.ot_check.proofs.Cited.{and_true, and_left, and_right, and_false, and_one, none_any, any-same, any-more, any-map, same_is, same_itself, section-at}
-use Rattle.ot_blame.specs.Races.{uses_of, conflicts_at}
-use Rattle.ot_blame.specs.Walk.{is_against}
+use Rattle.ot_blame.specs.Races.{uses_of, conflicts_at, is_against}
 
 -- ---- truth values and lists
 

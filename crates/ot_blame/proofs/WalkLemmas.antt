@@ -1,18 +1,15 @@
 -- Steps of the walk: what it carries, and where it comes.
 use Rattle.std.proofs.Common.{◌≡◌, ℕ, ◌+◌, ◌++◌, true, false, not, List, [], ◌∷◌, refl, sym, ap, subst, inl, inr, ◌∙◌, append_assoc, append-nil}
 use Rattle.std.specs.Prelude.{⊤, Option, Some, None, Result, Ok, Err, IfSome, IfErr}
-use Rattle.ot_model.specs.Tree.{E, S, Set, Fold, If, Task, Wait, Group, Body, End, Next}
-use Rattle.ot_model.specs.Counts.{size, size_one}
+use Rattle.ot_model.specs.Tree.{E, S, Set, Fold, If, Task, Wait, Group, Body, End, Next, size, size_one}
 use Rattle.ot_model.specs.declared.expr.Cell.{Cell}
 use Rattle.ot_model.specs.declared.fold.Fold.{Fold as Operation}
 use Rattle.ot_model.specs.declared.stmt.Use.{Use}
-use Rattle.ot_check.specs.Paths.{Create, Await, Enter, Leave, Step, At, touched, touches, PassesOne, Passes}
-use Rattle.ot_check.specs.Offences.{stays_within, awaits, is_awaited}
+use Rattle.ot_check.specs.Offences.{Create, Await, Enter, Leave, Step, At, touched, touches, PassesOne, Passes, stays_within, awaits, is_awaited}
 use Rattle.ot_check.specs.Discipline.{through}
 use Rattle.ot_check.proofs.Cited.{and_true, and_left, and_right, true_not, not_true, false_or, or_none, IsClosed, closed_of, within-closed, awaited-append, touched-balanced, touched-awaited, passes_one-closed, some_path, some_path_one, through-to}
 use Rattle.ot_blame.specs.declared.child.Child.{Child}
-use Rattle.ot_blame.specs.Races.{IsPending, StandsAt, Somewhere, InTask, InTaskOne, IsAt}
-use Rattle.ot_blame.specs.Walk.{Pending, pending_of, Declares, Carried, Carries, Reaches, Comes, Arrives, ArrivesOne}
+use Rattle.ot_blame.specs.Races.{IsPending, StandsAt, Somewhere, InTask, InTaskOne, IsAt, Pending, pending_of, Declares, Carried, Carries, Reaches, Comes, Arrives, ArrivesOne}
 
 -- ---- who stays pending
 

@@ -1,3 +1,2 @@
 pub mod Races
 pub mod Named
-pub mod Walk

@@ -2,12 +2,11 @@
 ghost use Rattle.std.specs.Prelude.{◌≡◌, map};
 ghost use Rattle.std.specs.List.{list_any};
 ghost use Rattle.ot_model.specs.View.{expr_of, stmt_of};
-ghost use Rattle.ot_model.specs.Value.{cells_of, cells_named};
+ghost use Rattle.ot_model.specs.Tree.{cells_of, cells_named};
 ghost use Rattle.ot_model.specs.Cells.{same_cell};
 ghost use Rattle.ot_model.specs.declared.stmt.Mode.TheVariants.{Reads};
-ghost use Rattle.ot_check.specs.Paths.{use_as};
-ghost use Rattle.ot_blame.specs.Races.{uses_of};
-ghost use Rattle.ot_blame.specs.Walk.{is_against};
+ghost use Rattle.ot_check.specs.Offences.{use_as};
+ghost use Rattle.ot_blame.specs.Races.{uses_of, is_against};
 
 use ot_model::{Cell, Expr, Mode, Section, Stmt, Use};
 

@@ -1,15 +1,13 @@
 //! A walk through a body to a statement of it, with one task as a child that may be unawaited there.
 ghost use Rattle.std.specs.Prelude.{◌≡◌, ◌==◌, ◌+◌, ◌<◌, ◌≤◌, ◌^◌, ◌⊎◌, IfOk, IfErr, List, Some, not, if◌then◌else◌};
 ghost use Rattle.std.specs.Option.{option_or};
-ghost use Rattle.ot_model.specs.Tree.{Task, Group};
+ghost use Rattle.ot_model.specs.Tree.{Task, Group, size, size_one};
 ghost use Rattle.ot_model.specs.declared.expr.Cell.{Cell};
 ghost use Rattle.ot_model.specs.declared.fold.Fold.{Fold};
-ghost use Rattle.ot_check.specs.Offences.{awaits};
+ghost use Rattle.ot_check.specs.Offences.{awaits, PassesOne, Passes};
 ghost use Rattle.ot_check.specs.Discipline.{through};
 ghost use Rattle.ot_model.specs.View.{stmt_of, stmts_of};
-ghost use Rattle.ot_model.specs.Counts.{size, size_one};
-ghost use Rattle.ot_check.specs.Paths.{PassesOne, Passes};
-ghost use Rattle.ot_blame.specs.Walk.{pending_of, only, carried, met, Carries, Arrives, ArrivesOne, Follows, FollowsAll, FollowsOne, FollowsInside};
+ghost use Rattle.ot_blame.specs.Races.{pending_of, only, carried, met, Carries, Arrives, ArrivesOne, Follows, FollowsAll, FollowsOne, FollowsInside};
 
 use crate::child::Child;
 use crate::through::{awaits, through};

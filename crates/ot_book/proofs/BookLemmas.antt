@@ -6,15 +6,14 @@ use Rattle.serde_json.specs.Data.{Data}
 use Rattle.ot_model.specs.Programs.{Expanded}
 use Rattle.ot_program.specs.Programs.{program_of}
 use Rattle.ot_program.specs.declared.fault.Refusal.{Refusal}
-use Rattle.ot_check.specs.FirstOffence.{first_offence}
+use Rattle.ot_check.specs.Laws.{first_offence}
 use Rattle.ot_check.specs.declared.fault.Offence.{Offence}
 use Rattle.ot_store.specs.Arrays.{Named, created, freed, put, got, shape_in}
 use Rattle.ot_store.specs.declared.fault.StoreRefusal.{StoreRefusal}
 use Rattle.ot_store.specs.declared.limits.Limits.{Limits}
-use Rattle.ot_book.specs.Answers.{State, Step, Now, Runs, numbered, replies, is_checkpoint, changed, fetched, judged, started, performed, asked, parsed, value_of, step_of, finished, answer_or_lost, answers}
+use Rattle.ot_book.specs.Answers.{State, Step, Now, Runs, numbered, replies, is_checkpoint, changed, fetched, judged, started, performed, asked, parsed, value_of, step_of, finished, answer_or_lost, answers, Told, Accepted, is_lost}
 use Rattle.ot_book.specs.Books.{Register, next_number, start_of, state_in, lines_in, IsRight, appended, cleared, logged}
 use Rattle.ot_book.specs.Requests.{Request, New, Free, Put, Get, Arrays, Used, Checkpoint, Run, request_of, asks_checkpoint}
-use Rattle.ot_book.specs.Replies.{Told, Accepted, is_lost}
 
 -- the answers to one line more
 pub answers-more : (limits : Limits) (s : State) (ls : List (List ℕ × Bool)) (l : List ℕ × Bool) →

@@ -5,14 +5,12 @@ use Rattle.std.specs.Coded.{Coded, Coded-set, codes}
 use Rattle.std.specs.Prelude.{Option, Some, None, option_map, unwrap_or}
 use Rattle.ot_model.specs.Cells.{lengths}
 use Rattle.ot_model.specs.Programs.{expanded_of}
-use Rattle.ot_model.specs.Serial.{State as RunState, serial_run}
-use Rattle.ot_model.specs.Runs.{state_of}
+use Rattle.ot_model.specs.Serial.{State as RunState, serial_run, state_of}
 use Rattle.ot_check.specs.Jobs.{Spec, IsMeaning}
 use Rattle.ot_check.specs.declared.job.Outcome.{Outcome}
 use Rattle.ot_store.specs.Arrays.{Named, cells_in, recelled}
-use Rattle.ot_book.specs.Replies.{Told, Done}
+use Rattle.ot_book.specs.Answers.{Told, Done, Runs, shown, finished}
 use Rattle.ot_book.specs.ReplyView.{told_of}
-use Rattle.ot_book.specs.Answers.{Runs, shown, finished}
 use Rattle.ot_book.specs.Books.{Register, state_in, next_step, appended}
 use Rattle.ot_book.specs.BookView.{entries_of}
 use Rattle.ot_book.specs.declared.book.Entry.{Entry}

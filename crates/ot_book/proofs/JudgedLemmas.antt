@@ -3,14 +3,13 @@ use Rattle.std.proofs.Common.{◌≡◌, ℕ, List, refl, sym, ap, ◌∙◌, in
 use Rattle.std.specs.Prelude.{Some, None, Result, Ok, Err, IfErr, IsErrAnd}
 use Rattle.ot_model.specs.Programs.{Expanded}
 use Rattle.ot_program.specs.declared.fault.Refusal.{Refusal}
-use Rattle.ot_check.specs.Offences.{Offends, IsFirstOf}
-use Rattle.ot_check.specs.FirstOffence.{FirstOffenceIsFirst}
-use Rattle.ot_check.specs.Codes.{code_of, TellsFirst}
+use Rattle.ot_check.specs.Offences.{Offends, IsFirstOf, code_of, TellsFirst}
+use Rattle.ot_check.specs.Laws.{FirstOffenceIsFirst}
 use Rattle.ot_check.specs.declared.fault.CheckFault.{CheckFault}
 use Rattle.ot_check.specs.declared.fault.CheckFault.TheVariants as fault
 use Rattle.ot_check.specs.declared.fault.Offence.{Offence}
 use Rattle.ot_store.specs.Arrays.{Named}
-use Rattle.ot_book.specs.Replies as r
+use Rattle.ot_book.specs.Answers as r
 use Rattle.ot_book.specs.Faults.{told_by_check}
 use Rattle.ot_book.specs.Considering.{ComesToAnswer}
 use Rattle.ot_book.specs.declared.told.Told.{Told}

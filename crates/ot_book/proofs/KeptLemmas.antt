@@ -5,9 +5,7 @@ use Rattle.std.specs.Coded.{Coded, Coded-set, codes}
 use Rattle.std.specs.Prelude.{Option, Some, None, Result, Ok, Err, unwrap_or, string_bytes}
 use Rattle.std.proofs.lemmas.List.{drop_more}
 use Rattle.ot_model.specs.Cells.{lengths}
-use Rattle.ot_model.specs.Programs.{Expanded, expanded_of, IsNamedIn}
-use Rattle.ot_model.specs.Shapes.{array_lengths}
-use Rattle.ot_model.specs.ShapeView.{arrays_of}
+use Rattle.ot_model.specs.Programs.{Expanded, expanded_of, IsNamedIn, array_lengths, arrays_of}
 use Rattle.ot_model.specs.declared.shape.ArrayShape.{ArrayShape}
 use Rattle.ot_check.specs.Jobs.{Spec}
 use Rattle.ot_check.specs.declared.checked.Checked.{Checked}
@@ -16,18 +14,17 @@ use Rattle.ot_book.specs.Books.{Register, next_step, IsOpenFor, IsRight}
 use Rattle.ot_book.specs.BookView.{register_of, HasRoomForReply, IsBook}
 use Rattle.ot_book.specs.declared.book.Pending.{Pending}
 use Rattle.ot_book.specs.declared.book.Book.TheInside.{Inside}
-use Rattle.ot_book.specs.Readings.{Reading, IsReading}
+use Rattle.ot_book.specs.Answers.{Reading, IsReading, Step, Now, Runs, changed, fetched, judged, started, asked, parsed, value_of, step_of, is_checkpoint}
 use Rattle.ot_book.proofs.BookLemmas.{runs-other}
 use Rattle.ot_book.proofs.CloseLemmas.{numbers-from}
 use Rattle.serde_json.specs.Data.{Data}
 use Rattle.ot_program.specs.Programs.{program_of}
 use Rattle.ot_program.specs.declared.fault.Refusal.{Refusal}
-use Rattle.ot_check.specs.FirstOffence.{first_offence}
+use Rattle.ot_check.specs.Laws.{first_offence}
 use Rattle.ot_check.specs.declared.fault.Offence.{Offence}
 use Rattle.ot_store.specs.Arrays.{Named, created, freed, put, got, cells_in, shape_in}
 use Rattle.ot_store.specs.declared.fault.StoreRefusal.{StoreRefusal}
 use Rattle.ot_store.specs.declared.limits.Limits.{Limits}
-use Rattle.ot_book.specs.Answers.{Step, Now, Runs, changed, fetched, judged, started, asked, parsed, value_of, step_of, is_checkpoint}
 use Rattle.ot_book.specs.Requests.{Request, New, Free, Put, Get, Arrays, Used, Checkpoint, Run, request_of}
 
 -- Whether a line runs a program, and which, is told by what it may name: neither the arrays' cells nor the used units nor

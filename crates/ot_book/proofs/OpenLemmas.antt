@@ -5,12 +5,10 @@ use Rattle.std.proofs.lemmas.Option.{slice_get-map, slice_get-get_or}
 use Rattle.std.proofs.Math.ListN.{length-map}
 use Rattle.std.proofs.lemmas.List.{map-append}
 use Rattle.ot_store.specs.Arrays.{Named}
-use Rattle.ot_book.specs.Replies.{Told, Accepted, Lost}
+use Rattle.ot_book.specs.Answers.{Told, Accepted, Lost, State, Now, finished, is_checkpoint}
 use Rattle.ot_book.specs.ReplyView.{told_of}
-use Rattle.ot_book.specs.Answers.{State, Now, finished, is_checkpoint}
-use Rattle.ot_book.specs.Books.{Register, state_in, IsRight, number_at, next_number, max_number, next_step, appended, cleared, reply_at}
+use Rattle.ot_book.specs.Books.{Register, state_in, IsRight, number_at, next_number, max_number, next_step, appended, cleared, reply_at, IsFull, AnswersNow}
 use Rattle.ot_book.specs.BookView.{entries_of, register_of, IsBook}
-use Rattle.ot_book.specs.Opening.{IsFull, AnswersNow}
 use Rattle.ot_book.specs.declared.book.Entry.{Entry}
 use Rattle.ot_book.specs.declared.book.Pending.{Pending}
 use Rattle.ot_book.specs.declared.book.Book.TheInside.{Inside}

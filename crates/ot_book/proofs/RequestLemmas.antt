@@ -4,7 +4,7 @@ use Rattle.std.specs.Prelude.{Option, Some, None, option_map, option_and_then, i
 use Rattle.std.proofs.lemmas.List.{at_drop_more}
 use Rattle.serde_json.specs.View.{view, items_view}
 use Rattle.serde_json.specs.declared.value.Value.{Value}
-use Rattle.ot_program.specs.Names.{is_word}
+use Rattle.ot_program.specs.Meanings.{is_word}
 use Rattle.ot_book.specs.Requests.{Request, New, Free, Put, Get, Arrays, Used, Checkpoint, Run, form_of, name_in, size_in, number_in, numbers_in, all_numbers, new_of, free_of, put_of, get_of, asks_checkpoint}
 
 pub no_form : (vs : List Value) → length vs ≢ 1 → length vs ≢ 2 → length vs ≢ 3 → length vs ≢ 4 → form_of (items_view vs) ≡ None

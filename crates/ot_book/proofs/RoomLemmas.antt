@@ -4,9 +4,8 @@ use Rattle.std.specs.Prelude.{Some, None, nat_le, if◌then◌else◌, slice_get
 use Rattle.std.proofs.lemmas.Bool.{le-leb}
 use Rattle.std.proofs.lemmas.Bool.Decides.{leb_tells}
 use Rattle.ot_book.specs.Answers.{is_checkpoint, answer_or_lost}
-use Rattle.ot_book.specs.Books.{Register, next_number, max_number, state_in, logged}
+use Rattle.ot_book.specs.Books.{Register, next_number, max_number, state_in, logged, IsFullFor}
 use Rattle.ot_book.specs.Room.{Room, room_in, takes, with_entry, room_after, TakesAll}
-use Rattle.ot_book.specs.Opening.{IsFullFor}
 use Rattle.ot_book.proofs.BookLemmas.{logged-by}
 
 -- ---- a book

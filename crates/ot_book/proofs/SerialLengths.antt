@@ -1,8 +1,7 @@
 -- A run keeps the lengths of the arrays.
 use Rattle.std.proofs.Common.{◌≡◌, refl, ◌∙◌}
-use Rattle.ot_model.specs.Tree.{Set, Fold, If, Task, Wait, Group, Body, End, Next}
+use Rattle.ot_model.specs.Tree.{Set, Fold, If, Task, Wait, Group, Body, End, Next, val}
 use Rattle.ot_model.specs.Cells.{cell_of, lengths}
-use Rattle.ot_model.specs.Value.{val}
 use Rattle.ot_model.specs.Serial.{State, bump, serial}
 use Rattle.ot_model.proofs.CellsLemmas.{lengths-with_cell}
 use Rattle.ot_model.proofs.SerialLemmas.{either-both}

@@ -1,23 +1,79 @@
--- What requests are answered, one after another. No answer knows its number.
-use Rattle.std.specs.Prelude.{◌≡◌, ℕ, ◌+◌, List, ◌++◌, [], ◌∷◌, map, slice_range, slice_get, unwrap_or, Bool, true, false, if◌then◌else◌, Option, Some, None, option_and_then, Result, Ok, Err}
+-- What a tenant is told, and how it is written.
+use Rattle.std.specs.Prelude.{◌≡◌, ℕ, ◌+◌, List, ◌++◌, [], ◌∷◌, map, slice_range, slice_get, unwrap_or, Bool, true, false, if◌then◌else◌, Option, Some, None, option_and_then, Result, Ok, Err, codes}
 use Rattle.std.specs.Str.{is_utf8}
-use Rattle.serde_json.specs.Data.{Data}
+use Rattle.serde_json.specs.Data.{Data, number, string, array, unsigned, no_items, item}
 use Rattle.serde_json.specs.Read.{read}
-use Rattle.ot_model.specs.Programs.{Expanded}
+use Rattle.ot_model.specs.Programs.{Expanded, expanded_of, IsNamedIn, Arrays, array_lengths}
 use Rattle.ot_model.specs.Serial.{serial_run}
 use Rattle.ot_model.specs.declared.expr.Section.{Section}
 use Rattle.ot_program.specs.Programs.{program_of}
-use Rattle.ot_program.specs.Refusals as program
+use Rattle.ot_program.specs.Faults as program
 use Rattle.ot_program.specs.declared.fault.Refusal.{Refusal}
-use Rattle.ot_check.specs.FirstOffence.{first_offence}
-use Rattle.ot_check.specs.Codes as check
+use Rattle.ot_check.specs.Laws.{first_offence}
+use Rattle.ot_check.specs.Offences as check
 use Rattle.ot_check.specs.declared.fault.Offence.{Offence}
 use Rattle.ot_store.specs.Arrays.{Named, created, freed, put, got, listed, cells_in, recelled, shape_in}
 use Rattle.ot_store.specs.Refusals as store
 use Rattle.ot_store.specs.declared.fault.StoreRefusal.{StoreRefusal}
 use Rattle.ot_store.specs.declared.limits.Limits.{Limits}
-use Rattle.ot_book.specs.Replies.{Told, Accepted, Cells, Arrays, Used, Done, Refused, Offends, Lost}
 use Rattle.ot_book.specs.Requests as r
+use Rattle.serde_json.specs.View.{items_of}
+use Rattle.serde_json.specs.Written.{compact_text}
+use Rattle.ot_check.specs.declared.checked.Checked.{Checked}
+
+-- what a tenant is told of one request; no request's number is in it
+pub data Told : Type 0 where
+  Accepted : Told
+  Cells : List ℕ → Told
+  Arrays : List (List ℕ × ℕ) → Told
+  Used : ℕ → Told
+  Done : ℕ → ℕ → List (List ℕ) → Told
+  Refused : ℕ → Told
+  Offends : ℕ → ℕ → Told
+  Lost : Told
+
+-- whether it was told for want of memory
+abbrev pub is_lost : Told → Bool
+is_lost Accepted = false
+is_lost (Cells values) = false
+is_lost (Arrays arrays) = false
+is_lost (Used units) = false
+is_lost (Done tasks units shows) = false
+is_lost (Refused code) = false
+is_lost (Offends code place) = false
+is_lost Lost = true
+
+abbrev pub nat : ℕ → Data
+nat n = number (unsigned n)
+
+abbrev pub nats : List ℕ → Data
+nats ns = array (items_of (map nat ns))
+
+-- a name with a length
+abbrev pub sized : List ℕ × ℕ → Data
+sized a = array (item (string a.0) (item (nat a.1) no_items))
+
+abbrev pub refusal : ℕ → ℕ → Data
+refusal n code = array (item (string (codes "err")) (item (nat n) (item (nat code) no_items)))
+
+-- What is told of request n: `["ok",n]`, `["cells",n,[v,..]]`, `["arrays",n,[[name,len],..]]`,
+-- `["used",n,units]`, `["done",n,tasks,units,[[v,..],..]]`, `["err",n,code]`, `["err",n,code,place]`.
+abbrev pub json_of : ℕ → Told → Data
+json_of n Accepted = array (item (string (codes "ok")) (item (nat n) no_items))
+json_of n (Cells values) = array (item (string (codes "cells")) (item (nat n) (item (nats values) no_items)))
+json_of n (Arrays arrays) = array (item (string (codes "arrays")) (item (nat n) (item (array (items_of (map sized arrays))) no_items)))
+json_of n (Used units) = array (item (string (codes "used")) (item (nat n) (item (nat units) no_items)))
+json_of n (Done tasks units shows) =
+    array (item (string (codes "done")) (item (nat n) (item (nat tasks) (item (nat units) (item (array (items_of (map nats shows))) no_items)))))
+json_of n (Refused code) = refusal n code
+json_of n (Offends code place) = array (item (string (codes "err")) (item (nat n) (item (nat code) (item (nat place) no_items))))
+json_of n Lost = refusal n 508
+
+-- the reply as compact JSON
+abbrev pub text_of : ℕ → Told → List ℕ
+text_of n told = compact_text (json_of n told)
+
+-- What requests are answered, one after another. No answer knows its number.
 
 -- a tenant's arrays, the number of its next request, and the units of all done replies
 pub record State : Type 0 where
@@ -141,3 +197,20 @@ replies limits s lines = numbered s.next (answers limits s lines).0
 abbrev pub RepliesGoOn : Type 0
 RepliesGoOn = (limits : Limits) (s : State) (xs ys : List (List ℕ × Bool)) →
     replies limits s (xs ++ ys) ≡ replies limits s xs ++ replies limits (answers limits s xs).1 ys
+
+-- What is known of a line that was read once.
+
+-- over arrays of this shape the line runs this program, whatever their cells hold
+abbrev pub RunsOver : Arrays → List ℕ → Expanded → Type 0
+RunsOver shape line program = (limits : Limits) (arrays : List Named) (used : ℕ) → shape_in limits arrays ≡ shape → ∥ step_of limits arrays used line ≡ Runs program ∥₁
+
+-- a line, what it could name, and the program that it was read as
+pub record Reading : Type 0 where
+  pub line : List ℕ
+  pub shape : Arrays
+  pub checked : Checked
+
+-- it is read as that program again wherever the shape is the same
+pub record IsReading (r : Reading) : Type 0 where
+  pub runs : RunsOver r.shape r.line (expanded_of r.checked.program)
+  pub named : IsNamedIn (array_lengths r.shape) (expanded_of r.checked.program)

@@ -2,9 +2,8 @@
 use Rattle.std.specs.Prelude.{◌≡◌, ℕ, ◌+◌, ◌*◌, ◌^◌, ◌-◌, ◌≤◌, ◌<◌, List, map, length, option_map, string_bytes, vec_len, vec_capacity}
 use Rattle.std.specs.Option.{ForSome}
 use Rattle.ot_model.specs.Programs.{Expanded}
-use Rattle.ot_book.specs.Replies.{Told}
+use Rattle.ot_book.specs.Answers.{Told, Runs}
 use Rattle.ot_book.specs.ReplyView.{told_of}
-use Rattle.ot_book.specs.Answers.{Runs}
 use Rattle.ot_book.specs.Books.{Register, IsRight, next_step}
 use Rattle.ot_book.specs.declared.book.Entry.{Entry}
 use Rattle.ot_book.specs.declared.book.Pending.{Pending}

@@ -1,11 +1,12 @@
 -- A book: the requests of one tenant in order, with what was told of each.
-use Rattle.std.specs.Prelude.{◌≡◌, ℕ, ◌+◌, ◌-◌, ◌^◌, List, [], ◌∷◌, ◌++◌, map, length, slice_get, Bool, true, false, if◌then◌else◌, Option, Some, None, option_map, unwrap_or, IsSome}
+use Rattle.std.specs.Prelude.{◌≡◌, ℕ, ◌+◌, ◌-◌, ◌^◌, List, [], ◌∷◌, ◌++◌, map, length, slice_get, Bool, true, false, if◌then◌else◌, Option, Some, None, option_map, unwrap_or, IsSome, ◌≤◌, ◌<◌, ◌⊎◌}
 use Rattle.ot_model.specs.Programs.{expanded_of}
 use Rattle.ot_check.specs.Jobs.{Spec}
 use Rattle.ot_store.specs.Arrays.{Named, cells_in}
 use Rattle.ot_store.specs.declared.limits.Limits.{Limits}
-use Rattle.ot_book.specs.Replies.{Told, is_lost}
-use Rattle.ot_book.specs.Answers.{State, Step, Runs, is_checkpoint, step_of, answer_or_lost, answers}
+use Rattle.ot_book.specs.Answers.{Told, is_lost, State, Step, Runs, is_checkpoint, step_of, answer_or_lost, answers, Now}
+use Rattle.ot_book.specs.declared.book.Opened.{Opened}
+use Rattle.ot_book.specs.declared.book.Opened.TheVariants.{Full, Answered, ToRun}
 
 -- A tenant's name and limits, the arrays that the log begins with and the present ones, its lines with what was told, the
 -- line of an open request, and the units of its done replies. The first line of the log has the number `first`, and
@@ -105,3 +106,25 @@ pub record IsOpenFor (b : Register) (spec : Spec) : Type 0 where
   pub is_open : IsSome b.pending
   pub asks : ∥ open_step b ≡ Runs (expanded_of spec.checked.program) ∥₁
   pub cells : spec.before ≡ cells_in b.store
+
+-- What opening a request does to a book.
+
+-- A line can't be taken: a request is open, its number would be too great, or the log is at its limit and the line is no
+-- checkpoint.
+abbrev pub IsFull : Register → Bool → Type 0
+IsFull b checkpoint = IsSome b.pending ⊎ (max_number < next_number b) ⊎ ((b.limits.log ≤ length b.log) × (checkpoint ≡ false))
+
+abbrev pub IsFullFor : Register → List ℕ → Type 0
+IsFullFor b line = IsFull b (is_checkpoint line)
+
+-- the line is answered at once: it runs no program, or memory ran out, but never for a checkpoint
+pub record AnswersNow (b : Register) (line : List ℕ) (new : Register) : Type 0 where
+  pub memory : Bool
+  pub new_is : new ≡ logged b line memory
+  pub never : is_checkpoint line ≡ true → memory ≡ false
+  pub at_once : (memory ≡ true) ⊎ ((told : Told) × (arrays : List Named) × (next_step b line ≡ Now told arrays))
+
+abbrev pub OpensLine : Register → List ℕ → Register → Opened → Type 0
+OpensLine b line new Full = IsFullFor b line × (new ≡ b)
+OpensLine b line new Answered = (¬ (IsFullFor b line)) × AnswersNow b line new
+OpensLine b line new (ToRun spec) = (¬ (IsFullFor b line)) × (new ≡ opened b line) × IsOpenFor new spec

@@ -1,7 +1,7 @@
 -- The codes of refusals.
 use Rattle.std.specs.Prelude.{ℕ}
 use Rattle.ot_store.specs.Refusals as store
-use Rattle.ot_program.specs.Refusals as program
+use Rattle.ot_program.specs.Faults as program
 use Rattle.ot_book.specs.declared.code.Code.{Code}
 use Rattle.ot_book.specs.declared.code.Code.TheVariants.{NotJson, NotRequest, Store, Program}
 

@@ -2,7 +2,7 @@
 use Rattle.std.specs.Prelude.{◌≡◌, ◌⊎◌, List, map, length}
 use Rattle.ot_model.specs.Programs.{expanded_of}
 use Rattle.ot_store.specs.Arrays.{Named, cells_in}
-use Rattle.ot_book.specs.Replies.{Lost}
+use Rattle.ot_book.specs.Answers.{Lost}
 use Rattle.ot_book.specs.ReplyView.{told_of}
 use Rattle.ot_book.specs.Answers as answers
 use Rattle.ot_book.specs.declared.told.Told.{Told}

@@ -1,15 +1,12 @@
 pub mod Codes
 pub mod Faults
-pub mod Replies
+pub mod Answers
 pub mod ReplyView
 pub mod Pieces
 pub mod Requests
 pub mod RequestView
-pub mod Answers
-pub mod Readings
 pub mod Shelves
 pub mod Books
 pub mod Considering
 pub mod BookView
-pub mod Opening
 pub mod Room

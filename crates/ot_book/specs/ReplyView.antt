@@ -1,8 +1,8 @@
 -- What a value of the code tells.
 use Rattle.std.specs.Prelude.{ℕ, map}
-use Rattle.ot_model.specs.ShapeView.{arrays_of}
-use Rattle.ot_check.specs.Codes.{code_of}
-use Rattle.ot_book.specs.Replies as r
+use Rattle.ot_model.specs.Programs.{arrays_of}
+use Rattle.ot_check.specs.Offences.{code_of}
+use Rattle.ot_book.specs.Answers as r
 use Rattle.ot_book.specs.Codes.{code_number}
 use Rattle.ot_book.specs.declared.told.Told.{Told}
 use Rattle.ot_book.specs.declared.told.Told.TheVariants as v

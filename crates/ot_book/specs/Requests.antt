@@ -2,7 +2,7 @@
 use Rattle.std.specs.Prelude.{ℕ, ◌<◌, ◌^◌, ◌&&◌, Bool, true, false, List, [], ◌∷◌, length, ◌==◌, nat_le, nat_lt, if◌then◌else◌, Option, Some, None, option_and_then, option_map, codes}
 use Rattle.serde_json.specs.Data.{Data, null, boolean, number, string, array, object, Items, no_items, item}
 use Rattle.serde_json.specs.Find.{as_str, as_number, as_u64, as_array}
-use Rattle.ot_program.specs.Names.{is_name, is_word}
+use Rattle.ot_program.specs.Meanings.{is_name, is_word}
 
 pub data Request : Type 0 where
   New : List ℕ → ℕ → Request

@@ -2,8 +2,7 @@
 use Rattle.std.specs.Prelude.{ℕ, ◌+◌, ◌≡◌, List, [], ◌∷◌, length, nat_le, Bool, true, false, if◌then◌else◌, None, ◌↔◌}
 use Rattle.ot_store.specs.declared.limits.Limits.{Limits}
 use Rattle.ot_book.specs.Answers.{is_checkpoint}
-use Rattle.ot_book.specs.Books.{Register, next_number, max_number, logged}
-use Rattle.ot_book.specs.Opening.{IsFullFor}
+use Rattle.ot_book.specs.Books.{Register, next_number, max_number, logged, IsFullFor}
 
 -- the limit of the log, how many entries it has, and the number of the next request
 pub record Room : Type 0 where

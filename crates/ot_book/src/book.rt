@@ -1,7 +1,7 @@
 ghost use Rattle.std.specs.Prelude.{◌≡◌, ◌+◌, ◌≤◌, map, length, vec_len, slice_range, All, ◌↔◌, ◌<◌, ◌^◌, true, false, IfOk, OnOk, OnErr, IsTrue, IsSome, option_map, Some, IfSome};
 ghost use Rattle.ot_model.specs.Cells.{lengths};
 ghost use Rattle.ot_model.specs.Names.{FitsShape};
-ghost use Rattle.ot_book.specs.Answers.{shown, value_of, is_checkpoint};
+ghost use Rattle.ot_book.specs.Answers.{shown, value_of, is_checkpoint, IsReading};
 
 use crate::kept::Kept;
 use crate::reply::Reply;
@@ -76,14 +76,12 @@ pub enum Opened {
 
 impl Book {
     ghost use Rattle.ot_check.specs.Jobs.{IsMeaning};
-    ghost use Rattle.ot_book.specs.Books.{IsRight, IsOpenFor, new_register, number_at, next_number, reply_at, logged, closed, refused, given_up};
+    ghost use Rattle.ot_book.specs.Books.{IsRight, IsOpenFor, new_register, number_at, next_number, reply_at, logged, closed, refused, given_up, OpensLine, IsFull};
     ghost use Rattle.ot_book.specs.ReplyView.{reply_of};
     ghost use Rattle.ot_book.specs.BookView.{entries_of};
     ghost use Rattle.serde_json.specs.View.{view};
-    ghost use Rattle.ot_book.specs.Opening.{OpensLine, IsFull};
     ghost use Rattle.std.specs.Arc.{arc_value};
     ghost use Rattle.ot_store.specs.Arrays.{shape_in};
-    ghost use Rattle.ot_book.specs.Readings.{IsReading};
 
     /// A book that begins with these arrays.
     pub fn new(alloc: Global, name: &str, limits: Limits, store: Store) -> Result<Book, AllocError>

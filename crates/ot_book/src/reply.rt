@@ -2,8 +2,8 @@ ghost use Rattle.std.specs.Prelude.{◌≡◌, [], ◌∷◌, ◌++◌, map, IfO
 ghost use Rattle.json.specs.Token as token;
 ghost use Rattle.serde_json.specs.Data.{array, string};
 ghost use Rattle.serde_json.specs.View.{items_of};
-ghost use Rattle.ot_model.specs.ShapeView.{arrays_of};
-ghost use Rattle.ot_book.specs.Replies.{json_of, nat, nats, sized, text_of};
+ghost use Rattle.ot_model.specs.Programs.{arrays_of};
+ghost use Rattle.ot_book.specs.Answers.{json_of, nat, nats, sized, text_of};
 ghost use Rattle.ot_book.specs.ReplyView.{told_of};
 ghost use Rattle.ot_book.specs.Pieces.{tokens_of, tokens_of_all};
 

@@ -1,5 +1,5 @@
 ghost use Rattle.std.specs.Prelude.{◌≡◌, IfOk, map};
-ghost use Rattle.ot_model.specs.ShapeView.{arrays_of};
+ghost use Rattle.ot_model.specs.Programs.{arrays_of};
 ghost use Rattle.ot_book.specs.declared.told.Told.TheVariants.{Lost, Refused};
 ghost use Rattle.ot_book.specs.Faults.{told_by_store, told_by_program, told_by_check};
 

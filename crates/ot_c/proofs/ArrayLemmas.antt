@@ -3,10 +3,10 @@ use Rattle.std.proofs.Common.{◌≡◌, ℕ, suc, ◌-◌, ◌<◌, ◌≤◌, 
 use Rattle.std.proofs.Math.Seq.{take-suc}
 use Rattle.std.proofs.lemmas.Bool.Decides.{nat_tests}
 use Rattle.std.specs.Prelude.{string_bytes}
-use Rattle.ot_model.specs.ShapeView.{arrays_of}
+use Rattle.ot_model.specs.Programs.{arrays_of}
 use Rattle.ot_model.specs.declared.shape.ArrayShape.{ArrayShape}
 use Rattle.ot_print.specs.Shown.{names_of}
-use Rattle.ot_c.specs.Arrays.{before, up_to_last}
+use Rattle.ot_c.specs.Programs.{before, up_to_last}
 
 -- a zero at the end is left out
 pub zero_left_out : (ns : List ℕ) → up_to_last (ns ++ (0 ∷ [])) ≡ up_to_last ns

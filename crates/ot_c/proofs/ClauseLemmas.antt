@@ -11,15 +11,14 @@ use Rattle.ot_model.specs.declared.stmt.Mode.{Mode}
 use Rattle.ot_model.specs.declared.stmt.Mode.TheVariants as m
 use Rattle.ot_model.specs.declared.stmt.Use.{Use}
 use Rattle.ot_model.specs.Signs.{identifier}
-use Rattle.ot_model.specs.Uses.{AreInOrder, number_of}
-use Rattle.ot_print.specs.Shown.{Text, name}
-use Rattle.ot_print.specs.Sections.{cells_in, sections_of, cells_of}
+use Rattle.ot_model.specs.Cells.{AreInOrder, number_of}
+use Rattle.ot_print.specs.Shown.{Text, name, cells_in, sections_of, cells_of}
 use Rattle.ot_print.specs.Laws.{is_digit, CellsFit}
 use Rattle.ot_print.proofs.WordLemmas.{and_true, head_of, tail_of}
 use Rattle.ot_print.proofs.ValueLemmas.{same_cell, same_section}
 use Rattle.ot_print.proofs.SectionLemmas.{come_back}
 use Rattle.ot_print.proofs.ClauseLemmas.{same_uses}
-use Rattle.ot_c.specs.Clauses.{short, listed, iterations, dependences, pointer_word, pointer, pointed, reduction, folded, declared}
+use Rattle.ot_c.specs.Statements.{short, listed, iterations, dependences, pointer_word, pointer, pointed, reduction, folded, declared}
 use Rattle.ot_c.specs.Laws.{all_identifier, AreIdentifiers, UsesFit, DeclarationIsDetermined}
 use Rattle.ot_c.proofs.WordLemmas.{all_of, all_append, split_by, starts, split, all_digits, only_digits, number_word, word_append, same_number, name_word, same_array, one_cell}
 use Rattle.ot_c.proofs.OrderLemmas.{long, AreSorted, sorted_in, by_parts}

@@ -3,13 +3,11 @@ use Rattle.std.proofs.Common.{◌≡◌, ℕ, ◌+◌, ◌≤◌, List, [], ◌�
 use Rattle.std.specs.Prelude.{Vec, codes}
 use Rattle.std.proofs.Math.Bool.{or_assoc, or-false}
 use Rattle.std.proofs.lemmas.List.{append-nil, drop_all}
-use Rattle.ot_model.specs.Programs.{Expanded}
-use Rattle.ot_model.specs.ShapeView.{arrays_of}
+use Rattle.ot_model.specs.Programs.{Expanded, arrays_of}
 use Rattle.ot_model.specs.declared.shape.ArrayShape.{ArrayShape}
 use Rattle.ot_print.specs.Shown.{Text}
-use Rattle.ot_c.specs.Arrays.{Declared, any_declared, array_of, declared, declaration, each_declared, declarations, words_if}
+use Rattle.ot_c.specs.Programs.{Declared, any_declared, array_of, declared, declaration, each_declared, declarations, words_if, declared_from, lists_of}
 use Rattle.ot_c.specs.Named.{names}
-use Rattle.ot_c.specs.Programs.{declared_from, lists_of}
 
 -- those from an array on
 abbrev pub left : {Z : Type 0} → Expanded → ℕ → List ArrayShape → List (Vec ℕ Z) → List Declared

@@ -7,13 +7,12 @@ use Rattle.ot_model.specs.declared.expr.Cell.{Cell}
 use Rattle.ot_model.specs.declared.expr.Section.{Section}
 use Rattle.ot_model.specs.declared.stmt.Mode.{Mode}
 use Rattle.ot_model.specs.declared.stmt.Use.{Use}
-use Rattle.ot_model.specs.Uses.{same_mode}
-use Rattle.ot_print.specs.Shown.{Text, name, cell}
-use Rattle.ot_print.specs.Sections.{cells_in, sections_of, cells_of, row as row_of, behind, alone, longer, goes_on}
+use Rattle.ot_model.specs.Cells.{same_mode}
+use Rattle.ot_print.specs.Shown.{Text, name, cell, cells_in, sections_of, cells_of, row as row_of, behind, alone, longer, goes_on}
 use Rattle.ot_print.specs.Laws.{CellsFit}
 use Rattle.ot_print.proofs.WordLemmas.{and_true}
 use Rattle.ot_print.proofs.SectionLemmas.{goes_on_is}
-use Rattle.ot_c.specs.Clauses.{item, row, items, is_long, short, listed, iterated, iterations, dependences}
+use Rattle.ot_c.specs.Statements.{item, row, items, is_long, short, listed, iterated, iterations, dependences}
 use Rattle.ot_c.specs.Laws.{in_identifier, all_identifier, AreIdentifiers, UsesFit}
 use Rattle.ot_c.proofs.WordLemmas.{all_of, all_append, number_word, name_word}
 use Rattle.ot_c.proofs.OrderLemmas.{long}

@@ -2,16 +2,15 @@
 use Rattle.std.proofs.Common.{◌≡◌, List, [], ◌∷◌, ◌++◌, Bool, true, false, ◌||◌, if◌then◌else◌, refl, sym, ap, ◌∙◌, arith, true≢false}
 use Rattle.std.proofs.Math.Bool.{or_assoc}
 use Rattle.std.proofs.lemmas.Bool.Decides.{nat_tests}
-use Rattle.ot_model.specs.Cells.{same_cell, is_before}
-use Rattle.ot_model.specs.Uses.{Precedes, AreInOrder, same_mode}
+use Rattle.ot_model.specs.Cells.{same_cell, is_before, Precedes, AreInOrder, same_mode}
 use Rattle.ot_model.specs.declared.expr.Cell.{Cell}
 use Rattle.ot_model.specs.declared.expr.Section.{Section}
 use Rattle.ot_model.specs.declared.stmt.Mode.{Mode}
 use Rattle.ot_model.specs.declared.stmt.Use.{Use}
 use Rattle.ot_model.proofs.OrderLemmas.{precedes_trans, precedes_apart, precedes_from_before, rest_in_order}
 use Rattle.ot_model.proofs.EqualLemmas.{cell-decides}
-use Rattle.ot_print.specs.Sections.{cells_in, cells_of, row}
-use Rattle.ot_c.specs.Clauses.{is_long, short}
+use Rattle.ot_print.specs.Shown.{cells_in, cells_of, row}
+use Rattle.ot_c.specs.Statements.{is_long, short}
 
 -- ---- whether a cell is among others
 

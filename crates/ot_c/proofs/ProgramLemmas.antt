@@ -10,11 +10,10 @@ use Rattle.ot_print.specs.Laws.{is_name}
 use Rattle.ot_print.proofs.WordLemmas.{head_of, tail_of}
 use Rattle.ot_print.proofs.ValueLemmas.{same_section}
 use Rattle.ot_cnames.specs.Names.{is_taken, name_in_c}
-use Rattle.ot_c.specs.Arrays.{Declared, before, arrays_in_c, up_to_last, initial, further, declaration, each_declared, any_declared, words_if, declarations}
+use Rattle.ot_c.specs.Programs.{Declared, before, arrays_in_c, up_to_last, initial, further, declaration, each_declared, any_declared, words_if, declarations, declared_from, front, functions, head, main_text, min_text, max_text, show_text, region_text, region, show, lists, shows, any_shown, whole}
 use Rattle.ot_c.specs.Laws.{is_identifier, AreIdentifiers, ShowsFit, NumbersFit, ListsFit, told_array, ProgramIsDetermined}
 use Rattle.ot_c.specs.Named.{names, body_calls}
 use Rattle.ot_c.specs.Programs as written
-use Rattle.ot_c.specs.Programs.{declared_from, front, functions, head, main_text, min_text, max_text, show_text, region_text, region, show, lists, shows, any_shown, whole}
 use Rattle.ot_c.specs.Statements.{line, deeper, block, body}
 use Rattle.ot_c.specs.Values.{constant}
 use Rattle.ot_c.specs.declared.named.Call.TheVariants as call

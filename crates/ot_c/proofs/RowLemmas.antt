@@ -2,7 +2,7 @@
 use Rattle.std.proofs.Common.{◌≡◌, ℕ, zero, suc, ◌+◌, ◌-◌, ◌<◌, List, ◌++◌, refl, sym, ap, ◌∙◌, append_assoc, arith}
 use Rattle.std.specs.Prelude.{codes}
 use Rattle.ot_print.specs.Shown.{Text}
-use Rattle.ot_c.specs.Clauses.{item, row}
+use Rattle.ot_c.specs.Statements.{item, row}
 
 row_first : (names : List Text) (w : Text) (a i n : ℕ) → 0 < n → row names w a i n ≡ item names w a i ++ row names (codes ", ") a (i + 1) (n - 1)
 row_first names w a i zero some = absurd (omega (arith, some))

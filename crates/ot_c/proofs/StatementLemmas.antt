@@ -3,20 +3,18 @@ use Rattle.std.proofs.Common.{◌≡◌, ℕ, ◌<◌, ◌^◌, ◌==◌, List, 
 use Rattle.std.specs.Prelude.{Option, Some, None, codes}
 use Rattle.std.proofs.lemmas.Bool.Decides.{nat_tests}
 use Rattle.std.proofs.lemmas.List.{append_cancel_left}
-use Rattle.ot_model.specs.Cells.{is_before, same_cell}
+use Rattle.ot_model.specs.Cells.{is_before, same_cell, AreInOrder}
 use Rattle.ot_model.specs.declared.expr.Cell.{Cell}
 use Rattle.ot_model.specs.declared.fold.Fold.{Fold as Operation}
 use Rattle.ot_model.specs.declared.fold.Fold.TheVariants as f
 use Rattle.ot_model.specs.declared.stmt.Use.{Use}
-use Rattle.ot_model.specs.Uses.{AreInOrder}
 use Rattle.ot_model.specs.Tree.{E, CellAt, S, Set, Fold, If, Task, Wait, Group, Body, End, Next}
 use Rattle.ot_print.specs.Shown.{Text, name, cell}
 use Rattle.ot_print.specs.Laws.{Fits, CellsFit}
 use Rattle.ot_print.proofs.WordLemmas.{and_true, head_of, tail_of}
 use Rattle.ot_cnames.specs.Names.{name_in_c}
-use Rattle.ot_c.specs.Clauses.{declared, pointer, reduction}
+use Rattle.ot_c.specs.Statements.{declared, pointer, reduction, fold, deeper, block, otherwise, put, put_all, each_once, pointers, statement, body}
 use Rattle.ot_c.specs.Laws.{in_identifier, all_identifier, is_identifier, AreIdentifiers, normal_fold, is_nothing, normal_statement, normal, UsesFit, StatementFits, BodyFits, BodyIsDetermined, CalledFoldIsWrittenAsSet}
-use Rattle.ot_c.specs.Statements.{fold, deeper, block, otherwise, put, put_all, each_once, pointers, statement, body}
 use Rattle.ot_c.specs.Values.{value}
 use Rattle.ot_c.proofs.WordLemmas.{name_word}
 use Rattle.ot_c.proofs.DependenceLemmas.{HoldOfClauses}

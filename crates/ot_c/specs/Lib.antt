@@ -1,7 +1,5 @@
 pub mod Values
-pub mod Clauses
 pub mod Statements
-pub mod Arrays
-pub mod Named
 pub mod Programs
+pub mod Named
 pub mod Laws

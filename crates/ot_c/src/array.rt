@@ -1,8 +1,8 @@
 //! The arrays of a program, as its C has them.
 ghost use Rattle.std.specs.Prelude.{◌≡◌, ◌++◌, OnOk, IfOk, string_bytes};
-ghost use Rattle.ot_model.specs.ShapeView.{arrays_of};
-ghost use Rattle.ot_c.specs.Arrays as written;
-ghost use Rattle.ot_c.specs.Arrays.{array_of};
+ghost use Rattle.ot_model.specs.Programs.{arrays_of};
+ghost use Rattle.ot_c.specs.Programs as written;
+ghost use Rattle.ot_c.specs.Programs.{array_of};
 
 use crate::value::constant;
 use ot_cnames::name_in_c;

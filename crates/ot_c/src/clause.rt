@@ -1,6 +1,6 @@
 //! Clauses of tasks, waits and groups: dependences (OpenMP API 5.2, section 15.9.5) and reductions (5.5.9 and 5.5.10).
 ghost use Rattle.std.specs.Prelude.{◌≡◌, ◌++◌, OnOk, IfOk, codes};
-ghost use Rattle.ot_c.specs.Clauses as written;
+ghost use Rattle.ot_c.specs.Statements as written;
 
 use ot_model::{Cell, Decl, Fold, Mode, Section};
 use ot_print::{Printer, cells_in, sections_in};

@@ -1,8 +1,7 @@
 //! Programs of C, from their first line to their last.
 ghost use Rattle.std.specs.Prelude.{◌≡◌, ◌++◌, OnOk, IfOk, string_bytes};
-ghost use Rattle.ot_model.specs.Programs.{expanded_of};
-ghost use Rattle.ot_model.specs.ShapeView.{arrays_of};
-ghost use Rattle.ot_c.specs.Arrays as shape;
+ghost use Rattle.ot_model.specs.Programs.{expanded_of, arrays_of};
+ghost use Rattle.ot_c.specs.Programs as shape;
 ghost use Rattle.ot_c.specs.Programs as written;
 ghost use Rattle.ot_c.specs.Programs.{IsProgram, lists_of};
 

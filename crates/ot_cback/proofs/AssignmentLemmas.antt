@@ -11,9 +11,8 @@ use Rattle.ot_model.specs.declared.stmt.Use.{Use}
 use Rattle.ot_model.specs.Tree.{E, CellAt}
 use Rattle.ot_print.specs.Shown.{Text, name}
 use Rattle.ot_cnames.specs.Names.{is_taken}
-use Rattle.ot_c.specs.Clauses.{pointer}
+use Rattle.ot_c.specs.Statements.{pointer, only_folds}
 use Rattle.ot_c.specs.Laws.{AreIdentifiers}
-use Rattle.ot_c.specs.Statements.{only_folds}
 use Rattle.ot_words.specs.Names.{known_words, known_of}
 use Rattle.ot_words.specs.declared.known.Known.{Known}
 use Rattle.ot_words.specs.declared.known.Known.TheVariants as means

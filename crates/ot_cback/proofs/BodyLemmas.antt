@@ -11,10 +11,9 @@ use Rattle.ot_model.specs.declared.stmt.Mode.{Mode}
 use Rattle.ot_model.specs.declared.stmt.Mode.TheVariants as modes
 use Rattle.ot_model.specs.declared.stmt.Use.{Use}
 use Rattle.ot_model.specs.Tree.{E, S, Set, Fold, If, Task, Wait, Group, Body, End, Next}
-use Rattle.ot_print.specs.Shown.{Text, name}
+use Rattle.ot_print.specs.Shown.{Text, name, cells_in, sections_of, cells_of}
 use Rattle.ot_print.specs.Laws.{OnlyDepends}
-use Rattle.ot_print.specs.Sections.{cells_in, sections_of, cells_of}
-use Rattle.ot_c.specs.Clauses.{is_long, short}
+use Rattle.ot_c.specs.Statements.{is_long, short, only_folds}
 use Rattle.ot_c.specs.Laws.{AreIdentifiers, is_nothing}
 use Rattle.ot_words.specs.declared.known.Known.TheVariants as means
 use Rattle.ot_words.specs.declared.mark.Mark.TheVariants as m
@@ -37,14 +36,12 @@ use Rattle.ot_cstatement.specs.Directives.{directive_of, all_fit, own_clauses}
 use Rattle.ot_cstatement.specs.Statements.{opening_of, is_else, else_end, block_end, stmts_step, stmts_at, body_at, otherwise_at, branch_at, task_at, directive_at, form_at, statement_at}
 use Rattle.ot_cback.specs.Numbering.{word_of, words_of, name_of}
 use Rattle.ot_cback.specs.Values.{words, tree_of, depth, Fits}
-use Rattle.ot_cback.specs.Assignments.{set_words, set_tree, fold_words, fold_tree}
+use Rattle.ot_cback.specs.Assignments.{set_words, set_tree, fold_words, fold_tree, target_name}
 use Rattle.ot_cback.specs.Clauses.{Direction, In, Out, Clause, Lists, Goes, Reduces, Combines, all_clause_words, claim, listed, over_long, in_mode, reducing, folding, clauses}
 use Rattle.ot_cback.specs.Waits.{wait_words, wait_tree}
 use Rattle.ot_cback.specs.Groups.{block, headed}
 use Rattle.ot_cback.specs.Bodies.{otherwise_words, branch_words, statement_words, body_words, statement_tree, body_trees, levels_in, levels, StatementFits, BodyFits}
 use Rattle.ot_cback.proofs.ValueLemmas.{name_word}
-use Rattle.ot_c.specs.Statements.{only_folds}
-use Rattle.ot_cback.specs.Assignments.{target_name}
 use Rattle.ot_words.specs.declared.word.Name.{Name}
 use Rattle.ot_cback.proofs.AssignmentLemmas.{IsTarget, set_target, fold_target, set_read, fold_read, value_read}
 use Rattle.ot_cback.proofs.ClauseLemmas.{clauses_back, clauses_have, spelled_append}

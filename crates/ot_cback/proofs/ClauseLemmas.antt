@@ -6,9 +6,8 @@ use Rattle.ot_model.specs.declared.expr.Cell.{Cell}
 use Rattle.ot_model.specs.declared.expr.Section.{Section}
 use Rattle.ot_model.specs.declared.fold.Fold.{Fold as Operation}
 use Rattle.ot_model.specs.declared.fold.Fold.TheVariants as f
-use Rattle.ot_print.specs.Shown.{Text, name}
-use Rattle.ot_print.specs.Sections.{cells_in, sections_of, cells_of}
-use Rattle.ot_c.specs.Clauses.{is_long, short, pointer}
+use Rattle.ot_print.specs.Shown.{Text, name, cells_in, sections_of, cells_of}
+use Rattle.ot_c.specs.Statements.{is_long, short, pointer}
 use Rattle.ot_model.specs.declared.stmt.Mode.{Mode}
 use Rattle.ot_model.specs.declared.stmt.Mode.TheVariants as modes
 use Rattle.ot_model.specs.declared.stmt.Use.{Use}

@@ -6,8 +6,7 @@ use Rattle.ot_model.specs.Cells.{is_before, same_cell}
 use Rattle.ot_model.specs.declared.expr.Cell.{Cell}
 use Rattle.ot_model.specs.declared.fold.Fold.{Fold as Operation}
 use Rattle.ot_print.specs.Shown.{Text, name}
-use Rattle.ot_c.specs.Clauses.{pointer}
-use Rattle.ot_c.specs.Statements.{put, put_all, each_once}
+use Rattle.ot_c.specs.Statements.{pointer, put, put_all, each_once}
 use Rattle.ot_words.specs.declared.known.Known.TheVariants as means
 use Rattle.ot_words.specs.declared.mark.Mark.TheVariants as m
 use Rattle.ot_words.specs.declared.word.Name.{Name}

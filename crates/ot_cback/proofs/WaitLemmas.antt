@@ -9,11 +9,10 @@ use Rattle.ot_model.specs.declared.fold.Fold.TheVariants as f
 use Rattle.ot_model.specs.declared.stmt.Mode.{Mode}
 use Rattle.ot_model.specs.declared.stmt.Mode.TheVariants as modes
 use Rattle.ot_model.specs.declared.stmt.Use.{Use}
-use Rattle.ot_model.specs.Uses.{is_fold, same_mode}
-use Rattle.ot_print.specs.Shown.{Text}
-use Rattle.ot_print.specs.Sections.{cells_in, sections_of, cells_of}
+use Rattle.ot_model.specs.Cells.{is_fold, same_mode}
+use Rattle.ot_print.specs.Shown.{Text, cells_in, sections_of, cells_of}
 use Rattle.ot_print.specs.Laws.{OnlyDepends}
-use Rattle.ot_c.specs.Clauses.{is_long, short}
+use Rattle.ot_c.specs.Statements.{is_long, short}
 use Rattle.ot_words.specs.declared.known.Known.TheVariants as means
 use Rattle.ot_words.specs.declared.word.Name.TheVariants as n
 use Rattle.ot_words.specs.declared.word.Word.{Word}

@@ -6,8 +6,7 @@ use Rattle.ot_model.specs.declared.fold.Fold.TheVariants as f
 use Rattle.ot_model.specs.declared.stmt.Use.{Use}
 use Rattle.ot_model.specs.Tree.{E}
 use Rattle.ot_print.specs.Shown.{Text, name}
-use Rattle.ot_c.specs.Clauses.{pointer}
-use Rattle.ot_c.specs.Statements.{only_folds}
+use Rattle.ot_c.specs.Statements.{pointer, only_folds}
 use Rattle.ot_words.specs.declared.mark.Mark.{Mark}
 use Rattle.ot_words.specs.declared.mark.Mark.TheVariants as m
 use Rattle.ot_words.specs.declared.word.Name.{Name}

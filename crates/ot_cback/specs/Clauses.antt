@@ -7,9 +7,8 @@ use Rattle.ot_model.specs.declared.fold.Fold.TheVariants as f
 use Rattle.ot_model.specs.declared.stmt.Mode.{Mode}
 use Rattle.ot_model.specs.declared.stmt.Mode.TheVariants as modes
 use Rattle.ot_model.specs.declared.stmt.Use.{Use}
-use Rattle.ot_print.specs.Shown.{Text, name}
-use Rattle.ot_print.specs.Sections.{cells_in, sections_of, cells_of}
-use Rattle.ot_c.specs.Clauses.{is_long, short, pointer}
+use Rattle.ot_print.specs.Shown.{Text, name, cells_in, sections_of, cells_of}
+use Rattle.ot_c.specs.Statements.{is_long, short, pointer}
 use Rattle.ot_words.specs.declared.known.Known.{Known}
 use Rattle.ot_words.specs.declared.known.Known.TheVariants as means
 use Rattle.ot_words.specs.declared.mark.Mark.TheVariants as m

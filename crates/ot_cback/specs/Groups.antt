@@ -3,8 +3,7 @@ use Rattle.std.specs.Prelude.{ℕ, ◌+◌, suc, List, [], ◌∷◌, ◌++◌, 
 use Rattle.ot_model.specs.declared.expr.Cell.{Cell}
 use Rattle.ot_model.specs.declared.fold.Fold.{Fold as Operation}
 use Rattle.ot_print.specs.Shown.{Text, name}
-use Rattle.ot_c.specs.Clauses.{pointer}
-use Rattle.ot_c.specs.Statements.{each_once}
+use Rattle.ot_c.specs.Statements.{pointer, each_once}
 use Rattle.ot_words.specs.declared.known.Known.{Known}
 use Rattle.ot_words.specs.declared.known.Known.TheVariants as means
 use Rattle.ot_words.specs.declared.mark.Mark.TheVariants as m

@@ -7,7 +7,7 @@ use Rattle.ot_cnames.specs.Names.{is_taken, own_name}
 use Rattle.ot_words.specs.declared.word.IntegerType.{IntegerType}
 use Rattle.ot_words.specs.declared.word.Name.{Name}
 use Rattle.ot_words.specs.declared.word.Name.TheVariants as n
-use Rattle.ot_program.specs.Names.{is_name}
+use Rattle.ot_program.specs.Meanings.{is_name}
 use Rattle.ot_cread.specs.declared.sign.Unary.TheVariants as u
 use Rattle.ot_cread.specs.Tree.{E, Signed}
 use Rattle.ot_cfile.specs.Program.{Start, Unset, One, Many, Cells, Declared as Declaration}

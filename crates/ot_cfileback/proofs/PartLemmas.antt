@@ -4,7 +4,7 @@ use Rattle.std.proofs.lemmas.List.{append-nil, length-append}
 use Rattle.ot_model.specs.declared.expr.Section.{Section}
 use Rattle.ot_model.specs.Tree.{Body}
 use Rattle.ot_print.specs.Shown.{Text, name}
-use Rattle.ot_c.specs.Arrays.{Declared, up_to_last}
+use Rattle.ot_c.specs.Programs.{Declared, up_to_last}
 use Rattle.ot_c.specs.Laws.{AreIdentifiers}
 use Rattle.ot_words.specs.declared.known.Known.TheVariants as means
 use Rattle.ot_words.specs.declared.mark.Mark.TheVariants as m

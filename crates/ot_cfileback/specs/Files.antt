@@ -3,8 +3,7 @@ use Rattle.std.specs.Prelude.{ℕ, List, [], ◌∷◌, ◌++◌, map, length}
 use Rattle.ot_model.specs.declared.expr.Section.{Section}
 use Rattle.ot_model.specs.Programs.{Expanded}
 use Rattle.ot_print.specs.Shown.{Text}
-use Rattle.ot_c.specs.Arrays.{Declared}
-use Rattle.ot_c.specs.Programs.{declared_from}
+use Rattle.ot_c.specs.Programs.{Declared, declared_from}
 use Rattle.ot_words.specs.declared.known.Known.TheVariants as means
 use Rattle.ot_words.specs.declared.mark.Mark.TheVariants as m
 use Rattle.ot_words.specs.Words.{Spoken, Meant, Marked}

@@ -1,11 +1,9 @@
 -- The walk's children are those of all paths.
 use Rattle.std.proofs.Common.{◌≡◌, ◌⊎◌, ℕ, ◌+◌, ◌++◌, Bool, true, false, not, ◌&&◌, ◌||◌, List, [], ◌∷◌, refl, sym, ap, inl, inr, ◌∙◌, subst, append-nil, true≢false}
 use Rattle.std.specs.List.{list_any}
-use Rattle.ot_model.specs.Tree.{S, Set, Fold, If, Task, Wait, Group, Body, End, Next}
-use Rattle.ot_model.specs.Counts.{size, size_one}
+use Rattle.ot_model.specs.Tree.{S, Set, Fold, If, Task, Wait, Group, Body, End, Next, size, size_one}
 use Rattle.ot_model.specs.declared.stmt.Use.{Use}
-use Rattle.ot_check.specs.Paths.{Create, Await, Enter, Leave, Step, At, touched, touches, PassesOne, Passes}
-use Rattle.ot_check.specs.Offences.{awaits, is_awaited, unawaited}
+use Rattle.ot_check.specs.Offences.{Create, Await, Enter, Leave, Step, At, touched, touches, PassesOne, Passes, awaits, is_awaited, unawaited}
 use Rattle.ot_check.specs.Discipline.{Children, nobody, through, through_one, behind, behind_one}
 use Rattle.ot_check.proofs.Steps.{some_unawaited, IsClosed, awaited-append, touched-awaited, touched-unawaited, passes-closed, unawaited-append, unawaited-group}
 use Rattle.ot_check.proofs.Bits.{or_true, true_or, or_right, and_left, and_right, and_true, not_true, true_not, or_false_left, or_false_right, false_or, or_none, or_false}

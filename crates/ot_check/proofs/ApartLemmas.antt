@@ -1,11 +1,9 @@
 -- Bodies that are apart may be run in either order.
 use Rattle.std.proofs.Common.{◌≡◌, ◌≢◌, ℕ, zero, suc, ◌%◌, Bool, true, false, not, subst, List, [], ◌∷◌, refl, sym, ap, ◌∙◌}
 use Rattle.std.specs.Prelude.{◌==◌, if◌then◌else◌, Option, unwrap_or}
-use Rattle.ot_model.specs.Tree.{E, Literal, CellAt, Apply, PickFrom, S, Set, Fold, If, Task, Wait, Group, Body, End, Next}
-use Rattle.ot_model.specs.Cells.{cell_of, with_cell, updated}
-use Rattle.ot_model.specs.Value.{val, cell_at, applied}
+use Rattle.ot_model.specs.Tree.{E, Literal, CellAt, Apply, PickFrom, S, Set, Fold, If, Task, Wait, Group, Body, End, Next, val, cell_at, applied}
+use Rattle.ot_model.specs.Cells.{cell_of, with_cell, updated, conflicts, same_fold}
 use Rattle.ot_model.specs.Serial.{State, bump, change, either, serial, serial_one}
-use Rattle.ot_model.specs.Uses.{conflicts, same_fold}
 use Rattle.ot_model.specs.Joining.{join_by}
 use Rattle.ot_model.specs.Monoids.{join-swap}
 use Rattle.ot_model.specs.declared.fold.Fold.{Fold as Operation}
@@ -14,8 +12,7 @@ use Rattle.ot_model.specs.declared.expr.Cell.{Cell}
 use Rattle.ot_model.specs.declared.stmt.Mode.{Mode}
 use Rattle.ot_model.specs.declared.stmt.Mode.TheVariants.{Reads, Writes, Folds}
 use Rattle.ot_model.specs.declared.stmt.Use.{Use}
-use Rattle.ot_check.specs.Paths.{use_as}
-use Rattle.ot_check.specs.Touches.{EachRead, EachTouch, EachTouchOne, Agree, AreApart}
+use Rattle.ot_check.specs.Offences.{use_as, EachRead, EachTouch, EachTouchOne, Agree, AreApart}
 use Rattle.ot_model.proofs.CellsLemmas as model
 use Rattle.ot_model.proofs.SerialLemmas.{either-ap, serial-bump}
 

@@ -3,8 +3,7 @@ use Rattle.std.proofs.Common.{◌≡◌, ℕ, ◌+◌, Bool, true, false, not, �
 use Rattle.std.specs.Prelude.{if◌then◌else◌, Option, Some, None}
 use Rattle.std.specs.List.{list_any}
 use Rattle.std.specs.Option.{option_or}
-use Rattle.ot_model.specs.Tree.{S, Set, Fold, If, Task, Wait, Group, Body, End, Next, append}
-use Rattle.ot_model.specs.Counts.{size, size_one}
+use Rattle.ot_model.specs.Tree.{S, Set, Fold, If, Task, Wait, Group, Body, End, Next, append, size, size_one}
 use Rattle.ot_model.specs.declared.stmt.Use.{Use}
 use Rattle.ot_check.specs.Offences.{Declared, Openings, awaits, Offends, IsFirstOf}
 use Rattle.ot_check.specs.Discipline.{OffendsNowhere, Children, nobody, nothing_open, behind_one, behind, through, through_one, with_group, may_break, is_offence, ends_with_children, marks, IsClean, IsFineInside, IsFine, AreFewer}

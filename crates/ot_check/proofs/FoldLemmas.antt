@@ -9,8 +9,7 @@ use Rattle.ot_model.specs.declared.stmt.Mode.{Mode}
 use Rattle.ot_model.specs.declared.stmt.Mode.TheVariants.{Reads, Writes, Folds}
 use Rattle.ot_model.specs.declared.stmt.Use.{Use}
 use Rattle.ot_model.proofs.EqualLemmas.{fold-decides}
-use Rattle.ot_check.specs.Paths.{use_as}
-use Rattle.ot_check.specs.Offences.{Declared, Openings, allows, folds_by, folds_to, misfits, misfits_as, covers}
+use Rattle.ot_check.specs.Offences.{use_as, Declared, Openings, allows, folds_by, folds_to, misfits, misfits_as, covers}
 use Rattle.ot_check.proofs.Bits.{or_true, and_left, and_right, or_false_left, or_false_right}
 use Rattle.ot_check.proofs.SameLemmas.{same_is}
 use Rattle.ot_check.proofs.OpeningLemmas.{opened-by}

@@ -2,20 +2,16 @@
 use Rattle.std.proofs.Common.{◌≡◌, ℕ, true, false, not, ◌&&◌, ◌||◌, List, [], ◌∷◌, refl, sym, subst, ◌∙◌, inl, inr}
 use Rattle.std.specs.Prelude.{Some, None}
 use Rattle.std.specs.List.{list_any}
-use Rattle.ot_model.specs.Tree.{E, S, Set, Fold, If, Task, Wait, Group, Body, End, Next}
-use Rattle.ot_model.specs.Value.{cells_named}
+use Rattle.ot_model.specs.Tree.{E, S, Set, Fold, If, Task, Wait, Group, Body, End, Next, cells_named}
 use Rattle.ot_model.specs.Names.{NamedIn, OneNamedIn, ValueNamedIn}
 use Rattle.ot_model.specs.declared.expr.Cell.{Cell}
-use Rattle.ot_model.specs.Uses.{same_fold}
+use Rattle.ot_model.specs.Cells.{same_fold, same_cell}
 use Rattle.ot_model.specs.declared.fold.Fold.{Fold as Operation}
 use Rattle.ot_model.specs.declared.stmt.Mode.{Mode}
 use Rattle.ot_model.specs.declared.stmt.Mode.TheVariants.{Reads, Writes, Folds}
 use Rattle.ot_model.specs.declared.stmt.Use.{Use}
-use Rattle.ot_check.specs.Paths.{use_as}
-use Rattle.ot_check.specs.Offences.{Declared, Openings, allows, opened_by_any, folds_by, folds_to, exceeds, misfits, covers, has_cell}
+use Rattle.ot_check.specs.Offences.{use_as, Declared, Openings, allows, opened_by_any, folds_by, folds_to, exceeds, misfits, covers, has_cell, EachRead, EachTouch, EachTouchOne, EachTask, EachTaskOne}
 use Rattle.ot_check.specs.Discipline.{Children, nobody, nothing_open, behind_one, with_group, IsClean, IsFineInside, IsFine, OffendsNowhere}
-use Rattle.ot_model.specs.Cells.{same_cell}
-use Rattle.ot_check.specs.Touches.{EachRead, EachTouch, EachTouchOne, EachTask, EachTaskOne}
 use Rattle.ot_check.specs.declared.fault.Offence.TheVariants.{NotDeclared, ChildBeyond, ReductionMisuse}
 use Rattle.ot_check.proofs.OffenceLemmas.{is_offence-Set, is_offence-Fold, is_offence-If, is_offence-ChildBeyond, is_offence-ReductionMisuse, is_offence-Group}
 use Rattle.ot_model.proofs.EqualLemmas.{fold-decides}

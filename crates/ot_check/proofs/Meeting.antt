@@ -2,8 +2,7 @@
 use Rattle.std.proofs.Common.{◌≡◌, ◌<◌, ◌≤◌, ℕ, ◌+◌, Bool, true, false, refl, sym, subst, inl, inr, ◌∙◌, arith}
 use Rattle.std.specs.Prelude.{◌⊎◌, Option, Some, None}
 use Rattle.std.specs.Option.{option_or}
-use Rattle.ot_model.specs.Tree.{S, Set, Fold, If, Task, Wait, Group, Body, End, Next}
-use Rattle.ot_model.specs.Counts.{size, size_one}
+use Rattle.ot_model.specs.Tree.{S, Set, Fold, If, Task, Wait, Group, Body, End, Next, size, size_one}
 use Rattle.ot_check.specs.Offences.{Declared, Openings, IsFirstOf, rank}
 use Rattle.ot_check.specs.Discipline.{Children, nobody, nothing_open, behind_one, with_group, is_offence}
 use Rattle.ot_check.specs.walk.Walk.{leading, placed, first, first_inside}

@@ -2,14 +2,12 @@
 use Rattle.std.proofs.Common.{◌≡◌, Bool, true, false, ◌||◌, List, [], ◌∷◌, ◌++◌, map, refl, sym, ap, ◌∙◌}
 use Rattle.std.specs.List.{list_any}
 use Rattle.std.proofs.lemmas.List.Folds.{list_any-append}
-use Rattle.ot_model.specs.Tree.{E, S, Set, Fold, If, Task, Wait, Group, Body}
+use Rattle.ot_model.specs.Tree.{E, S, Set, Fold, If, Task, Wait, Group, Body, cells_named}
 use Rattle.ot_model.specs.declared.expr.Cell.{Cell}
 use Rattle.ot_model.specs.declared.fold.Fold.{Fold as Operation}
 use Rattle.ot_model.specs.declared.stmt.Mode.TheVariants.{Reads, Writes, Folds}
 use Rattle.ot_model.specs.declared.stmt.Use.{Use}
-use Rattle.ot_check.specs.Paths.{Mark, Touch, Create, Await, Enter, Leave, use_as}
-use Rattle.ot_model.specs.Value.{cells_named}
-use Rattle.ot_check.specs.Offences.{Declared, Openings, exceeds, misfits}
+use Rattle.ot_check.specs.Offences.{Mark, Touch, Create, Await, Enter, Leave, use_as, Declared, Openings, exceeds, misfits}
 use Rattle.ot_check.specs.Discipline.{Children, may_break, marks, is_marked, is_offence, ends_with_children}
 use Rattle.ot_check.specs.walk.Walk.{ended, ending}
 use Rattle.ot_check.specs.declared.fault.Offence.{Offence}

@@ -1,17 +1,15 @@
 -- What stands on some path is met by the walk.
 use Rattle.std.proofs.Common.{◌≡◌, ◌≢◌, ℕ, ◌+◌, ◌++◌, Bool, true, not, ◌&&◌, ◌||◌, List, [], ◌∷◌, map, refl, sym, ap, subst, inl, inr, ◌∙◌, append_assoc, append-nil}
 use Rattle.std.specs.Prelude.{◌⊎◌, Option, Some}
-use Rattle.ot_model.specs.Uses.{same_fold}
+use Rattle.ot_model.specs.Cells.{same_fold}
 use Rattle.std.specs.List.{list_any}
-use Rattle.ot_model.specs.Tree.{S, Set, Fold, If, Task, Wait, Group, Body, End, Next}
-use Rattle.ot_model.specs.Counts.{size, size_one}
+use Rattle.ot_model.specs.Tree.{S, Set, Fold, If, Task, Wait, Group, Body, End, Next, size, size_one}
 use Rattle.ot_model.specs.declared.expr.Cell.{Cell}
 use Rattle.ot_model.specs.declared.fold.Fold.{Fold as Operation}
 use Rattle.ot_model.specs.declared.stmt.Mode.{Mode}
 use Rattle.ot_model.specs.declared.stmt.Mode.TheVariants.{Reads, Writes, Folds}
 use Rattle.ot_model.specs.declared.stmt.Use.{Use}
-use Rattle.ot_check.specs.Paths.{Mark, Touch, Create, Await, Enter, Leave, Step, At, touched, touches, use_as, PassesOne, Passes}
-use Rattle.ot_check.specs.Offences.{Declared, Openings, folds_to, allows, breaks, misfits, misfits_as, has_cell, unawaited, is_open, OnPath, InTasks, InTasksOfOne}
+use Rattle.ot_check.specs.Offences.{Mark, Touch, Create, Await, Enter, Leave, Step, At, touched, touches, use_as, PassesOne, Passes, Declared, Openings, folds_to, allows, breaks, misfits, misfits_as, has_cell, unawaited, is_open, OnPath, InTasks, InTasksOfOne}
 use Rattle.ot_check.specs.Discipline.{Children, may_break, anyone, nobody, nothing_open, behind_one, with_group, is_offence, marks, behind}
 use Rattle.ot_check.proofs.Steps.{some_unawaited, closed_of, touched-balanced, touched-open, touched-unawaited, touched-awaited, passes_one-closed, passes_one-open, unawaited-append, open-append}
 use Rattle.ot_check.specs.declared.fault.Offence.{Offence}

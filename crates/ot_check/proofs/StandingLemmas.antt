@@ -3,7 +3,7 @@ use Rattle.std.proofs.Common.{take_all, zero-add, ◌≡◌, ◌<◌, ◌≤◌,
 use Rattle.std.specs.Prelude.{Some, IsSome, slice_get, option_and_then, All}
 use Rattle.std.specs.List.{list_any, range_with_len}
 use Rattle.std.proofs.lemmas.List.FromFn.{length-map-range_with_len, get_or-map-range_with_len, map-range_with_len_more}
-use Rattle.ot_model.specs.Value.{cell_at}
+use Rattle.ot_model.specs.Tree.{cell_at}
 use Rattle.ot_model.specs.declared.expr.Section.{Section}
 use Rattle.std.proofs.lemmas.List.Folds.{list_any-append, list_any_more, list_any_at}
 use Rattle.std.proofs.lemmas.List.Elements.{All-get_or}
@@ -12,12 +12,11 @@ use Rattle.ot_model.specs.declared.expr.Cell.{Cell}
 use Rattle.ot_model.specs.declared.fold.Fold.{Fold as Operation}
 use Rattle.ot_model.specs.declared.stmt.Mode.TheVariants.{Writes}
 use Rattle.ot_model.specs.declared.stmt.Use.{Use}
-use Rattle.ot_check.specs.Paths.{Enter, use_as}
-use Rattle.ot_check.specs.Offences.{Declared, Openings, allows, clashes, opened_by_any}
+use Rattle.ot_check.specs.Offences.{Enter, use_as, Declared, Openings, allows, clashes, opened_by_any}
 use Rattle.ot_check.specs.Discipline.{Children, may_break}
 use Rattle.ot_check.specs.declared.fault.Offence.{Offence}
 use Rattle.ot_check.specs.declared.fault.Offence.TheVariants.{NotDeclared, ChildBeyond, ReductionMisuse, ConflictsWithChild, EndsWithChildren}
-use Rattle.ot_check.specs.walk.Grids.{found_at, widths}
+use Rattle.ot_check.specs.walk.States.{found_at, widths}
 use Rattle.ot_check.specs.declared.users.User.{User}
 use Rattle.ot_check.proofs.Bits.{or_none, any-same, none_any}
 

@@ -3,14 +3,12 @@ use Rattle.std.proofs.Common.{◌≡◌, ℕ, zero, suc, ◌+◌, ◌++◌, Bool
 use Rattle.std.specs.List.{list_any}
 use Rattle.std.specs.Prelude.{if◌then◌else◌}
 use Rattle.std.proofs.lemmas.List.Folds.{list_any-append}
-use Rattle.ot_model.specs.Tree.{S, Set, Fold, If, Task, Wait, Group, Body, End, Next}
-use Rattle.ot_model.specs.Counts.{size, size_one}
-use Rattle.ot_model.specs.Uses.{same_fold}
+use Rattle.ot_model.specs.Tree.{S, Set, Fold, If, Task, Wait, Group, Body, End, Next, size, size_one}
+use Rattle.ot_model.specs.Cells.{same_fold}
 use Rattle.ot_model.specs.declared.expr.Cell.{Cell}
 use Rattle.ot_model.specs.declared.fold.Fold.{Fold as Operation}
 use Rattle.ot_model.specs.declared.stmt.Use.{Use}
-use Rattle.ot_check.specs.Paths.{Touch, Create, Await, Enter, Leave, Step, At, touched, touches, PassesOne, Passes}
-use Rattle.ot_check.specs.Offences.{stays_within, is_wait_for, is_awaited, unawaited, is_open, has_cell}
+use Rattle.ot_check.specs.Offences.{Touch, Create, Await, Enter, Leave, Step, At, touched, touches, PassesOne, Passes, stays_within, is_wait_for, is_awaited, unawaited, is_open, has_cell}
 use Rattle.ot_check.proofs.Bits.{and_one}
 
 -- these steps leave no group that they don't enter

@@ -3,16 +3,13 @@ use Rattle.std.proofs.Common.{◌≡◌, ◌≢◌, ◌==◌, ℕ, ◌+◌, ◌<
 use Rattle.std.specs.Prelude.{Option, Some, None, slice_get, unwrap_or}
 use Rattle.std.specs.List.{list_any}
 use Rattle.std.proofs.lemmas.List.Folds.{list_any_more}
-use Rattle.ot_model.specs.Cells.{same_cell}
-use Rattle.ot_model.specs.Uses.{conflicts, depends_on, one_writes}
+use Rattle.ot_model.specs.Cells.{same_cell, conflicts, depends_on, one_writes}
 use Rattle.ot_model.specs.declared.expr.Cell.{Cell}
 use Rattle.ot_model.specs.declared.stmt.Mode.{Mode}
 use Rattle.ot_model.specs.declared.stmt.Use.{Use}
 use Rattle.ot_check.specs.Offences.{clashes}
-use Rattle.ot_check.specs.walk.Grids.{found_at, filled}
+use Rattle.ot_check.specs.walk.States.{found_at, filled, awaited_as, AreOf, Tells, among, met, some_task, user_has, users_at}
 use Rattle.ot_sets.specs.Sets.{has}
-use Rattle.ot_check.specs.walk.Rows.{awaited_as}
-use Rattle.ot_check.specs.walk.States.{AreOf, Tells, among, met, some_task, user_has, users_at}
 use Rattle.ot_sets.specs.declared.numbers.Numbers.{Numbers}
 use Rattle.ot_check.specs.declared.tasks.Tasks.{Tasks}
 use Rattle.ot_check.specs.declared.users.User.{User}

@@ -5,19 +5,15 @@ use Rattle.std.specs.Prelude.{Some}
 use Rattle.std.specs.List.{list_any, range_with_len}
 use Rattle.std.proofs.Math.Nat.{mod-lt}
 use Rattle.std.proofs.lemmas.List.Folds.{list_any-append}
-use Rattle.ot_model.specs.Tree.{E, Literal, CellAt, Apply, PickFrom, Set, Fold, If, Task, Wait, Group, Body, End, Next, append}
-use Rattle.ot_model.specs.Cells.{same_cell}
-use Rattle.ot_model.specs.Value.{cell_at, cells_of, cells_named}
+use Rattle.ot_model.specs.Tree.{E, Literal, CellAt, Apply, PickFrom, Set, Fold, If, Task, Wait, Group, Body, End, Next, append, cell_at, cells_of, cells_named}
+use Rattle.ot_model.specs.Cells.{same_cell, conflicts, same_fold}
 use Rattle.ot_model.specs.Names.{NamedIn, ValueNamedIn}
-use Rattle.ot_model.specs.Uses.{conflicts, same_fold}
 use Rattle.ot_model.specs.declared.expr.Cell.{Cell}
 use Rattle.ot_model.specs.declared.fold.Fold.{Fold as Operation}
 use Rattle.ot_model.specs.declared.stmt.Mode.{Mode}
 use Rattle.ot_model.specs.declared.stmt.Mode.TheVariants.{Reads, Writes, Folds}
 use Rattle.ot_model.specs.declared.stmt.Use.{Use}
-use Rattle.ot_check.specs.Paths.{Touch, use_as}
-use Rattle.ot_check.specs.Offences.{Declared, Openings, allows, covers, clashes}
-use Rattle.ot_check.specs.Touches.{EachRead, EachTouch, Agree}
+use Rattle.ot_check.specs.Offences.{Touch, use_as, Declared, Openings, allows, covers, clashes, EachRead, EachTouch, Agree}
 use Rattle.ot_check.specs.Discipline.{Children, may_break, IsFine, IsHarmless, AreAssigns}
 use Rattle.ot_check.specs.declared.fault.Offence.{Offence}
 use Rattle.ot_model.proofs.EqualLemmas.{fold-decides}

@@ -4,13 +4,12 @@ use Rattle.std.specs.Prelude.{◌≡◌, ℕ, Bool, true, false, not, ◌&&◌, 
 use Rattle.std.specs.List.{list_any}
 use Rattle.ot_model.specs.Programs.{Expanded}
 use Rattle.ot_model.specs.Tree.{S, Set, Fold, If, Task, Wait, Group, Body, End, Next}
-use Rattle.ot_model.specs.Uses.{same_fold}
+use Rattle.ot_model.specs.Cells.{same_fold}
 use Rattle.ot_model.specs.declared.expr.Cell.{Cell}
 use Rattle.ot_model.specs.declared.fold.Fold.{Fold as Operation}
 use Rattle.ot_model.specs.declared.stmt.Mode.TheVariants.{Writes}
 use Rattle.ot_model.specs.declared.stmt.Use.{Use}
-use Rattle.ot_check.specs.Paths.{Mark, Touch, Create, Enter, touches, use_as}
-use Rattle.ot_check.specs.Offences.{Declared, Openings, Offends, awaits, breaks, clashes, has_cell}
+use Rattle.ot_check.specs.Offences.{Mark, Touch, Create, Enter, touches, use_as, Declared, Openings, Offends, awaits, breaks, clashes, has_cell}
 use Rattle.ot_check.specs.declared.fault.Offence.{Offence}
 use Rattle.ot_check.specs.declared.fault.Offence.TheVariants.{ConflictsWithChild, EndsWithChildren}
 

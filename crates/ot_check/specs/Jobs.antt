@@ -1,8 +1,7 @@
 -- A checked program with the cells that it begins with, and what it means.
 use Rattle.std.specs.Prelude.{◌≡◌, ℕ, List}
 use Rattle.ot_model.specs.Programs.{expanded_of}
-use Rattle.ot_model.specs.Serial.{State, serial_run}
-use Rattle.ot_model.specs.Runs.{state_of}
+use Rattle.ot_model.specs.Serial.{State, serial_run, state_of}
 use Rattle.ot_check.specs.declared.checked.Checked.{Checked}
 use Rattle.ot_check.specs.declared.job.Outcome.{Outcome}
 

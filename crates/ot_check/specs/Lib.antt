@@ -1,9 +1,5 @@
-pub mod Paths
 pub mod Offences
 pub mod Discipline
-pub mod Codes
-pub mod Touches
 pub mod Jobs
 pub mod walk
-pub mod FirstOffence
 pub mod Laws

@@ -1,19 +1,56 @@
--- What is an offence on a path, and which offence of a body is the first.
-use Rattle.std.specs.Prelude.{◌≡◌, ◌≢◌, ℕ, zero, suc, ◌+◌, ◌<◌, ◌≤◌, ◌++◌, ◌⊎◌, Bool, true, false, not, ◌&&◌, ◌||◌, if◌then◌else◌, List, [], ◌∷◌, Option, Some, None}
+-- The paths of a body: runs through it that take either body of each `if`, whatever the values.
+use Rattle.std.specs.Prelude.{◌≡◌, ◌≢◌, ℕ, zero, suc, ◌+◌, ◌<◌, ◌≤◌, ◌++◌, ◌⊎◌, Bool, true, false, not, ◌&&◌, ◌||◌, if◌then◌else◌, List, [], ◌∷◌, Option, Some, None, map, Result, Ok, Err, ◌%◌}
 use Rattle.std.specs.List.{list_any}
-use Rattle.ot_model.specs.Tree.{S, Set, Fold, If, Task, Wait, Group, Body, End, Next}
-use Rattle.ot_model.specs.Cells.{same_cell}
-use Rattle.ot_model.specs.Counts.{size, size_one}
-use Rattle.ot_model.specs.Uses.{conflicts, depends_on, is_fold, same_fold}
+use Rattle.ot_model.specs.Tree.{S, Set, Fold, If, Task, Wait, Group, Body, End, Next, size, size_one, E, Literal, CellAt, Apply, PickFrom, cell_at}
+use Rattle.ot_model.specs.Cells.{same_cell, conflicts, depends_on, is_fold, same_fold}
 use Rattle.ot_model.specs.declared.expr.Cell.{Cell}
 use Rattle.ot_model.specs.declared.fold.Fold.{Fold as Operation}
 use Rattle.ot_model.specs.declared.fold.Fold.TheVariants.{Plus, Times, And, Or, Xor, Min, Max}
 use Rattle.ot_model.specs.declared.stmt.Mode.{Mode}
 use Rattle.ot_model.specs.declared.stmt.Mode.TheVariants.{Reads, Writes, Folds}
 use Rattle.ot_model.specs.declared.stmt.Use.{Use}
-use Rattle.ot_check.specs.Paths.{Mark, Touch, Create, Await, Enter, Leave, Step, At, use_as, Passes}
 use Rattle.ot_check.specs.declared.fault.Offence.{Offence}
 use Rattle.ot_check.specs.declared.fault.Offence.TheVariants.{NotDeclared, ChildBeyond, ReductionMisuse, ConflictsWithChild, EndsWithChildren}
+use Rattle.ot_check.specs.declared.fault.CheckFault.{CheckFault}
+use Rattle.ot_check.specs.declared.fault.CheckFault.TheVariants as fault
+
+-- a cell, used in a mode; what a statement itself does with cells
+pub use Rattle.ot_parts.specs.Modes.{use_as, touches}
+
+-- what a path passes: a use of a cell, a child's creation, a wait and what it declares, if it does, the beginning and the end of a group
+pub data Mark : Type 0 where
+  Touch : Use → Mark
+  Create : List Use → Mark
+  Await : Option (List Use) → Mark
+  Enter : Operation → List Cell → Mark
+  Leave : Mark
+
+-- a mark, and the place of its statement
+pub data Step : Type 0 where
+  At : ℕ → Mark → Step
+
+abbrev pub touched : ℕ → List Use → List Step
+touched k uses = map (λ u. At k (Touch u)) uses
+
+-- Whether a path goes through a statement, or a body, whose place is k. Places are numbers of
+-- statements, each before the statements of its bodies. The body of a task has paths of its own: on
+-- its parent's path the task is one mark.
+abbrev mutual
+  pub PassesOne : ℕ → S → List Step → Type 0
+  PassesOne k (Set c e) path = path ≡ touched k (touches (Set c e))
+  PassesOne k (Fold o c e) path = path ≡ touched k (touches (Fold o c e))
+  PassesOne k (If e a b) path =
+      (inside : List Step) × (path ≡ touched k (touches (If e a b)) ++ inside) × (Passes (k + 1) a inside ⊎ Passes (k + 1 + size a) b inside)
+  PassesOne k (Task d b) path = path ≡ At k (Create d) ∷ []
+  PassesOne k (Wait w) path = path ≡ At k (Await w) ∷ []
+  PassesOne k (Group o cs b) path = (inside : List Step) × (path ≡ At k (Enter o cs) ∷ (inside ++ At k Leave ∷ [])) × Passes (k + 1) b inside
+
+  pub Passes : ℕ → Body → List Step → Type 0
+  Passes k End path = path ≡ []
+  Passes k (Next x rest) path = (one : List Step) × (later : List Step) × (path ≡ one ++ later) × PassesOne k x one × Passes (k + size_one x) rest later
+
+-- What is an offence on a path, and which offence of a body is the first.
+
 -- whether a mode is Folds of an operation; what a body declares; whether it declares a cell so
 pub use Rattle.ot_parts.specs.Modes.{folds_by, Declared, folds_to}
 
@@ -164,3 +201,63 @@ IsFirstOf Holds None = (place : ℕ) (offence : Offence) → Holds place offence
 IsFirstOf Holds (Some first) =
     Holds first.0 first.1
     × ((place : ℕ) (offence : Offence) → Holds place offence → (first.0 < place) ⊎ ((first.0 ≡ place) × (rank first.1 ≤ rank offence)))
+
+-- The numbers of offences, and what a check tells.
+
+abbrev pub code_of : Offence → ℕ
+code_of NotDeclared = 425
+code_of ChildBeyond = 426
+code_of ConflictsWithChild = 427
+code_of EndsWithChildren = 428
+code_of ReductionMisuse = 429
+
+-- what a check tells is the first offence, and it says yes where there is none; want of memory says nothing
+abbrev pub TellsFirst : {A : Type 0} → (ℕ → Offence → Type 0) → Result A CheckFault → Type 0
+TellsFirst Holds (Ok x) = IsFirstOf Holds None
+TellsFirst Holds (Err (fault.Offence offence place)) = IsFirstOf Holds (Some (place, offence))
+TellsFirst Holds (Err fault.Memory) = Unit {0}
+
+-- What a body does with cells, in its tasks too.
+
+-- P holds of each cell that the value may read
+abbrev pub EachRead : (Cell → Type 0) → E → Type 0
+EachRead P (Literal n) = Unit {0}
+EachRead P (CellAt c) = P c
+EachRead P (Apply o a b) = EachRead P a × EachRead P b
+EachRead P (PickFrom s e) = ((k : ℕ) → P (cell_at s (k % s.len))) × EachRead P e
+
+-- P holds of each touch of the body, those in its tasks among them
+abbrev mutual
+  pub EachTouchOne : (Use → Type 0) → S → Type 0
+  EachTouchOne P (Set c e) = EachRead (λ d. P (use_as Reads d)) e × P (use_as Writes c)
+  EachTouchOne P (Fold o c e) = EachRead (λ d. P (use_as Reads d)) e × P (use_as (Folds o) c)
+  EachTouchOne P (If e a b) = EachRead (λ d. P (use_as Reads d)) e × EachTouch P a × EachTouch P b
+  EachTouchOne P (Task d b) = EachTouch P b
+  EachTouchOne P (Wait w) = Unit {0}
+  EachTouchOne P (Group o cs b) = EachTouch P b
+
+  pub EachTouch : (Use → Type 0) → Body → Type 0
+  EachTouch P End = Unit {0}
+  EachTouch P (Next x rest) = EachTouchOne P x × EachTouch P rest
+
+-- P holds of each task that stands in the body, however deep, with what it declares
+abbrev mutual
+  pub EachTaskOne : (List Use → Body → Type 0) → S → Type 0
+  EachTaskOne P (Set c e) = Unit {0}
+  EachTaskOne P (Fold o c e) = Unit {0}
+  EachTaskOne P (If e a b) = EachTask P a × EachTask P b
+  EachTaskOne P (Task d b) = P d b × EachTask P b
+  EachTaskOne P (Wait w) = Unit {0}
+  EachTaskOne P (Group o cs b) = EachTask P b
+
+  pub EachTask : (List Use → Body → Type 0) → Body → Type 0
+  EachTask P End = Unit {0}
+  EachTask P (Next x rest) = EachTaskOne P x × EachTask P rest
+
+-- uses that don't conflict
+abbrev pub Agree : Use → Use → Type 0
+Agree u v = u.cell ≡ v.cell → conflicts u.mode v.mode ≡ false
+
+-- no touch of the one conflicts with a touch of the other
+abbrev pub AreApart : Body → Body → Type 0
+AreApart a b = EachTouch (λ u. EachTouch (Agree u) b) a

@@ -1,11 +1,9 @@
 ghost use Rattle.std.specs.Prelude.{◌≡◌, IfOk};
 ghost use Rattle.std.specs.Arc.{arc_value};
 ghost use Rattle.ot_model.specs.View.{stmts_of};
-ghost use Rattle.ot_model.specs.Shapes.{array_lengths};
-ghost use Rattle.ot_model.specs.Programs.{expanded_of, IsNamedIn};
+ghost use Rattle.ot_model.specs.Programs.{array_lengths, expanded_of, IsNamedIn};
 ghost use Rattle.ot_parts.specs.Parts.{parts_of};
-ghost use Rattle.ot_check.specs.Offences.{Offends};
-ghost use Rattle.ot_check.specs.Codes.{TellsFirst};
+ghost use Rattle.ot_check.specs.Offences.{Offends, TellsFirst};
 
 use crate::checked::Checked;
 use crate::fault::CheckFault;

@@ -21,7 +21,7 @@ pub enum Offence {
 }
 
 impl Offence {
-    ghost use Rattle.ot_check.specs.Codes.{code_of};
+    ghost use Rattle.ot_check.specs.Offences.{code_of};
 
     /// The number that a client is told.
     pub fn code(self) -> u32

@@ -1,7 +1,6 @@
 //! Laws of bodies and of checked programs. Each is the contract of a function that does nothing: a
 //! caller that needs the law calls it.
-ghost use Rattle.ot_check.specs.FirstOffence.{FirstOffenceIsFirst};
-ghost use Rattle.ot_check.specs.Laws.{Apart, Inside};
+ghost use Rattle.ot_check.specs.Laws.{FirstOffenceIsFirst, Apart, Inside};
 ghost use Rattle.ot_check.specs.Discipline.{DisciplinedIsFine};
 
 /// The first offence of a body is the first of its offences on paths, and no other value is.

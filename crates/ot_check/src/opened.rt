@@ -1,5 +1,5 @@
 ghost use Rattle.std.specs.Prelude.{◌≡◌, ◌||◌, ◌&&◌, ◌<◌, IfOk, OnOk, false, length};
-ghost use Rattle.ot_model.specs.Uses.{same_fold};
+ghost use Rattle.ot_model.specs.Cells.{same_fold};
 ghost use Rattle.ot_model.specs.declared.fold.Fold.{Fold as Operation};
 ghost use Rattle.ot_model.specs.declared.expr.Cell.{Cell};
 ghost use Rattle.ot_check.specs.Offences.{has_cell, opened_by_any};

@@ -1,5 +1,5 @@
 ghost use Rattle.std.specs.Prelude.{◌≡◌, ◌+◌, ◌<◌, ◌≤◌, ◌^◌, ◌||◌, ◌==◌, ◌∷◌, ◌++◌, List, ℕ, [], IfOk, OnOk, None, Some, false, true, not};
-ghost use Rattle.ot_check.specs.Offences.{allows, exceeds, folds_to, misfits, awaits};
+ghost use Rattle.ot_check.specs.Offences.{allows, exceeds, folds_to, misfits, awaits, Touch, Enter};
 ghost use Rattle.ot_check.specs.walk.States.{is_open, AreOf, IsBegun, Leads, Whatever, lens_of, with_others};
 
 use crate::fault::Offence;
@@ -109,9 +109,8 @@ impl Region {
 }
 
 impl Standing {
-    ghost use Rattle.ot_model.specs.Shapes.{array_lengths};
+    ghost use Rattle.ot_model.specs.Programs.{array_lengths};
     ghost use Rattle.ot_model.specs.Names.{IsInShape, OneNamedIn, AreInShape, AreDeclaredIn};
-    ghost use Rattle.ot_check.specs.Paths.{Touch, Enter};
     ghost use Rattle.ot_model.specs.Tree.{Wait};
     ghost use Rattle.ot_model.specs.declared.expr.Cell.{Cell};
     ghost use Rattle.ot_model.specs.declared.fold.Fold.{Fold as Operation};

@@ -1,5 +1,5 @@
 ghost use Rattle.std.specs.Prelude.{◌≡◌, IfOk, map, ◌≢◌, IsSome, Some};
-ghost use Rattle.ot_check.specs.walk.Grids.{widths, found_at, filled};
+ghost use Rattle.ot_check.specs.walk.States.{widths, found_at, filled};
 
 use ot_model::{ArrayShape, Cell};
 use std::alloc::{AllocError, Global};
@@ -20,7 +20,7 @@ impl Model for Table {
 }
 
 impl Table {
-    ghost use Rattle.ot_model.specs.ShapeView.{arrays_of};
+    ghost use Rattle.ot_model.specs.Programs.{arrays_of};
     ghost use Rattle.ot_model.specs.declared.expr.Cell.{Cell};
 
     /// 0 for each cell of these arrays.

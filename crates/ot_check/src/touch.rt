@@ -1,10 +1,10 @@
 ghost use Rattle.std.specs.Prelude.{◌≡◌};
 ghost use Rattle.std.specs.List.{list_any};
 ghost use Rattle.ot_model.specs.View.{expr_of};
-ghost use Rattle.ot_model.specs.Value.{cells_of, cells_named};
+ghost use Rattle.ot_model.specs.Tree.{cells_of, cells_named};
 ghost use Rattle.ot_model.specs.Names.{FitsShape, IsInShape, ValueNamedIn};
 ghost use Rattle.ot_model.specs.declared.stmt.Mode.TheVariants.{Reads};
-ghost use Rattle.ot_check.specs.Paths.{Touch, use_as};
+ghost use Rattle.ot_check.specs.Offences.{Touch, use_as};
 ghost use Rattle.ot_check.specs.Discipline.{may_break};
 ghost use Rattle.ot_check.specs.walk.States.{Whatever, lens_of};
 

@@ -1,9 +1,8 @@
 ghost use Rattle.std.specs.Prelude.{◌≡◌, ◌||◌, Bool, IfOk, OnOk, ◌&&◌, ℕ, not, IfSome, slice_get, ◌≢◌, [], IsSome, map};
 ghost use Rattle.std.specs.List.{list_any};
 ghost use Rattle.ot_check.specs.declared.users.User.{User};
-ghost use Rattle.ot_check.specs.walk.Grids.{found_at, filled, widths};
+ghost use Rattle.ot_check.specs.walk.States.{found_at, filled, widths, awaited_as, users_of_row, IsRoom, met, users_at};
 ghost use Rattle.ot_sets.specs.Sets.{has};
-ghost use Rattle.ot_check.specs.walk.Rows.{awaited_as, users_of_row, IsRoom};
 
 use crate::block::Block;
 use crate::table::Table;
@@ -30,7 +29,7 @@ pub(crate) struct Row {
 }
 
 impl Row {
-    ghost use Rattle.ot_model.specs.Uses.{conflicts};
+    ghost use Rattle.ot_model.specs.Cells.{conflicts};
 
     /// One task alone. It takes no memory.
     fn of(alloc: Global, cell: Cell, user: User) -> Row
@@ -119,7 +118,7 @@ pub(crate) struct Users {
 impl Model for Users {
     ghost use Rattle.std.specs.Prelude.{List, map};
     ghost use Rattle.ot_check.specs.declared.users.User.{User};
-    ghost use Rattle.ot_check.specs.walk.Rows.{users_in, HaveRows};
+    ghost use Rattle.ot_check.specs.walk.States.{users_in, HaveRows};
 
     ghost Value = { List (List (List User)) };
 
@@ -129,9 +128,8 @@ impl Model for Users {
 }
 
 impl Users {
-    ghost use Rattle.ot_model.specs.ShapeView.{arrays_of};
+    ghost use Rattle.ot_model.specs.Programs.{arrays_of};
     ghost use Rattle.ot_model.specs.declared.expr.Cell.{Cell};
-    ghost use Rattle.ot_check.specs.walk.States.{met, users_at};
 
     /// No task declares a cell of these arrays.
     pub(crate) fn new(alloc: Global, arrays: &[ArrayShape]) -> Result<Users, AllocError>

@@ -1,8 +1,7 @@
 ghost use Rattle.std.specs.Prelude.{◌≡◌, ◌+◌, ◌≤◌, ◌<◌, ◌^◌, ◌||◌, IfOk, Some, true};
 ghost use Rattle.std.specs.Option.{option_or};
-ghost use Rattle.ot_model.specs.Tree.{Group};
+ghost use Rattle.ot_model.specs.Tree.{Group, size, size_one};
 ghost use Rattle.ot_model.specs.View.{stmt_of, stmts_of};
-ghost use Rattle.ot_model.specs.Counts.{size, size_one};
 ghost use Rattle.ot_model.specs.Names.{NamedIn, OneNamedIn, AreInShape, AreDeclaredIn};
 ghost use Rattle.ot_check.specs.Discipline.{anyone, behind, behind_one, nobody, nothing_open, through, through_one, with_group};
 ghost use Rattle.ot_check.specs.walk.Walk.{ended, first, first_one, first_within, placed};

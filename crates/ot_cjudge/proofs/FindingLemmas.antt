@@ -1,10 +1,9 @@
 -- What is found where no way races.
 use Rattle.std.proofs.Common.{◌≡◌, ◌∙◌, inl, inr, refl, sym, ℕ, List, true, false, true≢false}
 use Rattle.std.proofs.lemmas.Bool.{both_ways}
-use Rattle.ot_model.specs.Tree.{Body}
+use Rattle.ot_model.specs.Tree.{Body, val}
 use Rattle.ot_model.specs.Cells.{cell_of, lengths}
 use Rattle.ot_model.specs.Names.{NamedIn}
-use Rattle.ot_model.specs.Value.{val}
 use Rattle.ot_corder.specs.declared.order.Order.{Order}
 use Rattle.ot_ways.specs.Laws.{RunsAreWays, StraightWaysAreRuns}
 use Rattle.ot_race.specs.Races.{NothingRaces}

@@ -5,11 +5,11 @@ use Rattle.std.specs.Option.{option_or}
 use Rattle.std.specs.List.{range_with_len}
 use Rattle.std.proofs.lemmas.List.{map-append}
 use Rattle.std.proofs.lemmas.List.Folds.{find-append}
-use Rattle.ot_model.specs.Value.{cell_at}
+use Rattle.ot_model.specs.Tree.{cell_at}
 use Rattle.ot_model.specs.declared.expr.Section.{Section}
 use Rattle.ot_model.specs.declared.stmt.Mode.TheVariants.{Reads}
 use Rattle.ot_model.specs.declared.stmt.Use.{Use}
-use Rattle.ot_check.specs.Paths.{use_as}
+use Rattle.ot_check.specs.Offences.{use_as}
 
 both-found : {A B : Type 0} (p : B → Bool) (f : A → B) (xs ys : List A) → find p (map f (xs ++ ys)) ≡ option_or (find p (map f xs)) (find p (map f ys))
 both-found p f xs ys = ap (find p) (map-append f xs ys) ∙ find-append p (map f xs) (map f ys)

@@ -5,8 +5,7 @@ use Rattle.std.specs.Prelude.{if◌then◌else◌, codes, Option, None, option_a
 use Rattle.serde_json.specs.Data.{Data, array}
 use Rattle.serde_json.specs.View.{view, items_of, items_view}
 use Rattle.serde_json.specs.declared.value.Value.{Value, Array, the_lemmas}
-use Rattle.ot_program.specs.Meanings.{items, each}
-use Rattle.ot_program.specs.Names.{is_word}
+use Rattle.ot_program.specs.Meanings.{items, each, is_word}
 use Rattle.ot_place.specs.Spots.{Path}
 use Rattle.ot_place.proofs.PlaceLemmas.{item_there, item_past}
 use Rattle.ot_cjudge.specs.TextOrder.{count_in, count_all, count_one, count_inside, has_body, count_first, count_before, told_in, told_at}

@@ -8,11 +8,10 @@ use Rattle.ot_model.specs.Tree.{Body}
 use Rattle.ot_model.specs.declared.stmt.Mode.{Mode}
 use Rattle.ot_model.specs.declared.stmt.Mode.TheVariants.{Reads, Writes, Folds}
 use Rattle.ot_model.specs.declared.stmt.Use.{Use}
-use Rattle.ot_check.specs.Codes.{code_of}
-use Rattle.ot_check.specs.Offences.{Offends, IsFirstOf}
+use Rattle.ot_check.specs.Offences.{code_of, Offends, IsFirstOf}
 use Rattle.ot_check.specs.declared.fault.Offence.{Offence}
 use Rattle.ot_check.specs.declared.fault.Offence.TheVariants.{NotDeclared, ChildBeyond, ReductionMisuse, ConflictsWithChild, EndsWithChildren}
-use Rattle.ot_fault.specs.Entries.{first_fault}
+use Rattle.ot_fault.specs.Walk.{first_fault}
 use Rattle.ot_file.specs.declared.position.Position.{Position}
 use Rattle.ot_program.specs.Programs.{program_of}
 use Rattle.ot_program.specs.declared.fault.Refusal.{Refusal}

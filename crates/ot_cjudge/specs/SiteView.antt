@@ -1,8 +1,8 @@
 -- The text and the places that the code's stand for.
 use Rattle.std.specs.Prelude.{map}
 use Rattle.serde_json.specs.View.{view}
-use Rattle.ot_model.specs.ShapeView.{arrays_of}
-use Rattle.ot_place.specs.Seeking.{turn_by}
+use Rattle.ot_model.specs.Programs.{arrays_of}
+use Rattle.ot_place.specs.Spots.{turn_by}
 use Rattle.ot_cjudge.specs.Sites as s
 use Rattle.ot_cjudge.specs.declared.source.Source.{Source}
 use Rattle.ot_cjudge.specs.declared.source.Site.{Site}

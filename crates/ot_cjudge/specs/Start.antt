@@ -1,6 +1,6 @@
 -- What a C program begins with.
 use Rattle.std.specs.Prelude.{ℕ, List, map, length, string_bytes}
-use Rattle.ot_model.specs.Shapes.{Arrays}
+use Rattle.ot_model.specs.Programs.{Arrays}
 use Rattle.ot_cjudge.specs.declared.lowered.CArray.{CArray}
 
 -- names and lengths

@@ -2,8 +2,7 @@
 use Rattle.std.specs.Prelude.{ℕ, ◌+◌, ◌==◌, ◌||◌, Bool, if◌then◌else◌, List, [], ◌∷◌, take, drop, slice_get, Option, option_and_then, codes}
 use Rattle.serde_json.specs.Data.{Data, array, Items, no_items, item}
 use Rattle.serde_json.specs.View.{items_of}
-use Rattle.ot_program.specs.Meanings.{items}
-use Rattle.ot_program.specs.Names.{is_word}
+use Rattle.ot_program.specs.Meanings.{items, is_word}
 use Rattle.ot_place.specs.Spots.{Path, value_at}
 
 -- ---- how many there are

@@ -1,9 +1,9 @@
 //! Races of what stands for a C text, where its tasks are ordered as in C.
-ghost use Rattle.std.specs.Prelude.{IfOk};
+ghost use Rattle.std.specs.Prelude.{IfOk, ℕ, List, ◌≡◌};
 ghost use Rattle.ot_model.specs.View.{stmts_of};
 ghost use Rattle.ot_model.specs.Cells.{lengths};
 ghost use Rattle.ot_model.specs.Names.{NamedIn};
-ghost use Rattle.ot_cjudge.specs.Findings.{Finds, IsAccepted};
+ghost use Rattle.ot_cjudge.specs.Findings.{Finds, IsAccepted, is_clean, events_by, finding_of};
 
 use ot_check::Checked;
 use ot_corder::{Order, is_alike, judge_by};
@@ -63,8 +63,7 @@ pub(crate) fn find_in_refused(
     }
 }
 
-ghost use Rattle.std.specs.Prelude.{ℕ, List};
-ghost use Rattle.ot_race.specs.Races.{NothingRaces};
+ghost use Rattle.ot_race.specs.Races.{NothingRaces, TellsFirst};
 
 /// Looks on the ways of a program whose run doesn't race. Where it is straight they do what the run does, and none is judged.
 fn find_on_ways(alloc: Global, order: Order, program: &Program) -> Result<Finding, AllocError>
@@ -106,17 +105,12 @@ fn find_race(
     }
 }
 
-ghost use Rattle.ot_cjudge.specs.Findings.{is_clean};
-
 /// Whether the ways tell that none of them races.
 fn is_clean(told: &WaysVerdict) -> bool
     ensures { result ≡ is_clean told.now }
 {
     matches!(told, WaysVerdict::RacesOnNoWay)
 }
-
-ghost use Rattle.ot_race.specs.Races.{TellsFirst};
-ghost use Rattle.ot_cjudge.specs.Findings.{events_by};
 
 fn race_in_run(
     alloc: Global,
@@ -130,9 +124,6 @@ fn race_in_run(
     let events = run_events(alloc, program, cells)?;
     judge_by(alloc, order, events)
 }
-
-ghost use Rattle.std.specs.Prelude.{◌≡◌};
-ghost use Rattle.ot_cjudge.specs.Findings.{finding_of};
 
 /// What the ways tell of a program whose run doesn't race.
 fn finding_of(told: WaysVerdict) -> Finding

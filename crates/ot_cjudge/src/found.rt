@@ -1,7 +1,7 @@
 //! The statement at a place of a program.
 ghost use Rattle.std.specs.Prelude.{◌≡◌, ◌+◌, ◌<◌, ◌^◌, IfOk, IfErr, option_map};
 ghost use Rattle.ot_model.specs.View.{stmt_of, stmts_of};
-ghost use Rattle.ot_model.specs.Counts.{size, size_one};
+ghost use Rattle.ot_model.specs.Tree.{size, size_one};
 ghost use Rattle.ot_cjudge.specs.Lacks.{found, found_one};
 ghost use Rattle.ot_cjudge.specs.Fits.{Fits, FitsOne};
 ghost use Rattle.ot_cjudge.specs.FoundView.{Follows};

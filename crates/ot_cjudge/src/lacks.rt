@@ -1,11 +1,10 @@
 //! What a task doesn't declare that a statement in it needs.
-ghost use Rattle.std.specs.Prelude.{◌≡◌, ◌+◌, ◌≤◌, ◌^◌, ◌∷◌, [], not, find, map, option_map, Some};
+ghost use Rattle.std.specs.Prelude.{◌≡◌, ◌+◌, ◌≤◌, ◌^◌, ◌∷◌, [], not, find, map, option_map, Some, ◌++◌};
 ghost use Rattle.ot_model.specs.View.{expr_of, stmt_of};
-ghost use Rattle.ot_model.specs.Value.{cells_of, cells_named};
+ghost use Rattle.ot_model.specs.Tree.{cells_of, cells_named};
 ghost use Rattle.ot_model.specs.declared.stmt.Mode.TheVariants.{Reads};
 ghost use Rattle.ot_parts.specs.Modes.{PicksFit};
-ghost use Rattle.ot_check.specs.Paths.{use_as};
-ghost use Rattle.ot_check.specs.Offences.{allows, covers, exceeds};
+ghost use Rattle.ot_check.specs.Offences.{use_as, allows, covers, exceeds};
 ghost use Rattle.ot_cjudge.specs.Lacks.{lacks_by, lacks_to, lacks_for};
 ghost use Rattle.ot_cjudge.specs.Fits.{FitsOne};
 ghost use Rattle.ot_cjudge.specs.FoundView.{stood_by};
@@ -38,8 +37,6 @@ fn lacks_to(own: Option<&Decl>, statement: &Stmt) -> Option<Use>
         Stmt::Task(_, _) | Stmt::Wait(_) | Stmt::Group(_, _, _) => None,
     }
 }
-
-ghost use Rattle.std.specs.Prelude.{◌++◌};
 
 /// Of what a value reads, and then of the use of a cell.
 fn lacks_touch(own: Option<&Decl>, value: &Expr, cell: Cell, mode: Mode) -> Option<Use>

@@ -1,9 +1,9 @@
 //! Parts of lines about a C text.
-ghost use Rattle.std.specs.Prelude.{◌≡◌, ◌++◌, map, OnOk};
-ghost use Rattle.ot_model.specs.ShapeView.{arrays_of};
-ghost use Rattle.ot_place.specs.Seeking.{turn_by};
+ghost use Rattle.std.specs.Prelude.{◌≡◌, ◌++◌, map, OnOk, Some, string_bytes};
+ghost use Rattle.ot_model.specs.Programs.{arrays_of};
+ghost use Rattle.ot_place.specs.Spots.{turn_by};
 ghost use Rattle.ot_cjudge.specs.SiteView.{site_by};
-ghost use Rattle.ot_cjudge.specs.Lines.{place_text, turn_text, listed, turns_text, cell_text};
+ghost use Rattle.ot_cjudge.specs.Lines.{place_text, turn_text, listed, turns_text, cell_text, cell_by};
 
 use crate::source::Site;
 use ot_file::Position;
@@ -80,9 +80,6 @@ pub(crate) fn put_cell(
         }
     }
 }
-
-ghost use Rattle.std.specs.Prelude.{Some, string_bytes};
-ghost use Rattle.ot_cjudge.specs.Lines.{cell_by};
 
 fn put_cell_of(
     alloc: Global,

@@ -1,5 +1,5 @@
 //! A C text, and what stands for it.
-ghost use Rattle.std.specs.Prelude.{◌≡◌};
+ghost use Rattle.std.specs.Prelude.{◌≡◌, IfOk, option_map, unwrap_or};
 ghost use Rattle.ot_file.specs.Positions.{position_of};
 
 use crate::text_order::told_of;
@@ -32,9 +32,7 @@ pub(crate) struct Site<'a> {
 }
 
 impl<'a> Source<'a> {
-    ghost use Rattle.std.specs.Prelude.{◌≡◌, IfOk, option_map, unwrap_or};
-    ghost use Rattle.ot_file.specs.Positions.{position_of};
-    ghost use Rattle.ot_place.specs.Seeking.{place_by};
+    ghost use Rattle.ot_place.specs.Spots.{place_by};
     ghost use Rattle.ot_cjudge.specs.TextOrder.{told_of};
     ghost use Rattle.ot_cjudge.specs.Sites.{site_at, site_of, entry_site};
     ghost use Rattle.ot_cjudge.specs.SiteView.{site_by, source_by};

@@ -1,7 +1,7 @@
 //! The lines about a C text.
 ghost use Rattle.std.specs.Prelude.{◌≡◌, ◌++◌, codes, OnOk};
 ghost use Rattle.std.specs.Fmt.{decimal};
-ghost use Rattle.ot_model.specs.ShapeView.{arrays_of};
+ghost use Rattle.ot_model.specs.Programs.{arrays_of};
 ghost use Rattle.ot_cjudge.specs.SiteView.{site_by};
 ghost use Rattle.ot_cjudge.specs.Reports.{here_line, other_line, only_run_line, kind_text, clause_text, advice, warning_line, reason_of, outside_line};
 

@@ -5,7 +5,7 @@ use Rattle.serde_json.specs.View.{view}
 use Rattle.ot_words.specs.declared.word.IntegerType.{IntegerType}
 use Rattle.ot_words.specs.declared.word.IntegerType.TheVariants.{Int, Unsigned, Long, UnsignedLong}
 use Rattle.ot_words.specs.declared.word.Name.{Name}
-use Rattle.ot_program.specs.Names.{is_name}
+use Rattle.ot_program.specs.Meanings.{is_name}
 use Rattle.ot_cread.specs.declared.sign.Sign.{Sign}
 use Rattle.ot_cread.specs.declared.tree.Operation.{Operation}
 use Rattle.ot_cread.specs.Tree.{E, Claim}

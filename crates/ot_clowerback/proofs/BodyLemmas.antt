@@ -5,11 +5,10 @@ use Rattle.std.proofs.lemmas.Bool.Decides.{nat_tests}
 use Rattle.std.proofs.lemmas.List.{append-nil, length-append, map-append}
 use Rattle.serde_json.specs.Data.{Data, string, array}
 use Rattle.serde_json.specs.View.{items_of}
-use Rattle.ot_model.specs.Cells.{same_cell, is_before}
-use Rattle.ot_model.specs.Shapes.{Arrays}
+use Rattle.ot_model.specs.Cells.{same_cell, is_before, AreInOrder, is_fold, same_mode, mode_in}
+use Rattle.ot_model.specs.Programs.{Arrays}
 use Rattle.ot_model.specs.Signs.{identifier, folds}
 use Rattle.ot_model.specs.Tree.{E, Literal, CellAt, Apply, PickFrom, S, Set, Fold, If, Task, Wait, Group, Body, End, Next, body_of}
-use Rattle.ot_model.specs.Uses.{AreInOrder, is_fold, same_mode, mode_in}
 use Rattle.ot_model.specs.declared.expr.Cell.{Cell}
 use Rattle.ot_model.specs.declared.expr.Op.TheVariants as op
 use Rattle.ot_model.specs.declared.fold.Fold.{Fold as Operation}
@@ -18,14 +17,12 @@ use Rattle.ot_model.specs.declared.stmt.Mode.{Mode}
 use Rattle.ot_model.specs.declared.stmt.Mode.TheVariants as modes
 use Rattle.ot_model.specs.declared.stmt.Use.{Use}
 use Rattle.ot_print.specs.Laws.{OnlyDepends, CellsFit, fold_as_shown}
-use Rattle.ot_print.specs.Sections.{cells_in, alone}
-use Rattle.ot_print.specs.Shown.{Text, name}
+use Rattle.ot_print.specs.Shown.{cells_in, alone, Text, name}
 use Rattle.ot_program.specs.Copies.{copies}
 use Rattle.ot_program.specs.Printed.{one, two, three, four, cell_text, value_text}
-use Rattle.ot_c.specs.Clauses.{pointer}
+use Rattle.ot_c.specs.Statements.{pointer, is_mode, only_folds, put, put_all, each_once}
 use Rattle.ot_c.specs.Laws.{UsesFit, is_nothing, normal_statement, normal}
 use Rattle.ot_c.specs.Named.{is_array, value_names, uses_name, cells_name, statement_names, body_names}
-use Rattle.ot_c.specs.Statements.{is_mode, only_folds, put, put_all, each_once}
 use Rattle.ot_words.specs.declared.word.IntegerType.TheVariants as t
 use Rattle.ot_words.specs.declared.word.Name.{Name}
 use Rattle.ot_cread.specs.Tree as values
@@ -39,11 +36,10 @@ use Rattle.ot_cdeclare.specs.Places.{byte_of}
 use Rattle.ot_clower.specs.Lines.{L, Lowered, Took}
 use Rattle.ot_clower.specs.Statements.{Origin, region_at, waits, wait_for, statement, body_from}
 use Rattle.ot_cback.specs.Numbering.{name_of}
-use Rattle.ot_cback.specs.Values.{tree_of}
+use Rattle.ot_cback.specs.Values.{tree_of, Fits}
 use Rattle.ot_cback.specs.Assignments.{set_words, set_tree, fold_form, folded_tree}
 use Rattle.ot_cback.specs.Clauses.{In, Out, Clause, Lists, Goes, Reduces, Combines, pointer_entry, claim, in_mode, reducing, folding, clauses}
 use Rattle.ot_cback.specs.Groups.{pointer_trees}
-use Rattle.ot_cback.specs.Values.{Fits}
 use Rattle.ot_cback.specs.Bodies.{statement_tree, body_trees}
 use Rattle.ot_cback.proofs.WaitLemmas.{AllDepend}
 use Rattle.ot_clowerback.specs.Known.{KnowsArrays, KnowsPointers, ValueKnown, UsesKnown, StatementKnown, BodyKnown, CellsPointed, StatementPointed, BodyPointed, opening, IsUntouched, ReadsUntouched}

@@ -2,7 +2,7 @@
 use Rattle.std.proofs.Common.{◌≡◌, ℕ, zero, suc, ◌+◌, List, [], ◌∷◌, ◌++◌, Bool, true, false, if◌then◌else◌, refl, ap, ◌∙◌, append_assoc}
 use Rattle.std.proofs.lemmas.List.{append-nil}
 use Rattle.ot_model.specs.Signs.{folds}
-use Rattle.ot_model.specs.Uses.{same_mode}
+use Rattle.ot_model.specs.Cells.{same_mode}
 use Rattle.ot_model.specs.declared.expr.Cell.{Cell}
 use Rattle.ot_model.specs.declared.expr.Section.{Section}
 use Rattle.ot_model.specs.declared.fold.Fold.{Fold as Operation}
@@ -11,8 +11,8 @@ use Rattle.ot_model.specs.declared.stmt.Mode.{Mode}
 use Rattle.ot_model.specs.declared.stmt.Mode.TheVariants as modes
 use Rattle.ot_model.specs.declared.stmt.Use.{Use}
 use Rattle.ot_print.specs.Laws.{OnlyDepends}
-use Rattle.ot_print.specs.Sections.{cells_in, sections_of, cells_of, row, behind, alone, longer, goes_on}
-use Rattle.ot_c.specs.Clauses.{is_long, short}
+use Rattle.ot_print.specs.Shown.{cells_in, sections_of, cells_of, row, behind, alone, longer, goes_on}
+use Rattle.ot_c.specs.Statements.{is_long, short}
 use Rattle.ot_c.specs.Named.{is_array, uses_name}
 use Rattle.ot_cback.specs.Clauses.{Direction, In, Out, Clause, Lists, Goes, Reduces, Combines, listed, over_long, in_mode, folding, clauses}
 use Rattle.ot_cback.proofs.WaitLemmas.{AllDepend, none_folded}

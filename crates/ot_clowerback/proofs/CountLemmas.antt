@@ -3,9 +3,8 @@ use Rattle.std.proofs.Common.{◌≡◌, ℕ, zero, suc, ◌+◌, ◌*◌, List,
 use Rattle.std.specs.Prelude.{Option}
 use Rattle.std.specs.List.{list_any}
 use Rattle.std.proofs.lemmas.Bool.Decides.{nat_tests}
-use Rattle.ot_model.specs.Cells.{same_cell}
+use Rattle.ot_model.specs.Cells.{same_cell, AreInOrder, mode_in, is_fold, same_mode}
 use Rattle.ot_model.specs.Signs.{folds}
-use Rattle.ot_model.specs.Uses.{AreInOrder, mode_in, is_fold, same_mode}
 use Rattle.ot_model.specs.declared.expr.Cell.{Cell}
 use Rattle.ot_model.specs.declared.expr.Section.{Section}
 use Rattle.ot_model.specs.declared.fold.Fold.{Fold as Operation}
@@ -14,10 +13,9 @@ use Rattle.ot_model.specs.declared.stmt.Mode.{Mode}
 use Rattle.ot_model.specs.declared.stmt.Mode.TheVariants as modes
 use Rattle.ot_model.specs.declared.stmt.Use.{Use}
 use Rattle.ot_model.proofs.EqualLemmas.{cell-decides, mode-decides}
-use Rattle.ot_print.specs.Sections.{cells_in, sections_of, cells_of, row}
+use Rattle.ot_print.specs.Shown.{cells_in, sections_of, cells_of, row}
 use Rattle.ot_print.proofs.SectionLemmas.{comes_back}
-use Rattle.ot_c.specs.Clauses.{is_long, short}
-use Rattle.ot_c.specs.Statements.{is_mode, only_folds}
+use Rattle.ot_c.specs.Statements.{is_long, short, is_mode, only_folds}
 use Rattle.ot_c.proofs.OrderLemmas.{has, AreSorted, sorted_in}
 use Rattle.ot_clowerback.proofs.UsesLemmas.{same_itself, not_below, below_in, sorted_cells, cells, in_row}
 

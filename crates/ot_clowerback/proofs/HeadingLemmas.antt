@@ -8,12 +8,11 @@ use Rattle.std.proofs.lemmas.List.{append-nil}
 use Rattle.std.proofs.lemmas.List.Sums.{sum_by-cons}
 use Rattle.serde_json.specs.Data.{Data}
 use Rattle.ot_model.specs.Cells.{same_cell}
-use Rattle.ot_model.specs.Shapes.{Arrays}
+use Rattle.ot_model.specs.Programs.{Arrays}
 use Rattle.ot_model.specs.declared.expr.Cell.{Cell}
 use Rattle.ot_model.specs.declared.expr.Section.{Section}
 use Rattle.ot_model.specs.declared.fold.Fold.{Fold as Operation}
-use Rattle.ot_print.specs.Sections.{row, alone}
-use Rattle.ot_print.specs.Shown.{Text, name}
+use Rattle.ot_print.specs.Shown.{row, alone, Text, name}
 use Rattle.ot_words.specs.Names.{known_of}
 use Rattle.ot_words.specs.declared.word.IntegerType.TheVariants as t
 use Rattle.ot_words.specs.declared.word.Name.{Name}

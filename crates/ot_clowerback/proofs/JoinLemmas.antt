@@ -4,10 +4,9 @@ use Rattle.std.specs.Prelude.{codes}
 use Rattle.std.specs.List.{list_any}
 use Rattle.std.proofs.lemmas.List.{append-nil, map-append}
 use Rattle.serde_json.specs.Data.{Data, string, array}
-use Rattle.ot_model.specs.Cells.{same_cell}
-use Rattle.ot_model.specs.Shapes.{Arrays}
+use Rattle.ot_model.specs.Cells.{same_cell, AreInOrder, same_fold, same_mode}
+use Rattle.ot_model.specs.Programs.{Arrays}
 use Rattle.ot_model.specs.Signs.{folds, identifier}
-use Rattle.ot_model.specs.Uses.{AreInOrder, same_fold, same_mode}
 use Rattle.ot_model.specs.declared.expr.Cell.{Cell}
 use Rattle.ot_model.specs.declared.expr.Section.{Section}
 use Rattle.ot_model.specs.declared.fold.Fold.{Fold as Operation}
@@ -16,8 +15,7 @@ use Rattle.ot_model.specs.declared.stmt.Mode.TheVariants as modes
 use Rattle.ot_model.specs.declared.stmt.Use.{Use}
 use Rattle.ot_model.proofs.EqualLemmas.{cell-decides, fold-decides, mode-decides}
 use Rattle.ot_model.proofs.OrderLemmas.{precedes_apart}
-use Rattle.ot_print.specs.Sections.{cells_in, alone}
-use Rattle.ot_print.specs.Shown.{Text}
+use Rattle.ot_print.specs.Shown.{cells_in, alone, Text}
 use Rattle.ot_program.specs.Printed.{three, name_at, section_text}
 use Rattle.ot_c.specs.Statements.{only_folds}
 use Rattle.ot_c.proofs.OrderLemmas.{has, Below, AreSorted, sorted_in}

@@ -5,16 +5,15 @@ use Rattle.std.proofs.lemmas.Bool.{lt-ltb}
 use Rattle.std.proofs.lemmas.Bool.Decides.{nat_tests}
 use Rattle.std.proofs.lemmas.List.{append-nil, map-append}
 use Rattle.serde_json.specs.Data.{Data, string, array}
-use Rattle.ot_model.specs.Shapes.{Arrays}
+use Rattle.ot_model.specs.Programs.{Arrays}
 use Rattle.ot_model.specs.declared.expr.Cell.{Cell}
 use Rattle.ot_model.specs.declared.expr.Section.{Section}
 use Rattle.ot_model.specs.declared.stmt.Mode.{Mode}
 use Rattle.ot_model.specs.declared.stmt.Mode.TheVariants as modes
 use Rattle.ot_model.specs.declared.stmt.Use.{Use}
 use Rattle.ot_print.specs.Laws.{CellsFit}
-use Rattle.ot_print.specs.Sections.{cells_in, sections_of, cells_of, alone}
-use Rattle.ot_print.specs.Shown.{Text}
-use Rattle.ot_c.specs.Clauses.{is_long, short}
+use Rattle.ot_print.specs.Shown.{cells_in, sections_of, cells_of, alone, Text}
+use Rattle.ot_c.specs.Statements.{is_long, short}
 use Rattle.ot_c.specs.Laws.{UsesFit}
 use Rattle.ot_c.proofs.DependenceLemmas.{SectionFits, SectionsFit, short_fit, cells_fit, sections_fit, small_in}
 use Rattle.ot_program.specs.Meanings.{Bindings, Clause as Meant, size, section}

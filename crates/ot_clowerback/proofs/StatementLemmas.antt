@@ -2,7 +2,7 @@
 use Rattle.std.proofs.Common.{◌≡◌, ℕ, List, [], ◌∷◌, Bool, true, false, ◌||◌, Some, None, Ok, refl}
 use Rattle.std.specs.Prelude.{codes, IfSome, if◌then◌else◌}
 use Rattle.serde_json.specs.Data.{Data, string}
-use Rattle.ot_model.specs.Shapes.{Arrays}
+use Rattle.ot_model.specs.Programs.{Arrays}
 use Rattle.ot_model.specs.Tree.{E, CellAt, Apply, Set, Fold, Wait}
 use Rattle.ot_model.specs.declared.expr.Cell.{Cell}
 use Rattle.ot_model.specs.declared.expr.Op.TheVariants as op
@@ -12,11 +12,10 @@ use Rattle.ot_model.specs.declared.stmt.Use.{Use}
 use Rattle.ot_print.specs.Shown.{Text, name}
 use Rattle.ot_print.specs.Laws.{fold_as_shown}
 use Rattle.ot_program.specs.Printed.{name_at, cell_text, value_text, statement_text}
-use Rattle.ot_program.specs.Profiles.{profile_of}
-use Rattle.ot_c.specs.Clauses.{pointer}
+use Rattle.ot_program.specs.Meanings.{profile_of}
+use Rattle.ot_c.specs.Statements.{pointer, only_folds}
 use Rattle.ot_c.specs.Laws.{normal_fold}
 use Rattle.ot_c.specs.Named.{is_array, value_names}
-use Rattle.ot_c.specs.Statements.{only_folds}
 use Rattle.ot_words.specs.declared.word.IntegerType.{IntegerType}
 use Rattle.ot_words.specs.declared.word.IntegerType.TheVariants as t
 use Rattle.ot_words.specs.declared.word.Name.{Name}

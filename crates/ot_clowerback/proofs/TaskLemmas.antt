@@ -4,10 +4,9 @@ use Rattle.std.specs.Prelude.{fold}
 use Rattle.std.specs.List.{list_any, list_all}
 use Rattle.std.proofs.lemmas.List.{append-nil, map-append}
 use Rattle.serde_json.specs.Data.{Data}
-use Rattle.ot_model.specs.Cells.{same_cell, is_before}
-use Rattle.ot_model.specs.Shapes.{Arrays}
+use Rattle.ot_model.specs.Cells.{same_cell, is_before, AreInOrder}
+use Rattle.ot_model.specs.Programs.{Arrays}
 use Rattle.ot_model.specs.Signs.{folds}
-use Rattle.ot_model.specs.Uses.{AreInOrder}
 use Rattle.ot_model.specs.declared.expr.Cell.{Cell}
 use Rattle.ot_model.specs.declared.expr.Section.{Section}
 use Rattle.ot_model.specs.declared.fold.Fold.{Fold as Operation}
@@ -15,13 +14,11 @@ use Rattle.ot_model.specs.declared.stmt.Mode.{Mode}
 use Rattle.ot_model.specs.declared.stmt.Mode.TheVariants as modes
 use Rattle.ot_model.specs.declared.stmt.Use.{Use}
 use Rattle.ot_model.proofs.OrderLemmas.{precedes_apart}
-use Rattle.ot_print.specs.Sections.{cells_in, sections_of, cells_of, row, alone}
-use Rattle.ot_print.specs.Shown.{Text}
+use Rattle.ot_print.specs.Shown.{cells_in, sections_of, cells_of, row, alone, Text}
 use Rattle.ot_print.proofs.SectionLemmas.{comes_back}
-use Rattle.ot_program.specs.Declarations.{placed}
+use Rattle.ot_program.specs.Meanings.{placed}
 use Rattle.ot_program.specs.Printed.{section_text}
-use Rattle.ot_c.specs.Clauses.{is_long, short}
-use Rattle.ot_c.specs.Statements.{only_folds, put, put_all, each_once}
+use Rattle.ot_c.specs.Statements.{is_long, short, only_folds, put, put_all, each_once}
 use Rattle.ot_c.proofs.OrderLemmas.{has, long, Below, AreSorted}
 use Rattle.ot_words.specs.declared.word.IntegerType.TheVariants as t
 use Rattle.ot_words.specs.declared.word.Name.TheVariants as n

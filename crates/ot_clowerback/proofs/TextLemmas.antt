@@ -4,10 +4,10 @@ use Rattle.std.specs.Prelude.{codes, IfSome}
 use Rattle.std.proofs.lemmas.List.{map-append}
 use Rattle.serde_json.specs.Data.{Data, string, array}
 use Rattle.serde_json.specs.View.{items_of}
-use Rattle.ot_model.specs.Shapes.{Arrays}
+use Rattle.ot_model.specs.Programs.{Arrays}
 use Rattle.ot_model.specs.Signs.{identifier, folds}
 use Rattle.ot_model.specs.Tree.{E, Literal, CellAt, Apply, PickFrom, S, Set, Fold, If, Task, Wait, Group, body_of}
-use Rattle.ot_model.specs.Uses.{AreInOrder, same_mode}
+use Rattle.ot_model.specs.Cells.{AreInOrder, same_mode}
 use Rattle.ot_model.specs.declared.expr.Cell.{Cell}
 use Rattle.ot_model.specs.declared.fold.Fold.{Fold as Operation}
 use Rattle.ot_model.specs.declared.fold.Fold.TheVariants as f
@@ -15,14 +15,11 @@ use Rattle.ot_model.specs.declared.stmt.Mode.{Mode}
 use Rattle.ot_model.specs.declared.stmt.Mode.TheVariants as modes
 use Rattle.ot_model.specs.declared.stmt.Use.{Use}
 use Rattle.ot_print.specs.Laws.{OnlyDepends, CellsFit}
-use Rattle.ot_print.specs.Sections.{cells_in, alone}
-use Rattle.ot_print.specs.Shown.{Text}
+use Rattle.ot_print.specs.Shown.{cells_in, alone, Text}
 use Rattle.ot_c.specs.Laws.{UsesFit}
 use Rattle.ot_program.specs.Copies.{copies, copies_of, copy, statements_of}
-use Rattle.ot_program.specs.Declarations.{uses}
-use Rattle.ot_program.specs.Meanings.{Bindings, Clause as Meant, each, section, clause, wait_clause}
+use Rattle.ot_program.specs.Meanings.{uses, Bindings, Clause as Meant, each, section, clause, wait_clause, profile_of}
 use Rattle.ot_program.specs.Printed.{one, two, three, four, cell_text, section_text, value_text, cells_text, IsValue, AreCells}
-use Rattle.ot_program.specs.Profiles.{profile_of}
 use Rattle.ot_program.proofs.PrintedBack.{cell_back, section_back, value_back, cells_back, fold_back}
 use Rattle.ot_cback.specs.Values.{Fits}
 use Rattle.ot_cback.specs.Clauses.{Direction, In, Out, in_mode}

@@ -4,11 +4,10 @@ use Rattle.std.specs.Prelude.{◌==◌, ◌-◌, nat_le, nat_lt, flat_map, fold,
 use Rattle.std.specs.List.{list_any, range_with_len}
 use Rattle.std.proofs.lemmas.Bool.Decides.{nat_tests}
 use Rattle.std.proofs.lemmas.List.Folds.{list_any-append}
-use Rattle.ot_model.specs.Cells.{same_cell, is_before}
+use Rattle.ot_model.specs.Cells.{same_cell, is_before, Precedes, AreInOrder, same_mode}
 use Rattle.ot_model.specs.Signs.{folds}
-use Rattle.ot_model.specs.Uses.{Precedes, AreInOrder, same_mode}
-use Rattle.ot_model.specs.Value.{cell_at}
-use Rattle.ot_model.specs.Value as value
+use Rattle.ot_model.specs.Tree.{cell_at}
+use Rattle.ot_model.specs.Tree as value
 use Rattle.ot_model.specs.declared.expr.Cell.{Cell}
 use Rattle.ot_model.specs.declared.expr.Section.{Section}
 use Rattle.ot_model.specs.declared.fold.Fold.{Fold as Operation}
@@ -18,12 +17,11 @@ use Rattle.ot_model.specs.declared.stmt.Mode.TheVariants as modes
 use Rattle.ot_model.specs.declared.stmt.Use.{Use}
 use Rattle.ot_model.proofs.OrderLemmas.{precedes_trans, precedes_apart, precedes_from_before}
 use Rattle.ot_model.proofs.EqualLemmas.{cell-decides}
-use Rattle.ot_print.specs.Sections.{cells_in, sections_of, cells_of, row, alone}
+use Rattle.ot_print.specs.Shown.{cells_in, sections_of, cells_of, row, alone}
 use Rattle.ot_print.proofs.SectionLemmas.{comes_back}
-use Rattle.ot_c.specs.Clauses.{is_long, short}
+use Rattle.ot_c.specs.Statements.{is_long, short}
 use Rattle.ot_c.proofs.OrderLemmas.{has, long, Below, AreSorted, same_cells}
-use Rattle.ot_program.specs.Declarations.{placed, named_cells, names, named_as, first_fold, mode_among, uses}
-use Rattle.ot_program.specs.Meanings.{Clause}
+use Rattle.ot_program.specs.Meanings.{placed, named_cells, names, named_as, first_fold, mode_among, uses, Clause}
 
 -- ---- whether a cell is among others
 

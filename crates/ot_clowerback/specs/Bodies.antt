@@ -2,16 +2,15 @@
 use Rattle.std.specs.Prelude.{◌≡◌, ℕ, ◌<◌, List, [], ◌∷◌, ◌++◌, length, map, IfSome, Some, None, Ok}
 use Rattle.serde_json.specs.Data.{Data, array}
 use Rattle.serde_json.specs.View.{items_of}
-use Rattle.ot_model.specs.Shapes.{Arrays}
+use Rattle.ot_model.specs.Programs.{Arrays}
 use Rattle.ot_model.specs.Tree.{S, Set, Fold, If, Task, Wait, Group, Body, End, Next, CellAt, body_of}
-use Rattle.ot_model.specs.Uses.{AreInOrder}
+use Rattle.ot_model.specs.Cells.{AreInOrder}
 use Rattle.ot_print.specs.Laws.{CellsFit}
 use Rattle.ot_print.specs.Shown.{Text}
 use Rattle.ot_c.specs.Laws.{UsesFit}
 use Rattle.ot_program.specs.Copies.{copies, statements_of}
-use Rattle.ot_program.specs.Meanings.{Bindings}
+use Rattle.ot_program.specs.Meanings.{Bindings, profile_of}
 use Rattle.ot_program.specs.Printed.{IsFound}
-use Rattle.ot_program.specs.Profiles.{profile_of}
 use Rattle.ot_cread.specs.declared.tree.Role.{Role}
 use Rattle.ot_cread.specs.declared.tree.Role.TheVariants as r
 use Rattle.ot_cread.specs.Tree.{Entry, Claim}

@@ -1,16 +1,15 @@
 -- What names mean where a program's arrays are declared, and the types that values have in C.
 use Rattle.std.specs.Prelude.{◌≡◌, ℕ, Bool, true, false, if◌then◌else◌, List, [], ◌∷◌, Some, codes}
 use Rattle.serde_json.specs.Data.{Data, string}
-use Rattle.ot_model.specs.Shapes.{Arrays}
+use Rattle.ot_model.specs.Programs.{Arrays}
 use Rattle.ot_model.specs.Tree.{E, Literal, CellAt, Apply, PickFrom, S, Set, Fold, If, Task, Wait, Group, Body, End, Next}
 use Rattle.ot_model.specs.declared.expr.Cell.{Cell}
 use Rattle.ot_model.specs.declared.fold.Fold.{Fold as Operation}
 use Rattle.ot_model.specs.declared.stmt.Use.{Use}
 use Rattle.ot_print.specs.Shown.{Text, name}
 use Rattle.ot_program.specs.Printed.{name_at}
-use Rattle.ot_c.specs.Clauses.{pointer}
+use Rattle.ot_c.specs.Statements.{pointer, each_once}
 use Rattle.ot_c.specs.Named.{value_names, uses_name, statement_names, body_names}
-use Rattle.ot_c.specs.Statements.{each_once}
 use Rattle.ot_c.specs.Values.{is_comparison}
 use Rattle.ot_words.specs.declared.word.IntegerType.{IntegerType}
 use Rattle.ot_words.specs.declared.word.IntegerType.TheVariants as t

@@ -1,6 +1,6 @@
 -- What becomes of trees that are written in C.
 use Rattle.std.specs.Prelude.{◌≡◌, ℕ, ◌≤◌, Bool, true, false, List, [], length, IfSome, None, Ok}
-use Rattle.ot_model.specs.Shapes.{Arrays}
+use Rattle.ot_model.specs.Programs.{Arrays}
 use Rattle.ot_model.specs.Tree.{E, Set, Fold, Wait, Body}
 use Rattle.ot_model.specs.declared.expr.Cell.{Cell}
 use Rattle.ot_model.specs.declared.fold.Fold.{Fold as Operation}
@@ -8,7 +8,7 @@ use Rattle.ot_model.specs.declared.stmt.Use.{Use}
 use Rattle.ot_print.specs.Laws.{OnlyDepends}
 use Rattle.ot_print.specs.Shown.{Text, name}
 use Rattle.ot_program.specs.Printed.{value_text, statement_text}
-use Rattle.ot_program.specs.Profiles.{profile_of}
+use Rattle.ot_program.specs.Meanings.{profile_of}
 use Rattle.ot_c.specs.Laws.{normal_fold, normal}
 use Rattle.ot_c.specs.Statements.{only_folds}
 use Rattle.ot_words.specs.declared.word.IntegerType.TheVariants as t

@@ -7,7 +7,7 @@ use Rattle.clap.specs.Matches.{ReadsOne, one_text}
 use Rattle.clap.specs.Walk.{Text, one_of, rows_of}
 use Rattle.clap.specs.declared.parser.matches.Found.{Found}
 use Rattle.clap.proofs.WalkLemmas.{one_text-rows}
-use Rattle.ot_commands.specs.Matched.{IsRead, within}
+use Rattle.ot_commands.specs.Rules.{IsRead, within}
 
 -- a number in its range stays
 within-some : (most v : ℕ) → 1 ≤ v → v ≤ most → within most (Some v) ≡ Some v

@@ -1,7 +1,7 @@
 //! What `clap` finds under the name of an argument.
 ghost use Rattle.std.specs.Prelude.{◌≡◌, ◌≤◌, [], map, string_bytes, unwrap_or, IfOk, IfSome};
 ghost use Rattle.clap.specs.Words.{all_of, first_of, found_of, one_of, rows_of};
-ghost use Rattle.ot_commands.specs.Matched.{IsRead, IsSaid, within};
+ghost use Rattle.ot_commands.specs.Rules.{IsRead, IsSaid, within};
 
 use clap::ArgMatches;
 use std::alloc::{AllocError, Global};

@@ -2,14 +2,12 @@
 use Rattle.std.proofs.Common.{◌≡◌, ◌∙◌, ℕ, ◌+◌, Bool, true, false, List, [], ◌∷◌, ◌++◌, length, map, refl, sym, ap}
 use Rattle.std.specs.Prelude.{◌||◌, ◌==◌, cond, not, if◌then◌else◌, Option, Some, None, unwrap_or}
 use Rattle.std.proofs.lemmas.List.{map-append}
-use Rattle.ot_model.specs.Tree.{S, Set, Fold, If, Task, Wait, Group, Body, End, Next}
-use Rattle.ot_model.specs.Counts.{size, size_one}
+use Rattle.ot_model.specs.Tree.{S, Set, Fold, If, Task, Wait, Group, Body, End, Next, size, size_one}
 use Rattle.ot_model.specs.Serial.{State, bump}
-use Rattle.ot_model.specs.Uses.{is_fold}
+use Rattle.ot_model.specs.Cells.{is_fold}
 use Rattle.ot_model.specs.declared.stmt.Mode.TheVariants.{Writes}
 use Rattle.ot_model.specs.declared.stmt.Use.{Use}
-use Rattle.ot_check.specs.Offences.{Declared}
-use Rattle.ot_check.specs.Paths.{use_as}
+use Rattle.ot_check.specs.Offences.{Declared, use_as}
 use Rattle.ot_race.specs.Events.{Event, event, Touches, Begins, Leaves, Way, uses_by, events, events_one, events_of, beginning, after_one}
 use Rattle.ot_corder.specs.Instead.{instead}
 use Rattle.ot_corder.specs.Orders.{depend_of, event_in_c, has_fold, folds_in, folds_in_one, ordered_by, is_alike}

@@ -1,7 +1,7 @@
 -- What makes dependences is in order.
 use Rattle.std.proofs.Common.{Bool, true, false, List, [], ◌∷◌}
 use Rattle.std.specs.Prelude.{cond, not}
-use Rattle.ot_model.specs.Uses.{Precedes, AreInOrder, is_fold}
+use Rattle.ot_model.specs.Cells.{Precedes, AreInOrder, is_fold}
 use Rattle.ot_model.specs.declared.expr.Cell.{Cell}
 use Rattle.ot_model.specs.declared.stmt.Use.{Use}
 use Rattle.ot_model.proofs.OrderLemmas.{precedes_trans, rest_in_order}

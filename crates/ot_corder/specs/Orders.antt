@@ -2,7 +2,7 @@
 use Rattle.std.specs.Prelude.{Bool, true, false, List, map, filter, not, ◌||◌}
 use Rattle.std.specs.List.{list_any}
 use Rattle.ot_model.specs.Tree.{S, Set, Fold, If, Task, Wait, Group, Body, End, Next}
-use Rattle.ot_model.specs.Uses.{is_fold}
+use Rattle.ot_model.specs.Cells.{is_fold}
 use Rattle.ot_model.specs.declared.stmt.Use.{Use}
 use Rattle.ot_race.specs.Events.{Deed, Touches, Begins, Awaits, Leaves, Event, event}
 use Rattle.ot_corder.specs.declared.order.Order.{Order}

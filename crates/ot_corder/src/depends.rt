@@ -1,6 +1,6 @@
 //! What events declare in C.
-ghost use Rattle.std.specs.Prelude.{◌≡◌, IfOk};
-ghost use Rattle.ot_corder.specs.Orders.{depend_of};
+ghost use Rattle.std.specs.Prelude.{◌≡◌, IfOk, map};
+ghost use Rattle.ot_corder.specs.Orders.{depend_of, has_fold};
 
 use ot_model::{Decl, Mode};
 use std::alloc::{AllocError, Global};
@@ -18,8 +18,6 @@ fn depend_of(alloc: Global, decl: &Decl) -> Result<Decl, AllocError>
     Ok(Decl::new(kept))
 }
 
-ghost use Rattle.ot_corder.specs.Orders.{has_fold};
-
 /// Whether a declaration has a fold.
 pub(crate) fn has_fold(decl: &Decl) -> bool
     ensures { result ≡ has_fold decl.now }
@@ -27,7 +25,7 @@ pub(crate) fn has_fold(decl: &Decl) -> bool
     decl.uses().iter().any(|used| is_fold(used.mode))
 }
 
-ghost use Rattle.ot_model.specs.Uses.{is_fold};
+ghost use Rattle.ot_model.specs.Cells.{is_fold};
 
 fn is_fold(mode: Mode) -> bool
     ensures { result ≡ is_fold mode }
@@ -35,7 +33,6 @@ fn is_fold(mode: Mode) -> bool
     matches!(mode, Mode::Folds(_))
 }
 
-ghost use Rattle.std.specs.Prelude.{map};
 ghost use Rattle.ot_corder.specs.Instead.{instead};
 ghost use Rattle.ot_race.specs.View.{deed_of, events_in};
 

@@ -1,8 +1,8 @@
 //! The judge of a list of events, by what orders tasks.
-ghost use Rattle.std.specs.Prelude.{◌<◌, ◌^◌, IfOk, length};
+ghost use Rattle.std.specs.Prelude.{◌<◌, ◌^◌, IfOk, length, ◌≡◌, map, unwrap_or};
 ghost use Rattle.ot_race.specs.Races.{TellsFirst};
-ghost use Rattle.ot_race.specs.View.{events_in};
-ghost use Rattle.ot_corder.specs.Orders.{ordered_by};
+ghost use Rattle.ot_race.specs.View.{events_in, deed_of};
+ghost use Rattle.ot_corder.specs.Orders.{ordered_by, event_in_c, deed_in_c};
 
 use crate::depends::declared_by;
 use crate::order::Order;
@@ -25,9 +25,6 @@ pub fn judge_by(
     }
 }
 
-ghost use Rattle.std.specs.Prelude.{◌≡◌, map};
-ghost use Rattle.ot_race.specs.View.{deed_of};
-ghost use Rattle.ot_corder.specs.Orders.{event_in_c, deed_in_c};
 ghost use Rattle.ot_corder.specs.Instead.{instead};
 
 fn judge_in_c(alloc: Global, events: Vec<Event<'_>>) -> Result<Option<Race>, AllocError>
@@ -62,8 +59,6 @@ fn deed_in_c<'d>(deed: Deed<'d>, own: &'d Option<Decl>) -> Deed<'d>
         Deed::Leaves(count) => Deed::Leaves(count),
     }
 }
-
-ghost use Rattle.std.specs.Prelude.{unwrap_or};
 
 /// What stands for a declaration, or the declaration itself.
 fn kept_of<'d>(decl: &'d Decl, own: &'d Option<Decl>) -> &'d Decl

@@ -9,19 +9,16 @@ use Rattle.std.proofs.lemmas.Option.{none-some, same_Some, slice_get_within, sli
 use Rattle.std.proofs.lemmas.List.{length-map, length-take, length-append, map-append, take-append-le, take_more, get_or_append_left}
 use Rattle.ot_model.specs.Programs.{expanded_of}
 use Rattle.ot_check.specs.Jobs.{Spec}
-use Rattle.ot_book.specs.Answers.{State, opening, answers, answer_or_lost, is_checkpoint}
-use Rattle.ot_book.specs.Books.{Register, IsOpenFor, max_number, appended, cleared, logged, opened, open_line, state_in}
-use Rattle.ot_book.specs.Opening.{IsFullFor, AnswersNow, OpensLine}
+use Rattle.ot_book.specs.Answers.{State, opening, answers, answer_or_lost, is_checkpoint, Told, is_lost}
+use Rattle.ot_book.specs.Books.{Register, IsOpenFor, max_number, appended, cleared, logged, opened, open_line, state_in, IsFullFor, AnswersNow, OpensLine}
 use Rattle.ot_book.specs.declared.book.Opened.{Opened}
 use Rattle.ot_book.specs.declared.book.Opened.TheVariants.{Full, Answered, ToRun}
-use Rattle.ot_book.specs.Replies.{Told, is_lost}
 use Rattle.ot_book.specs.Room.{Room, takes, with_entry, empty_room, room_after, TakesAll}
 use Rattle.ot_book.proofs.BookLemmas.{answers-more, is_lost-answer_or_lost, state-cleared, state-logged, logged-by, runs-other}
 use Rattle.ot_book.proofs.RoomLemmas.{room-logged, takes-free, room_after-append, takes_all-more, takes_all-at}
-use Rattle.ot_core.specs.Accounts.{Account, told, answered, marked, first_room, room_asked, IsSound}
+use Rattle.ot_core.specs.Accounts.{Account, told, answered, marked, first_room, room_asked, IsSound, IsUnopened, Waits, with_reply, with_open, next_line}
 use Rattle.ot_core.specs.AccountView.{account_of, IsTenant}
 use Rattle.ot_core.specs.declared.tenant.Tenant.TheInside.{Inside}
-use Rattle.ot_core.specs.Asking.{IsUnopened, Waits, with_reply, with_open, next_line}
 
 bool_code : Coded Bool
 bool_code = Prim.hlevel codes

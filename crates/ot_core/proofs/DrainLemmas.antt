@@ -8,20 +8,14 @@ use Rattle.std.proofs.lemmas.Bool.Decides.{nat_tests}
 use Rattle.std.proofs.lemmas.List.Sums.{sum_by-set, sum_by-cons}
 use Rattle.std.proofs.lemmas.Option.{slice_get_within, get_or_from_slice_get, none-some, same_Some}
 use Rattle.ot_check.specs.Jobs.{Spec}
-use Rattle.ot_job.specs.Live.{Live}
-use Rattle.ot_job.specs.States.{claimable_in}
-use Rattle.ot_job.specs.Dealings.{NoneOut, after_failure, state_of, weight_of, out_of, work_at}
+use Rattle.ot_job.specs.Dealings.{Live, claimable_in, NoneOut, after_failure, state_of, weight_of, out_of, work_at}
 use Rattle.ot_job.specs.declared.state.State.{State}
 use Rattle.ot_job.specs.declared.state.State.TheVariants.{Working, Failing, Ended, Failed}
 use Rattle.ot_job.proofs.DealingsLemmas.{starts-fresh, claimed-gives, settles-pays, fails-breaks}
-use Rattle.ot_core.specs.Accounts.{Account, answered}
-use Rattle.ot_core.specs.Asking.{IsUnopened, with_reply}
-use Rattle.ot_core.specs.Index.{job_of}
-use Rattle.ot_core.specs.Floors.{units_of}
-use Rattle.ot_core.specs.Scenes.{Scene, IsScene, IsHeld, hand_of, out_at, seat_of}
-use Rattle.ot_core.specs.Steps.{moved, handed, OpensFor, RepliesTo, StartsFor, Finishes, CanOpen, CannotReply, Steps}
-use Rattle.ot_core.specs.Toil.{toil, toil_of, toil_by, unopened, one_if, free_hand}
-use Rattle.ot_core.specs.Draining.{opens_of, closed_by, over_of, over_by, claimable_of, moves_at, full_hand, sum_below, count_of, IsMove, MayStart, MayFinish, IsLively, LivelyAt, AllAnswered}
+use Rattle.ot_core.specs.Accounts.{Account, answered, IsUnopened, with_reply}
+use Rattle.ot_core.specs.Floors.{job_of, units_of}
+use Rattle.ot_core.specs.Scenes.{Scene, IsScene, IsHeld, hand_of, out_at, seat_of, moved, handed, OpensFor, RepliesTo, StartsFor, Finishes, CanOpen, CannotReply, Steps}
+use Rattle.ot_core.specs.Draining.{toil, toil_of, toil_by, unopened, one_if, free_hand, opens_of, closed_by, over_of, over_by, claimable_of, moves_at, full_hand, sum_below, count_of, IsMove, MayStart, MayFinish, IsLively, LivelyAt, AllAnswered}
 use Rattle.ot_core.specs.declared.held.Held.{Held}
 use Rattle.ot_core.specs.declared.event.Event.{Event}
 use Rattle.ot_core.specs.declared.event.Event.TheVariants as event

@@ -6,17 +6,12 @@ use Rattle.std.proofs.lemmas.List.{get_or_past, get_or_default, set-get_or}
 use Rattle.std.proofs.lemmas.Option.{same_Some, slice_get_read}
 use Rattle.ot_check.specs.Jobs.{Spec, IsMeaning}
 use Rattle.ot_check.specs.declared.job.Outcome.{Outcome}
-use Rattle.ot_job.specs.Live.{Live}
-use Rattle.ot_job.specs.States.{Fails as HasFailed, claimable_in, aborted}
-use Rattle.ot_job.specs.Claims.{Claimed}
-use Rattle.ot_job.specs.Settling.{Settles as HasSettled}
-use Rattle.ot_job.specs.Dealings.{IsOf, IsOver, NoneOut, state_of}
-use Rattle.ot_job.specs.Taken.{Taken as Piece}
-use Rattle.ot_job.specs.Taken.{Came as Done}
+use Rattle.ot_job.specs.Dealings.{Live, Fails as HasFailed, claimable_in, aborted, IsOf, IsOver, NoneOut, state_of}
+use Rattle.ot_job.specs.Moves.{Claimed, Settles as HasSettled}
+use Rattle.ot_job.specs.Taken.{Taken as Piece, Came as Done}
 use Rattle.ot_job.specs.declared.state.State.TheVariants.{Working, Failing, Ended, Failed}
 use Rattle.ot_job.proofs.DealingsLemmas.{claimed-gives}
-use Rattle.ot_core.specs.Index.{job_of, Begins}
-use Rattle.ot_core.specs.Floors.{Floor, with_job, IsFree, SubmitsFor, EntersFor, NothingAt, ClaimsFor, ClaimsOf, IsWorking, FailsIn, AbortsJob, HasJob, HasOver, LeavesFor, CollectsFor, SettlesFor, units_of}
+use Rattle.ot_core.specs.Floors.{job_of, Begins, Floor, with_job, IsFree, SubmitsFor, EntersFor, NothingAt, ClaimsFor, ClaimsOf, IsWorking, FailsIn, AbortsJob, HasJob, HasOver, LeavesFor, CollectsFor, SettlesFor, units_of}
 use Rattle.ot_core.specs.Turns.{RunsShort}
 use Rattle.ot_core.specs.declared.hall.Collected.TheVariants as collected
 

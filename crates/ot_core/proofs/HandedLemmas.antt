@@ -7,20 +7,14 @@ use Rattle.std.proofs.lemmas.List.{get_or-set_same, get_or-set_other, get_or_def
 use Rattle.std.proofs.lemmas.List.Elements.{All-from_get_or}
 use Rattle.std.proofs.lemmas.List.Sums.{sum_by-le}
 use Rattle.ot_check.specs.Jobs.{Spec}
-use Rattle.ot_job.specs.Live.{Live}
-use Rattle.ot_job.specs.States.{FailsBy, Fails as HasFailed, aborted}
-use Rattle.ot_job.specs.Dealings.{NoneOut, Returns, SameSpec, brought, work_at, state_of, settled_units}
-use Rattle.ot_job.specs.Taken.{Taken as Piece}
-use Rattle.ot_job.specs.Taken.{Came as Done}
+use Rattle.ot_job.specs.Dealings.{Live, FailsBy, Fails as HasFailed, aborted, NoneOut, Returns, SameSpec, brought, work_at, state_of, settled_units}
+use Rattle.ot_job.specs.Taken.{Taken as Piece, Came as Done}
 use Rattle.ot_job.specs.declared.state.State.{State}
 use Rattle.ot_job.specs.declared.state.State.TheVariants as state
 use Rattle.ot_job.proofs.DealingsLemmas.{claimed-gives, settles-pays, fails-breaks, aborted-aborts, work-out}
-use Rattle.ot_core.specs.Accounts.{Account, IsSound}
-use Rattle.ot_core.specs.Asking.{with_reply}
-use Rattle.ot_core.specs.Index.{job_of}
-use Rattle.ot_core.specs.Floors.{Floor, ClaimsFor, SettlesFor, FailsIn, AbortsJob, IsWorking, IsStrange, NothingAt, HasJob, with_job, with_settled, units_of, total_of}
-use Rattle.ot_core.specs.Scenes.{Scene, IsScene, Pairs, Agrees, hand_of, held_work, out_at}
-use Rattle.ot_core.specs.Steps.{handed, moved, HandTakes, GivesBack, BreaksJob, EndsJob, StopsJob, CannotReply, CannotStart, MayTake}
+use Rattle.ot_core.specs.Accounts.{Account, IsSound, with_reply}
+use Rattle.ot_core.specs.Floors.{job_of, Floor, ClaimsFor, SettlesFor, FailsIn, AbortsJob, IsWorking, IsStrange, NothingAt, HasJob, with_job, with_settled, units_of, total_of}
+use Rattle.ot_core.specs.Scenes.{Scene, IsScene, Pairs, Agrees, hand_of, held_work, out_at, handed, moved, HandTakes, GivesBack, BreaksJob, EndsJob, StopsJob, CannotReply, CannotStart, MayTake}
 use Rattle.ot_core.specs.declared.held.Held.{Held}
 use Rattle.ot_core.proofs.AccountLemmas.{answered-≤, none-from}
 use Rattle.ot_core.proofs.FloorLemmas.{job-within}

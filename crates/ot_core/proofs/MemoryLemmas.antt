@@ -2,8 +2,7 @@
 use Rattle.std.proofs.Common.{◌≡◌, ℕ, subst}
 use Rattle.std.specs.Prelude.{Result, Some, OnErr}
 use Rattle.std.proofs.lemmas.Result.{on_err_weaker}
-use Rattle.ot_core.specs.Scenes.{Scene, seat_of}
-use Rattle.ot_core.specs.Steps.{MayTake, MayRunOut, RunsOut}
+use Rattle.ot_core.specs.Scenes.{Scene, seat_of, MayTake, MayRunOut, RunsOut}
 use Rattle.ot_core.specs.declared.event.Event.{Event}
 use Rattle.ot_core.specs.declared.event.Event.TheVariants as event
 

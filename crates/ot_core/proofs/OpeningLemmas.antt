@@ -6,10 +6,9 @@ use Rattle.std.proofs.lemmas.Option.{none-some, same_Some, slice_get_within, sli
 use Rattle.std.proofs.lemmas.List.{length-replicate, length-map}
 use Rattle.ot_store.specs.Arrays.{Named}
 use Rattle.ot_store.specs.declared.limits.Limits.{Limits}
-use Rattle.ot_job.specs.Live.{Live}
+use Rattle.ot_job.specs.Dealings.{Live}
 use Rattle.ot_core.specs.Accounts.{Account, IsSound}
-use Rattle.ot_core.specs.Index.{job_of}
-use Rattle.ot_core.specs.Floors.{Floor, new_floor, units_of}
+use Rattle.ot_core.specs.Floors.{job_of, Floor, new_floor, units_of}
 use Rattle.ot_core.specs.Openings.{opening_of, new_scene}
 use Rattle.ot_core.specs.Scenes.{Scene, IsScene, Agrees, AreHeld, Pairs, out_at, units_in}
 use Rattle.ot_core.specs.declared.held.Held.{Held}

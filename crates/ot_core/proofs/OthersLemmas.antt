@@ -4,14 +4,11 @@ use Rattle.std.proofs.lemmas.Bool.{cases_eq, cases_lt}
 use Rattle.std.proofs.lemmas.Bool.Decides.{nat_tests}
 use Rattle.std.specs.Prelude.{◌==◌, Option, Some, None, Result, Ok, Err, IfOk, OnOk, slice_get, option_map, if◌then◌else◌, false}
 use Rattle.std.proofs.lemmas.List.{get_or-set_same, get_or-set_other, get_or_past, length-set}
-use Rattle.ot_job.specs.Live.{Live}
+use Rattle.ot_job.specs.Dealings.{Live, aborted}
 use Rattle.ot_job.specs.Taken.{Came as Done}
-use Rattle.ot_job.specs.States.{aborted}
 use Rattle.ot_core.specs.Accounts.{Account}
-use Rattle.ot_core.specs.Index.{job_of}
-use Rattle.ot_core.specs.Floors.{Floor, with_job, with_settled, units_of, SettlesFor}
-use Rattle.ot_core.specs.Scenes.{Scene, hand_of, seat_of}
-use Rattle.ot_core.specs.Steps.{moved, handed, AdmitsFor, OpensFor, StartsFor, Finishes, RepliesTo, AbortsFor, GivesBack, BreaksJob, Steps, IsAsItWas, LeavesOthers, of_tenant, holder}
+use Rattle.ot_core.specs.Floors.{job_of, Floor, with_job, with_settled, units_of, SettlesFor}
+use Rattle.ot_core.specs.Scenes.{Scene, hand_of, seat_of, moved, handed, AdmitsFor, OpensFor, StartsFor, Finishes, RepliesTo, AbortsFor, GivesBack, BreaksJob, Steps, IsAsItWas, LeavesOthers, of_tenant, holder}
 use Rattle.ot_core.specs.declared.held.Held.{Held}
 use Rattle.ot_core.specs.declared.event.Event.{Event}
 use Rattle.ot_core.specs.declared.event.Event.TheVariants as event

@@ -3,9 +3,8 @@ use Rattle.std.proofs.Common.{◌≡◌, ◌<◌, ◌+◌, ◌-◌, ◌++◌, mi
 use Rattle.std.specs.Prelude.{Option, Some, None, is_some, option_map, slice_get}
 use Rattle.std.proofs.lemmas.List.{at_drop_more, drop_min, nil_from_length, drop-drop, length-drop, length-take}
 use Rattle.std.proofs.lemmas.Option.{same_Some, slice_get_cases, slice_get-map}
-use Rattle.ot_book.specs.Answers.{numbered}
+use Rattle.ot_book.specs.Answers.{numbered, Told}
 use Rattle.ot_book.specs.Books.{number_at, reply_at}
-use Rattle.ot_book.specs.Replies.{Told}
 use Rattle.ot_book.specs.Room.{Room}
 use Rattle.ot_core.specs.Accounts.{Account, IsSound, told, answered, first_room}
 use Rattle.ot_core.specs.Given.{reply_in, replies_from}

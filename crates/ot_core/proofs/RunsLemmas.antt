@@ -1,9 +1,7 @@
 -- One step more.
 use Rattle.std.proofs.Common.{◌++◌, List, [], ◌∷◌, refl, subst}
-use Rattle.ot_core.specs.Scenes.{Scene}
-use Rattle.ot_core.specs.Steps.{Steps}
+use Rattle.ot_core.specs.Scenes.{Scene, Steps, RunsTo}
 use Rattle.std.proofs.lemmas.List.Elements.{All-push}
-use Rattle.ot_core.specs.Runs.{RunsTo}
 use Rattle.ot_core.specs.Draining.{Drains, IsDrainable, IsMove}
 use Rattle.ot_core.specs.declared.event.Event.TheVariants as event
 use Rattle.ot_core.specs.declared.event.Event.{Event}

@@ -6,15 +6,11 @@ use Rattle.std.proofs.lemmas.Option.{none-some, same_Some, slice_get_within, unw
 use Rattle.std.proofs.lemmas.List.{get_or-set_same, length-set}
 use Rattle.ot_check.specs.Jobs.{Spec}
 use Rattle.ot_check.proofs.GridLemmas.{slice_get-set_same, slice_get-set_other}
-use Rattle.ot_job.specs.Live.{Live}
-use Rattle.ot_job.specs.Dealings.{IsFresh, SameSpec, NoneOut, settled_units}
+use Rattle.ot_job.specs.Dealings.{Live, IsFresh, SameSpec, NoneOut, settled_units}
 use Rattle.ot_job.proofs.DealingsLemmas.{starts-fresh}
-use Rattle.ot_core.specs.Accounts.{Account, IsSound, answered}
-use Rattle.ot_core.specs.Asking.{IsAnswered, IsUnopened, Waits, with_reply}
-use Rattle.ot_core.specs.Index.{job_of}
-use Rattle.ot_core.specs.Floors.{Floor, with_job, units_of, SubmitsFor}
-use Rattle.ot_core.specs.Scenes.{Scene, Pairs, Agrees, AreHeld, IsScene, out_at}
-use Rattle.ot_core.specs.Steps.{moved, HasTenant, Moves, CanOpen, StartsJob}
+use Rattle.ot_core.specs.Accounts.{Account, IsSound, answered, IsAnswered, IsUnopened, Waits, with_reply}
+use Rattle.ot_core.specs.Floors.{job_of, Floor, with_job, units_of, SubmitsFor}
+use Rattle.ot_core.specs.Scenes.{Scene, Pairs, Agrees, AreHeld, IsScene, out_at, moved, HasTenant, Moves, CanOpen, StartsJob}
 use Rattle.ot_core.specs.declared.held.Held.{Held}
 use Rattle.ot_core.proofs.AccountLemmas.{answered-replied, never-waits}
 

@@ -4,8 +4,7 @@ use Rattle.std.specs.Prelude.{slice_get}
 use Rattle.std.proofs.lemmas.Option.{none-some, same_Some}
 use Rattle.std.proofs.lemmas.List.{append-nil, take-append-drop, take_all, length-map, length-take}
 use Rattle.std.proofs.Math.Seq.{take-append_seam}
-use Rattle.ot_book.specs.Replies.{Told, is_lost}
-use Rattle.ot_book.specs.Answers.{State, opening, answer_or_lost, answers}
+use Rattle.ot_book.specs.Answers.{Told, is_lost, State, opening, answer_or_lost, answers}
 use Rattle.ot_book.specs.Books.{state_in}
 use Rattle.ot_book.proofs.BookLemmas.{answers-append}
 use Rattle.ot_store.specs.declared.limits.Limits.{Limits}

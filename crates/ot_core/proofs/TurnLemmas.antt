@@ -5,10 +5,8 @@ use Rattle.std.specs.Slice.Scan.{HoldsNowhere}
 use Rattle.std.proofs.Math.ListN.{get_or-map}
 use Rattle.std.proofs.lemmas.Bool.{cases_lt, ltb-false}
 use Rattle.std.proofs.lemmas.List.{get_or_past, get_or-set_same, length-map, length-set, map-set, nil_from_length}
-use Rattle.ot_job.specs.Live.{Live}
-use Rattle.ot_job.specs.States.{claimable_in}
-use Rattle.ot_core.specs.Index.{job_of, has_claimable}
-use Rattle.ot_core.specs.Floors.{NothingAt}
+use Rattle.ot_job.specs.Dealings.{Live, claimable_in}
+use Rattle.ot_core.specs.Floors.{job_of, has_claimable, NothingAt}
 use Rattle.ot_core.specs.FloorView.{IsHall}
 use Rattle.ot_core.specs.Turns.{NothingIn, NothingAnywhere, IsNext}
 use Rattle.ot_core.specs.Marking.{is_marked, IsFirst}

@@ -1,7 +1,6 @@
 -- What the fields of a hall stand for: the total is the sum of the tenants' units, and the marks are of those with a claimable task.
 use Rattle.std.specs.Prelude.{◌≡◌, ◌<◌, ◌^◌, length, map}
-use Rattle.ot_core.specs.Index.{has_claimable}
-use Rattle.ot_core.specs.Floors.{Floor, total_of}
+use Rattle.ot_core.specs.Floors.{has_claimable, Floor, total_of}
 use Rattle.ot_core.specs.declared.hall.Hall.TheInside.{Inside}
 
 abbrev pub floor_of : Inside → Floor

@@ -1,7 +1,6 @@
 -- The replies given, with their numbers.
 use Rattle.std.specs.Prelude.{ℕ, ◌+◌, List, drop, Option, option_map, slice_get}
-use Rattle.ot_book.specs.Answers.{numbered}
-use Rattle.ot_book.specs.Replies.{Told}
+use Rattle.ot_book.specs.Answers.{numbered, Told}
 use Rattle.ot_core.specs.Accounts.{Account, told}
 
 -- the reply at a place, counted from 0

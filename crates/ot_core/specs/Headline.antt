@@ -8,8 +8,7 @@
 use Rattle.std.specs.Prelude.{◌≡◌, ◌≤◌, ℕ, List, map, length, take, false, slice_get, Some}
 use Rattle.ot_store.specs.Arrays.{Named}
 use Rattle.ot_store.specs.declared.limits.Limits.{Limits}
-use Rattle.ot_book.specs.Replies.{Told, is_lost}
-use Rattle.ot_book.specs.Answers.{opening, answers}
+use Rattle.ot_book.specs.Answers.{Told, is_lost, opening, answers}
 use Rattle.ot_core.specs.Accounts.{Account, told, marked}
 use Rattle.ot_core.specs.Scenes.{Scene}
 

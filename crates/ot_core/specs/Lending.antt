@@ -1,7 +1,7 @@
 -- What the jobs end as, where a `&mut` to one of them is returned.
 use Rattle.std.specs.Prelude.{ℕ, List, Option, Some, slice_set}
 use Rattle.std.specs.Borrow.{Lends, MutBor, Fml}
-use Rattle.ot_job.specs.Live.{Live}
+use Rattle.ot_job.specs.Dealings.{Live}
 use Rattle.ot_job.specs.contracts.job.Job as job
 use Rattle.ot_core.specs.contracts.live.Jobs.{the_row}
 

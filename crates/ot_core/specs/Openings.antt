@@ -4,8 +4,7 @@ use Rattle.std.specs.declared.alloc.Global.{Global}
 use Rattle.ot_store.specs.Arrays.{Named}
 use Rattle.ot_store.specs.declared.limits.Limits.{Limits}
 use Rattle.ot_book.specs.Books.{new_register}
-use Rattle.ot_core.specs.Accounts.{Account}
-use Rattle.ot_core.specs.Asking.{new_account}
+use Rattle.ot_core.specs.Accounts.{Account, new_account}
 use Rattle.ot_core.specs.Floors.{new_floor}
 use Rattle.ot_core.specs.Scenes.{Scene}
 

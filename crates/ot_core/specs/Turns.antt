@@ -1,6 +1,6 @@
 -- Claims by turn.
 use Rattle.std.specs.Prelude.{◌≡◌, ◌≤◌, ◌<◌, ◌⊎◌, ℕ, List, length, Option, Some, None}
-use Rattle.ot_job.specs.Live.{Live}
+use Rattle.ot_job.specs.Dealings.{Live}
 use Rattle.ot_job.specs.Taken.{Taken as Piece}
 use Rattle.ot_core.specs.Floors.{Floor, ClaimsFor, NothingAt, IsWorking}
 

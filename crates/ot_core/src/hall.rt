@@ -62,10 +62,8 @@ impl Model for Hall {
 }
 
 impl Hall {
-    ghost use Rattle.ot_job.specs.States.{claimable_in};
-    ghost use Rattle.ot_job.specs.Dealings.{state_of};
-    ghost use Rattle.ot_core.specs.Index.{job_of};
-    ghost use Rattle.ot_core.specs.Floors.{new_floor, units_of, total_of, IsFree, SubmitsFor, EntersFor, ClaimsOf, IsWorking, NothingAt, SettlesFor, RefusesIn, FailsIn, AbortsJob, CollectsFor, HasOver, LeavesFor};
+    ghost use Rattle.ot_job.specs.Dealings.{claimable_in, state_of};
+    ghost use Rattle.ot_core.specs.Floors.{job_of, new_floor, units_of, total_of, IsFree, SubmitsFor, EntersFor, ClaimsOf, IsWorking, NothingAt, SettlesFor, RefusesIn, FailsIn, AbortsJob, CollectsFor, HasOver, LeavesFor};
     ghost use Rattle.ot_core.specs.Draining.{claimable_of, over_of, LivelyAt};
     ghost use Rattle.ot_core.specs.Turns.{NothingAnywhere, IsNext, ClaimsSome, RunsShort};
     ghost use Rattle.ot_core.specs.declared.hall.SubmitFault.TheVariants.{Busy};

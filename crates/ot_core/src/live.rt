@@ -18,13 +18,13 @@ impl Model for Jobs {
     ghost use Rattle.std.specs.Prelude.{List, Option};
     ghost use Rattle.std.specs.Coded.{codes};
     ghost use Rattle.ot_model.specs.Code.{body_code};
-    ghost use Rattle.ot_job.specs.Live.{Live};
+    ghost use Rattle.ot_job.specs.Dealings.{Live};
 
     ghost Value = { List (Option Live) };
 
     ghost coded = { Prim.hlevel (codes, body_code) };
 
-    ghost use Rattle.ot_core.specs.Index.{jobs_of, IsIndexed};
+    ghost use Rattle.ot_core.specs.Floors.{jobs_of, IsIndexed};
 
     ghost view = { jobs_of };
 
@@ -34,7 +34,7 @@ impl Model for Jobs {
 impl Jobs {
     ghost use Rattle.std.specs.Borrow.{sem};
     ghost use Rattle.ot_core.specs.Lending.{LendsJob};
-    ghost use Rattle.ot_core.specs.Index.{job_of, has_claimable, Begins};
+    ghost use Rattle.ot_core.specs.Floors.{job_of, has_claimable, Begins};
 
     /// Nobody has a job.
     pub(crate) fn new(alloc: Global, tenants: u32) -> Result<Jobs, AllocError>

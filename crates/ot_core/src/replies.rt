@@ -15,7 +15,7 @@ pub struct Replies<'a> {
 
 impl<'a> Model for Replies<'a> {
     ghost use Rattle.std.specs.Prelude.{◌≤◌, ℕ, List, length};
-    ghost use Rattle.ot_book.specs.Replies.{Told};
+    ghost use Rattle.ot_book.specs.Answers.{Told};
 
     ghost Value = { List (ℕ × Told) };
 

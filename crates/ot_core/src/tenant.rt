@@ -44,10 +44,9 @@ impl Tenant {
     ghost use Rattle.ot_check.specs.Jobs.{IsMeaning};
     ghost use Rattle.ot_book.specs.Answers.{is_checkpoint};
     ghost use Rattle.ot_book.specs.Books.{new_register};
-    ghost use Rattle.ot_core.specs.Accounts.{Account, IsSound, answered};
+    ghost use Rattle.ot_core.specs.Accounts.{Account, IsSound, answered, AdmitsLine, OpensNext, with_reply, new_account, next_line, MayAsk, IsUnopened};
     ghost use Rattle.ot_core.specs.Given.{reply_in};
     ghost use Rattle.ot_core.specs.Headline.{IsTold};
-    ghost use Rattle.ot_core.specs.Asking.{AdmitsLine, OpensNext, with_reply, new_account, next_line, MayAsk, IsUnopened};
 
     /// A tenant that asked nothing yet.
     pub(crate) fn new(alloc: Global, book: Book, base: Store) -> Tenant

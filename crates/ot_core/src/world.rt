@@ -1,6 +1,6 @@
 ghost use Rattle.std.specs.Prelude.{◌≡◌, ◌<◌, ℕ, length, ◌≤◌, vec_len, map, IfOk, OnOk, OnErr, Some, option_map, option_copied, slice_get, All, replicate, None};
 ghost use Rattle.ot_core.specs.Headline.{AgreeOn, NoneLostIn, LostAlike, ToldAlike, Tells, TellsAll};
-ghost use Rattle.ot_core.specs.Scenes.{seat_of, IsScene};
+ghost use Rattle.ot_core.specs.Scenes.{seat_of, IsScene, RunsTo, RunsPart, AdmitsFor, OpensFor, StartsFor, Finishes, RepliesTo, AbortsFor, Steps, HasTenant, CanOpen, MayTake, RunsOut, LeavesOthers};
 
 use crate::event::{Event, Stepped};
 use crate::hall::{Collected, Hall};
@@ -40,15 +40,10 @@ impl Model for World {
 }
 
 impl World {
-    ghost use Rattle.ot_core.specs.Floors.{units_of, total_of};
+    ghost use Rattle.ot_core.specs.Floors.{units_of, total_of, job_of};
     ghost use Rattle.ot_core.specs.Given.{replies_of};
-    ghost use Rattle.ot_core.specs.Runs.{RunsTo, RunsPart};
     ghost use Rattle.std.specs.List.{sum_by};
-    ghost use Rattle.ot_core.specs.Index.{job_of};
-    ghost use Rattle.ot_core.specs.Toil.{free_hand};
-    ghost use Rattle.ot_core.specs.Draining.{Drains, DrainsPart, AllAnswered, count_of, moves_at, opens_of, full_hand, IsMove, IsFreeWorker, MayFinish, LivelyAt};
-    ghost use Rattle.ot_core.specs.Asking.{MayAsk};
-    ghost use Rattle.ot_core.specs.Steps.{AdmitsFor, OpensFor, StartsFor, Finishes, RepliesTo, AbortsFor, Steps, HasTenant, CanOpen, MayTake, RunsOut, LeavesOthers};
+    ghost use Rattle.ot_core.specs.Draining.{free_hand, Drains, DrainsPart, AllAnswered, count_of, moves_at, opens_of, full_hand, IsMove, IsFreeWorker, MayFinish, LivelyAt};
 
     /// Tenants with these names, limits and arrays, who asked nothing yet.
     pub fn new(alloc: Global, openings: Vec<(String, Limits, Store)>) -> Result<World, AllocError>
@@ -452,7 +447,7 @@ impl World {
     }
 }
 
-ghost use Rattle.ot_core.specs.Accounts.{IsSound};
+ghost use Rattle.ot_core.specs.Accounts.{MayAsk, IsSound};
 ghost use Rattle.ot_core.specs.Openings.{new_scene, opening_of};
 
 // Tenants who asked nothing yet.

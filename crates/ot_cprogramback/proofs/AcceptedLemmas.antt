@@ -3,11 +3,9 @@ use Rattle.std.proofs.Common.{◌≡◌, ◌⊎◌, inl, inr, List, [], ◌∷�
 use Rattle.std.specs.List.{list_any}
 use Rattle.std.proofs.lemmas.Bool.Decides.{nat_tests}
 use Rattle.std.proofs.lemmas.List.Folds.{list_any_at}
-use Rattle.ot_model.specs.Cells.{same_cell, is_before}
+use Rattle.ot_model.specs.Cells.{same_cell, is_before, mode_in, is_fold, same_fold}
 use Rattle.ot_model.specs.Signs.{folds}
-use Rattle.ot_model.specs.Tree.{E, Literal, CellAt, Apply, PickFrom, S, Set, Fold, If, Task, Wait, Group, Body, End, Next}
-use Rattle.ot_model.specs.Uses.{mode_in, is_fold, same_fold}
-use Rattle.ot_model.specs.Value.{cells_of, cells_named}
+use Rattle.ot_model.specs.Tree.{E, Literal, CellAt, Apply, PickFrom, S, Set, Fold, If, Task, Wait, Group, Body, End, Next, cells_of, cells_named}
 use Rattle.ot_model.specs.declared.expr.Cell.{Cell}
 use Rattle.ot_model.specs.declared.fold.Fold.{Fold as Operation}
 use Rattle.ot_model.specs.declared.fold.Fold.TheVariants as f
@@ -15,14 +13,12 @@ use Rattle.ot_model.specs.declared.stmt.Mode.{Mode}
 use Rattle.ot_model.specs.declared.stmt.Mode.TheVariants as modes
 use Rattle.ot_model.specs.declared.stmt.Use.{Use}
 use Rattle.ot_model.proofs.EqualLemmas.{cell-decides, fold-decides}
-use Rattle.ot_parts.specs.Modes.{Declared, folds_by, folds_to}
-use Rattle.ot_parts.specs.Touched.{use_as, touches}
+use Rattle.ot_parts.specs.Modes.{Declared, folds_by, folds_to, use_as, touches}
 use Rattle.ot_print.specs.Shown.{Text}
 use Rattle.ot_c.specs.Statements.{is_mode, only_folds, put, put_all, each_once}
 use Rattle.ot_check.specs.Discipline.{Children, nothing_open, nobody, behind_one, with_group, IsClean, IsFineInside, IsFine, OffendsNowhere, marks, may_break}
 use Rattle.ot_check.proofs.FineLemmas.{disciplined-fine}
-use Rattle.ot_check.specs.Offences.{Openings, covers, allows, exceeds, opened_by_any, misfits, misfits_as, has_cell}
-use Rattle.ot_check.specs.Paths.{Touch}
+use Rattle.ot_check.specs.Offences.{Openings, covers, allows, exceeds, opened_by_any, misfits, misfits_as, has_cell, Touch}
 use Rattle.ot_check.specs.declared.fault.Offence.{Offence}
 use Rattle.ot_check.specs.declared.fault.Offence.TheVariants.{NotDeclared, ChildBeyond, ReductionMisuse}
 use Rattle.ot_cback.specs.Bodies.{BodyFits as IsReadable, StatementFits as IsReadableOne}

@@ -8,9 +8,8 @@ use Rattle.ot_model.specs.declared.fold.Fold.{Fold as Operation}
 use Rattle.ot_model.specs.declared.fold.Fold.TheVariants as f
 use Rattle.ot_print.specs.Laws.{CellsFit}
 use Rattle.ot_print.specs.Shown.{Text}
-use Rattle.ot_c.specs.Clauses.{pointer}
+use Rattle.ot_c.specs.Statements.{pointer, each_once}
 use Rattle.ot_c.specs.Laws.{AreIdentifiers}
-use Rattle.ot_c.specs.Statements.{each_once}
 use Rattle.ot_c.proofs.ClauseLemmas.{same_pointer}
 use Rattle.ot_clowerback.specs.Bodies.{StatementFits, BodyFits}
 use Rattle.ot_clowerback.specs.Reductions.{Grouped}

@@ -9,7 +9,7 @@ use Rattle.std.proofs.lemmas.List.{append-nil, take-append-drop}
 use Rattle.std.proofs.lemmas.List.Folds.{list_any-append}
 use Rattle.std.proofs.lemmas.Slice.Eq.{bytes_eq-Decides}
 use Rattle.ot_print.specs.Shown.{Text}
-use Rattle.ot_c.specs.Arrays.{Declared, up_to_last}
+use Rattle.ot_c.specs.Programs.{Declared, up_to_last}
 use Rattle.ot_cnames.specs.Names.{is_taken, is_made_up, own_name}
 use Rattle.ot_words.specs.Tables.{looked_up}
 use Rattle.ot_words.specs.Names.{known_words, known_of}

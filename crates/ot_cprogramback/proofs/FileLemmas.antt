@@ -6,15 +6,14 @@ use Rattle.std.proofs.lemmas.List.{append-nil, length-replicate, get_or-replicat
 use Rattle.std.proofs.lemmas.Option.{slice_get-get_or, slice_get_within}
 use Rattle.serde_json.specs.Data.{Data, string, array}
 use Rattle.serde_json.specs.View.{items_of}
-use Rattle.ot_model.specs.Programs.{Expanded}
-use Rattle.ot_model.specs.Shapes.{Arrays}
+use Rattle.ot_model.specs.Programs.{Expanded, Arrays}
 use Rattle.ot_model.specs.Tree.{Body, Group, End, Next}
 use Rattle.ot_model.specs.declared.expr.Section.{Section}
 use Rattle.ot_model.specs.declared.fold.Fold.TheVariants.{Plus}
 use Rattle.ot_print.specs.Shown.{Text, name}
 use Rattle.ot_program.specs.Copies.{copies, copies_of, copy}
 use Rattle.ot_program.specs.Printed.{four, name_at}
-use Rattle.ot_c.specs.Arrays.{Declared}
+use Rattle.ot_c.specs.Programs.{Declared}
 use Rattle.ot_c.specs.Laws.{normal}
 use Rattle.ot_c.specs.Named.{is_array, sections_name, body_names, names as program_names}
 use Rattle.ot_words.specs.declared.word.IntegerType.TheVariants as t
@@ -31,8 +30,7 @@ use Rattle.ot_cdeclare.specs.Arrays.{D, outside, is_declared, variable_step}
 use Rattle.ot_cdeclare.specs.Pointers.{pointers_from}
 use Rattle.ot_cdeclare.specs.Each.{each}
 use Rattle.ot_cdeclare.specs.Places.{byte_of}
-use Rattle.ot_clower.specs.Files.{reductions_of, P, top_step, main_step, nothing, lowered}
-use Rattle.ot_clower.specs.Files.{shown as shown_array}
+use Rattle.ot_clower.specs.Files.{reductions_of, P, top_step, main_step, nothing, lowered, shown as shown_array}
 use Rattle.ot_clower.specs.Lines.{Took, none}
 use Rattle.ot_clower.specs.Statements.{Origin, read_step, statement, body}
 use Rattle.ot_cback.specs.Bodies.{body_trees}

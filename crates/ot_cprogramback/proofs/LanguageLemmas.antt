@@ -12,15 +12,13 @@ use Rattle.ot_model.specs.Programs.{Expanded}
 use Rattle.ot_model.specs.declared.expr.Section.{Section}
 use Rattle.ot_print.specs.Laws.{AreNames}
 use Rattle.ot_print.specs.Shown.{Text, name}
-use Rattle.ot_program.specs.Meanings.{is_called}
-use Rattle.ot_program.specs.Names.{is_letter, is_name_byte, is_name}
+use Rattle.ot_program.specs.Meanings.{is_called, is_letter, is_name_byte, is_name}
 use Rattle.ot_cnames.specs.Laws.{begins_with_capital}
 use Rattle.ot_cnames.specs.Names.{is_taken, name_in_c, own_name}
 use Rattle.ot_cnames.proofs.OwnLemmas.{comes_back}
-use Rattle.ot_c.specs.Arrays.{Declared, before, up_to_last, declared, arrays_in_c}
+use Rattle.ot_c.specs.Programs.{Declared, before, up_to_last, declared, arrays_in_c, declared_from}
 use Rattle.ot_c.specs.Laws.{AreIdentifiers, ShowsFit}
 use Rattle.ot_c.specs.Named.{names}
-use Rattle.ot_c.specs.Programs.{declared_from}
 use Rattle.ot_c.proofs.NameLemmas.{names_law}
 use Rattle.ot_cfileback.specs.Files.{names_of}
 use Rattle.ot_ctextback.specs.Fits.{LengthsFit}

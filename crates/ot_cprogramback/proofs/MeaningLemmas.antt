@@ -4,17 +4,16 @@ use Rattle.std.specs.Prelude.{if◌then◌else◌, slice_get, String}
 use Rattle.std.specs.List.{list_any}
 use Rattle.std.specs.declared.alloc.Global.{Global}
 use Rattle.serde_json.specs.Data.{string}
-use Rattle.ot_model.specs.Cells.{same_cell, is_before}
-use Rattle.ot_model.specs.Shapes.{Arrays}
+use Rattle.ot_model.specs.Cells.{same_cell, is_before, same_fold}
+use Rattle.ot_model.specs.Programs.{Arrays}
 use Rattle.ot_model.specs.Tree.{S, Set, Fold, If, Task, Wait, Group, Body, End, Next}
-use Rattle.ot_model.specs.Uses.{same_fold}
 use Rattle.ot_model.specs.declared.expr.Cell.{Cell}
 use Rattle.ot_model.specs.declared.fold.Fold.{Fold as Operation}
 use Rattle.ot_model.proofs.EqualLemmas.{cell-decides, fold-decides}
 use Rattle.ot_print.specs.Shown.{Text, name}
 use Rattle.ot_program.specs.Meanings.{position_of}
 use Rattle.ot_program.specs.Printed.{name_at}
-use Rattle.ot_c.specs.Arrays.{Declared}
+use Rattle.ot_c.specs.Programs.{Declared}
 use Rattle.ot_c.specs.Named.{is_array, value_names, uses_name, cells_name, statement_names, body_names}
 use Rattle.ot_c.specs.Statements.{put, put_all, each_once}
 use Rattle.ot_cnames.specs.Names.{own_name}

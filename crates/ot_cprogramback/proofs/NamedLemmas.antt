@@ -9,10 +9,9 @@ use Rattle.ot_model.specs.declared.expr.Section.{Section}
 use Rattle.ot_model.specs.declared.stmt.Use.{Use}
 use Rattle.ot_print.specs.Laws.{CellsFit}
 use Rattle.ot_print.specs.Shown.{Text, name}
-use Rattle.ot_c.specs.Arrays.{declared}
+use Rattle.ot_c.specs.Programs.{declared, declared_from}
 use Rattle.ot_c.specs.Laws.{UsesFit, ShowsFit}
 use Rattle.ot_c.specs.Named.{is_array, value_names, uses_name, cells_name, sections_name, statement_names, body_names, names}
-use Rattle.ot_c.specs.Programs.{declared_from}
 use Rattle.ot_cback.specs.Values.{Fits}
 use Rattle.ot_cfileback.specs.Files.{names_of}
 use Rattle.ot_clowerback.specs.Bodies.{StatementFits, BodyFits}

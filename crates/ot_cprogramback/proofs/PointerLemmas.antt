@@ -10,11 +10,10 @@ use Rattle.ot_model.specs.declared.fold.Fold.{Fold as Operation}
 use Rattle.ot_model.specs.declared.fold.Fold.TheVariants as f
 use Rattle.ot_model.specs.declared.stmt.Use.{Use}
 use Rattle.ot_print.specs.Shown.{Text, name}
-use Rattle.ot_program.specs.Names.{is_letter, is_name}
-use Rattle.ot_c.specs.Arrays.{Declared}
-use Rattle.ot_c.specs.Clauses.{pointer}
+use Rattle.ot_program.specs.Meanings.{is_letter, is_name}
+use Rattle.ot_c.specs.Programs.{Declared}
+use Rattle.ot_c.specs.Statements.{pointer, each_once}
 use Rattle.ot_c.specs.Laws.{is_nothing}
-use Rattle.ot_c.specs.Statements.{each_once}
 use Rattle.ot_cnames.specs.Names.{own_name}
 use Rattle.ot_words.specs.Names.{known_of}
 use Rattle.ot_words.specs.declared.word.IntegerType.TheVariants as t

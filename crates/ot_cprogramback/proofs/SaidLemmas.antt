@@ -13,9 +13,8 @@ use Rattle.ot_model.specs.declared.expr.Cell.{Cell}
 use Rattle.ot_model.specs.declared.fold.Fold.{Fold as Operation}
 use Rattle.ot_model.specs.declared.stmt.Use.{Use}
 use Rattle.ot_print.specs.Shown.{Text}
-use Rattle.ot_c.specs.Arrays.{Declared, up_to_last}
-use Rattle.ot_c.specs.Clauses.{pointer}
-use Rattle.ot_c.specs.Statements.{each_once}
+use Rattle.ot_c.specs.Programs.{Declared, up_to_last}
+use Rattle.ot_c.specs.Statements.{pointer, each_once}
 use Rattle.ot_words.specs.Names.{known_of}
 use Rattle.ot_words.specs.declared.known.Known.{Known}
 use Rattle.ot_words.specs.declared.known.Known.TheVariants as means

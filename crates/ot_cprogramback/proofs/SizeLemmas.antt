@@ -2,16 +2,15 @@
 use Rattle.std.proofs.Common.{◌≡◌, ℕ, suc, ◌+◌, ◌≤◌, List, [], ◌∷◌, ◌++◌, length, map, Bool, true, false, Some, None, refl, arith}
 use Rattle.std.specs.Prelude.{if◌then◌else◌}
 use Rattle.std.proofs.lemmas.List.{length-append}
-use Rattle.ot_model.specs.Counts.{size_one, size}
+use Rattle.ot_model.specs.Tree.{size_one, size, S, Set, Fold, If, Task, Wait, Group, Body, End, Next}
 use Rattle.ot_model.specs.Programs.{Expanded}
-use Rattle.ot_model.specs.Tree.{S, Set, Fold, If, Task, Wait, Group, Body, End, Next}
 use Rattle.ot_model.specs.declared.expr.Cell.{Cell}
 use Rattle.ot_model.specs.declared.expr.Section.{Section}
 use Rattle.ot_model.specs.declared.fold.Fold.{Fold as Operation}
 use Rattle.ot_model.specs.declared.fold.Fold.TheVariants as f
 use Rattle.ot_model.specs.declared.stmt.Use.{Use}
 use Rattle.ot_print.specs.Shown.{Text}
-use Rattle.ot_c.specs.Arrays.{Declared}
+use Rattle.ot_c.specs.Programs.{Declared}
 use Rattle.ot_c.specs.Laws.{is_nothing}
 use Rattle.ot_c.specs.Statements.{each_once}
 use Rattle.ot_words.specs.declared.word.Name.{Name}

@@ -4,16 +4,14 @@ use Rattle.std.specs.Prelude.{String}
 use Rattle.std.specs.declared.alloc.Global.{Global}
 use Rattle.std.proofs.lemmas.List.{length-map}
 use Rattle.serde_json.specs.Data.{string}
-use Rattle.ot_model.specs.Programs.{Expanded}
-use Rattle.ot_model.specs.Shapes.{Arrays}
+use Rattle.ot_model.specs.Programs.{Expanded, Arrays}
 use Rattle.ot_model.specs.Tree.{Group, End, Next}
 use Rattle.ot_model.specs.declared.fold.Fold.TheVariants.{Plus}
 use Rattle.ot_print.specs.Shown.{Text, name}
 use Rattle.ot_program.specs.Printed.{name_at}
-use Rattle.ot_c.specs.Arrays.{Declared, arrays_in_c}
+use Rattle.ot_c.specs.Programs.{Declared, arrays_in_c, declared_from, whole}
 use Rattle.ot_c.specs.Laws.{AreIdentifiers, normal}
-use Rattle.ot_c.specs.Named.{body_names, names as program_names}
-use Rattle.ot_c.specs.Programs.{declared_from, whole}
+use Rattle.ot_c.specs.Named.{body_names, names as program_names, sections_name}
 use Rattle.ot_cnames.specs.Names.{name_in_c, own_name}
 use Rattle.ot_words.specs.declared.word.Word.{Word}
 use Rattle.ot_words.specs.Words.{Spoken, Read, texts, all_spoken, words_in, AreBelow}
@@ -41,7 +39,6 @@ use Rattle.ot_cprogramback.proofs.MeaningLemmas.{body_named}
 use Rattle.ot_cprogramback.proofs.NamedLemmas.{named_within, all_declared}
 use Rattle.ot_cprogramback.proofs.SaidLemmas.{Says, is_said, front_says, back_says, next_says, declared_says, pointers_say, is_word}
 use Rattle.ot_cprogramback.proofs.SizeLemmas.{file_places}
-use Rattle.ot_c.specs.Named.{sections_name}
 
 abbrev words_of_read : Read → List Spoken
 words_of_read (Ok read) = read.1

@@ -2,15 +2,13 @@
 use Rattle.std.specs.Prelude.{◌≡◌, ℕ, ◌<◌, ◌≤◌, true, List, [], length, map, Ok, String}
 use Rattle.std.specs.declared.alloc.Global.{Global}
 use Rattle.serde_json.specs.Data.{string}
-use Rattle.ot_model.specs.Programs.{Expanded}
-use Rattle.ot_model.specs.Shapes.{Arrays}
+use Rattle.ot_model.specs.Programs.{Expanded, Arrays}
 use Rattle.ot_model.specs.Tree.{Group, End, Next}
 use Rattle.ot_model.specs.declared.fold.Fold.TheVariants.{Plus}
 use Rattle.ot_print.specs.Shown.{Text, name}
-use Rattle.ot_c.specs.Arrays.{Declared}
+use Rattle.ot_c.specs.Programs.{Declared, declared_from}
 use Rattle.ot_c.specs.Laws.{AreIdentifiers, ShowsFit, normal}
 use Rattle.ot_c.specs.Named.{body_names, names as program_names}
-use Rattle.ot_c.specs.Programs.{declared_from}
 use Rattle.ot_program.specs.Printed.{name_at}
 use Rattle.ot_cfile.specs.Files.{file_at}
 use Rattle.ot_cfile.specs.Program.{Whole}

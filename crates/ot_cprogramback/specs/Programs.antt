@@ -2,13 +2,12 @@
 use Rattle.std.specs.Prelude.{◌≡◌, ◌≢◌, ◌⊎◌, ℕ, ◌-◌, ◌<◌, ◌≤◌, true, false, List, [], ◌∷◌, ◌++◌, length, map, replicate, slice_get, Some, Result, Ok, String, string_bytes, codes}
 use Rattle.std.specs.declared.alloc.Global.{Global}
 use Rattle.serde_json.specs.Data.{Data}
-use Rattle.ot_model.specs.Shapes.{Arrays}
+use Rattle.ot_model.specs.Programs.{Arrays}
 use Rattle.ot_model.specs.Tree.{S, Set, Fold, If, Task, Wait, Group, Body, End, Next}
 use Rattle.ot_print.specs.Shown.{Text, name}
-use Rattle.ot_c.specs.Arrays.{Declared, up_to_last}
-use Rattle.ot_c.specs.Clauses.{pointer}
-use Rattle.ot_c.specs.Statements.{each_once}
-use Rattle.ot_program.specs.Names.{is_name}
+use Rattle.ot_c.specs.Programs.{Declared, up_to_last}
+use Rattle.ot_c.specs.Statements.{pointer, each_once}
+use Rattle.ot_program.specs.Meanings.{is_name}
 use Rattle.ot_cnames.specs.Names.{is_taken, own_name}
 use Rattle.ot_cfile.specs.Program.{Act, Local, Region, Does}
 use Rattle.ot_cscope.specs.Forms.{form, listed}

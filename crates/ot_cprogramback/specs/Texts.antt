@@ -1,18 +1,15 @@
 -- What becomes of the text that is written in C of a program of the language.
 use Rattle.std.specs.Prelude.{◌≡◌, ℕ, ◌-◌, ◌<◌, ◌≤◌, true, List, [], ◌∷◌, ◌++◌, length, map, replicate, Ok, String}
 use Rattle.std.specs.declared.alloc.Global.{Global}
-use Rattle.ot_model.specs.Counts.{size}
+use Rattle.ot_model.specs.Tree.{size, Body, Group, End, Next}
 use Rattle.ot_model.specs.Names.{IsInShape}
-use Rattle.ot_model.specs.Programs.{Expanded}
-use Rattle.ot_model.specs.Shapes.{Arrays, array_lengths}
-use Rattle.ot_model.specs.Tree.{Body, Group, End, Next}
+use Rattle.ot_model.specs.Programs.{Expanded, Arrays, array_lengths}
 use Rattle.ot_model.specs.declared.fold.Fold.TheVariants.{Plus}
 use Rattle.ot_print.specs.Laws.{AreNames}
 use Rattle.ot_print.specs.Shown.{Text}
-use Rattle.ot_program.specs.Names.{is_name}
-use Rattle.ot_c.specs.Arrays.{Declared, up_to_last, arrays_in_c}
+use Rattle.ot_program.specs.Meanings.{is_name}
+use Rattle.ot_c.specs.Programs.{Declared, up_to_last, arrays_in_c, declared_from, whole}
 use Rattle.ot_c.specs.Laws.{ListsFit, normal}
-use Rattle.ot_c.specs.Programs.{declared_from, whole}
 use Rattle.ot_words.specs.declared.word.Word.{Word}
 use Rattle.ot_words.specs.Words.{all_spoken, words_in, AreBelow}
 use Rattle.ot_words.specs.Words as words

@@ -8,9 +8,8 @@ use Rattle.ot_model.specs.declared.fold.Fold.{Fold as Operation}
 use Rattle.ot_model.specs.declared.stmt.Use.{Use}
 use Rattle.ot_print.specs.Shown.{Text}
 use Rattle.ot_c.specs.Laws.{UsesFit}
-use Rattle.ot_c.specs.Clauses.{pointer}
+use Rattle.ot_c.specs.Statements.{pointer, line as on_line, deeper, directive, put, put_all, each_once, declared_pointer, pointers, reduced, group}
 use Rattle.ot_c.specs.Statements as c
-use Rattle.ot_c.specs.Statements.{line as on_line, deeper, directive, put, put_all, each_once, declared_pointer, pointers, reduced, group}
 use Rattle.ot_words.specs.declared.known.Known.{Known}
 use Rattle.ot_words.specs.declared.known.Known.TheVariants as means
 use Rattle.ot_words.specs.declared.mark.Mark.TheVariants as m

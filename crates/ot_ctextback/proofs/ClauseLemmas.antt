@@ -11,10 +11,9 @@ use Rattle.ot_model.specs.declared.stmt.Mode.{Mode}
 use Rattle.ot_model.specs.declared.stmt.Mode.TheVariants as modes
 use Rattle.ot_model.specs.declared.stmt.Use.{Use}
 use Rattle.ot_model.specs.Signs.{identifier}
-use Rattle.ot_print.specs.Shown.{Text, name, cell}
-use Rattle.ot_print.specs.Sections.{cells_in, sections_of, row as cells, cells_of}
+use Rattle.ot_print.specs.Shown.{Text, name, cell, cells_in, sections_of, row as cells, cells_of}
 use Rattle.ot_c.specs.Laws.{UsesFit}
-use Rattle.ot_c.specs.Clauses.{item, row, items, is_long, short, listed, iterated, iterations, dependences, pointer, pointed, reduction, folded, declared}
+use Rattle.ot_c.specs.Statements.{item, row, items, is_long, short, listed, iterated, iterations, dependences, pointer, pointed, reduction, folded, declared}
 use Rattle.ot_words.specs.declared.known.Known.TheVariants as means
 use Rattle.ot_words.specs.declared.mark.Mark.TheVariants as m
 use Rattle.ot_words.specs.declared.piece.Line.TheVariants as line

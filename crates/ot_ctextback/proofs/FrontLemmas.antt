@@ -3,10 +3,9 @@ use Rattle.std.proofs.Common.{◌≡◌, List, [], ◌∷◌, ◌++◌, Bool, tr
 use Rattle.std.proofs.lemmas.List.{append-nil}
 use Rattle.ot_model.specs.Programs.{Expanded}
 use Rattle.ot_print.specs.Shown.{Text}
-use Rattle.ot_c.specs.Arrays.{words_if}
+use Rattle.ot_c.specs.Programs.{words_if, head, min_text, max_text, show_text, main_text, region_text, any_shown, functions}
 use Rattle.ot_c.specs.Named.{body_calls}
 use Rattle.ot_c.specs.declared.named.Call.TheVariants as call
-use Rattle.ot_c.specs.Programs.{head, min_text, max_text, show_text, main_text, region_text, any_shown, functions}
 use Rattle.ot_words.specs.declared.known.Known.TheVariants as means
 use Rattle.ot_words.specs.declared.mark.Mark.TheVariants as m
 use Rattle.ot_words.specs.declared.piece.Line.TheVariants as line

@@ -8,7 +8,7 @@ use Rattle.ot_model.specs.declared.fold.Fold.{Fold as Operation}
 use Rattle.ot_model.specs.declared.fold.Fold.TheVariants as f
 use Rattle.ot_print.specs.Shown.{Text, name}
 use Rattle.ot_print.specs.Laws.{is_digit}
-use Rattle.ot_c.specs.Clauses.{pointer_word, pointer}
+use Rattle.ot_c.specs.Statements.{pointer_word, pointer}
 use Rattle.ot_c.specs.Laws.{in_identifier, all_identifier, is_identifier}
 use Rattle.ot_c.proofs.WordLemmas.{number_word, word_append, name_word}
 use Rattle.ot_words.specs.Names.{is_letter, in_name}

@@ -6,12 +6,11 @@ use Rattle.ot_model.specs.declared.expr.Cell.{Cell}
 use Rattle.ot_model.specs.declared.expr.Section.{Section}
 use Rattle.ot_model.specs.Programs.{Expanded}
 use Rattle.ot_print.specs.Shown.{Text}
-use Rattle.ot_c.specs.Arrays as c
-use Rattle.ot_c.specs.Arrays.{Declared, declared, before, up_to_last, initial, sized, declaration, each_declared, any_declared, words_if, declarations}
+use Rattle.ot_c.specs.Programs as c
+use Rattle.ot_c.specs.Programs.{Declared, declared, before, up_to_last, initial, sized, declaration, each_declared, any_declared, words_if, declarations, show, lists, shows, declared_from}
 use Rattle.ot_c.specs.Laws.{is_identifier, NumbersFit, ListsFit}
 use Rattle.ot_c.specs.Named.{names as named_by}
 use Rattle.ot_c.specs.Programs as programs
-use Rattle.ot_c.specs.Programs.{show, lists, shows, declared_from}
 use Rattle.ot_c.specs.Values.{suffix}
 use Rattle.ot_words.specs.declared.piece.Line.TheVariants as line
 use Rattle.ot_cback.specs.Assignments.{place_words}

@@ -5,14 +5,11 @@ use Rattle.ot_model.specs.declared.expr.Cell.{Cell}
 use Rattle.ot_model.specs.declared.expr.Section.{Section}
 use Rattle.ot_model.specs.declared.stmt.Mode.{Mode}
 use Rattle.ot_model.specs.declared.stmt.Use.{Use}
-use Rattle.ot_model.specs.Cells.{is_before, same_cell}
-use Rattle.ot_model.specs.Uses.{same_mode}
-use Rattle.ot_print.specs.Shown.{Text}
-use Rattle.ot_print.specs.Sections.{cells_in, alone, longer, goes_on, behind, sections_of}
+use Rattle.ot_model.specs.Cells.{is_before, same_cell, same_mode}
+use Rattle.ot_print.specs.Shown.{Text, cells_in, alone, longer, goes_on, behind, sections_of}
 use Rattle.ot_print.proofs.SectionLemmas.{goes_on_is}
 use Rattle.ot_c.specs.Laws.{UsesFit}
-use Rattle.ot_c.specs.Clauses.{is_long, short}
-use Rattle.ot_c.specs.Statements.{put, put_all, each_once}
+use Rattle.ot_c.specs.Statements.{is_long, short, put, put_all, each_once}
 use Rattle.ot_ctextback.specs.Fits.{CellsFit}
 
 -- its array has a name, it has a cell, and its numbers fit 32 bits

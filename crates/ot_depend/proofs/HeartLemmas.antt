@@ -5,14 +5,12 @@ use Rattle.std.specs.Option.{option_map}
 use Rattle.std.proofs.lemmas.Bool.{cases_lt, cases_Bool, or_cases, and_parts, and_from, or_left, or_right}
 use Rattle.std.proofs.lemmas.Option.{same_Some, none-some, slice_get-map, get_or_from_slice_get, slice_get_within}
 use Rattle.std.proofs.lemmas.List.Sums.{sum_by-cons, get_or-le-sum_by}
-use Rattle.ot_model.specs.Cells.{same_cell}
-use Rattle.ot_model.specs.Uses.{DependsOn, one_writes}
+use Rattle.ot_model.specs.Cells.{same_cell, DependsOn, one_writes}
 use Rattle.ot_model.specs.declared.expr.Cell.{Cell}
 use Rattle.ot_model.specs.declared.stmt.Mode.{Mode}
 use Rattle.ot_model.specs.declared.stmt.Mode.TheVariants.{Reads, Writes, Folds}
 use Rattle.ot_model.specs.declared.stmt.Use.{Use}
-use Rattle.ot_depend.specs.Siblings.{Sibling, IsReady, FinishedAreReady}
-use Rattle.ot_depend.specs.Direct.{is_write, uses_cell, writes_cell}
+use Rattle.ot_depend.specs.Siblings.{Sibling, IsReady, FinishedAreReady, is_write, uses_cell, writes_cell}
 use Rattle.ot_depend.specs.Kept.{decls, IsDirect, has, times, Kid, siblings, owes, due, IsLinked}
 use Rattle.ot_depend.proofs.ReadyLemmas.{any_tested, any_found, one_cell, cell_itself}
 

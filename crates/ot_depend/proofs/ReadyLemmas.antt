@@ -5,12 +5,10 @@ use Rattle.std.proofs.lemmas.Bool.Decides.{nat_tests}
 use Rattle.std.proofs.lemmas.List.Folds.{Any-from_list_any, list_any-from_Any}
 use Rattle.std.proofs.lemmas.List.Sums.{AllPass-from_list_all, list_all-from_AllPass}
 use Rattle.ot_model.proofs.CellsLemmas as cells
-use Rattle.ot_model.specs.Cells.{same_cell}
-use Rattle.ot_model.specs.Uses.{DependsOn, one_writes}
+use Rattle.ot_model.specs.Cells.{same_cell, DependsOn, one_writes, depends_on}
 use Rattle.ot_model.specs.declared.expr.Cell.{Cell}
 use Rattle.ot_model.specs.declared.stmt.Use.{Use}
 use Rattle.ot_depend.specs.Siblings.{Sibling, IsReady, is_ready}
-use Rattle.ot_model.specs.Uses.{depends_on}
 use Rattle.ot_depend.proofs.SiblingsLemmas.{LetsRun, IsReady-from_All, All-from_IsReady}
 
 -- a test of some element finds one that passes, and one that passes is found

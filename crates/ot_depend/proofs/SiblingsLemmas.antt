@@ -3,7 +3,7 @@ use Rattle.std.proofs.Common.{◌≡◌, ℕ, zero, suc, ◌<◌, List, [], ◌�
 use Rattle.std.specs.List.{All, slice_get}
 use Rattle.std.proofs.lemmas.Option.{slice_get_within, slice_get-get_or, get_or_from_slice_get, same_Some}
 use Rattle.std.proofs.lemmas.List.{get_or-take, length-take}
-use Rattle.ot_model.specs.Uses.{DependsOn}
+use Rattle.ot_model.specs.Cells.{DependsOn}
 use Rattle.ot_model.specs.declared.stmt.Use.{Use}
 use Rattle.ot_depend.specs.Siblings.{Sibling, IsReady, FinishedAreReady, with_finished}
 

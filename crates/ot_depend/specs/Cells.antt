@@ -1,13 +1,12 @@
 -- What the rows of the cells say.
-use Rattle.std.specs.Prelude.{◌≡◌, ℕ, List, [], Option, Some, None, map, slice_get, get_or, option_map, option_and_then, unwrap_or, fold}
-use Rattle.std.specs.List.{flat_map}
+use Rattle.std.specs.Prelude.{◌≡◌, ℕ, List, [], Option, Some, None, map, slice_get, get_or, option_map, option_and_then, unwrap_or, fold, Bool, false, not}
+use Rattle.std.specs.List.{flat_map, list_any}
 use Rattle.ot_model.specs.Cells.{updated}
 use Rattle.ot_model.specs.declared.expr.Cell.{Cell}
 use Rattle.ot_model.specs.declared.stmt.Mode.{Mode}
 use Rattle.ot_model.specs.declared.stmt.Use.{Use}
-use Rattle.ot_depend.specs.Direct.{uses_cell, writes_cell}
-use Rattle.ot_depend.specs.Kept.{Entry, RowIs, entered, found}
-use Rattle.ot_depend.specs.Numbers.{HasRoom, Admits}
+use Rattle.ot_depend.specs.Siblings.{uses_cell, writes_cell}
+use Rattle.ot_depend.specs.Kept.{Entry, RowIs, entered, found, HasRoom, Admits, Kid}
 use Rattle.ot_depend.specs.Places.{place_in}
 use Rattle.ot_depend.specs.declared.cells.Row.{Row}
 use Rattle.ot_depend.specs.declared.cells.Spot.{Spot}
@@ -74,3 +73,17 @@ found_all lines spots = flat_map (λ s. found (entry_at lines (Some s.place)) s.
 -- the rows tell who uses and who writes each cell
 abbrev pub RowsTell : List (List Use) → (Cell → Option ℕ) → List Line → Type 0
 RowsTell ds at lines = (c : Cell) → RowIs (λ i. uses_cell c (get_or ds i [])) (λ i. writes_cell c (get_or ds i [])) (entry_at lines (at c)).writer (entry_at lines (at c)).users
+
+-- What the rows of its cells say of a wait: only this crate knows it.
+
+-- whether the child is known, and has not finished
+abbrev pub is_pending : List Kid → ℕ → Bool
+is_pending kids child = unwrap_or (option_map (λ k. not k.it.finished) (slice_get kids child)) false
+
+-- whether one of those in the row has not finished for whom a use of the cell has to wait
+abbrev pub must_wait : List Kid → Mode → Entry → Bool
+must_wait kids mode e = list_any (is_pending kids) (found e mode)
+
+-- whether one of these uses has to wait
+abbrev pub some_must_wait : List Kid → Table → List Use → Bool
+some_must_wait kids t uses = list_any (λ u. must_wait kids u.mode (entry_of t u.cell)) uses

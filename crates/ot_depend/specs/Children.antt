@@ -1,7 +1,6 @@
 -- The children that the code's records stand for.
 use Rattle.std.specs.Prelude.{◌≡◌, ℕ, false, List, Some, map, slice_get}
-use Rattle.ot_depend.specs.Kept.{Kid}
-use Rattle.ot_depend.specs.Numbers.{HasRoom, Admits}
+use Rattle.ot_depend.specs.Kept.{Kid, HasRoom, Admits}
 use Rattle.ot_depend.specs.declared.child.Child.{Child}
 
 abbrev pub kid_of : Child → Kid

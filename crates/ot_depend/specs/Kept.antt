@@ -1,13 +1,13 @@
 -- What the table keeps beside the children, and how it hangs together: only this crate knows it.
-use Rattle.std.specs.Prelude.{◌≡◌, ◌<◌, ◌≤◌, ◌-◌, ◌==◌, ◌||◌, ◌⊎◌, ℕ, Bool, true, false, cond, List, [], ◌∷◌, ◌++◌, Option, Some, length, map, get_or, slice_get, option_map, unwrap_or, fold, count_by}
+use Rattle.std.specs.Prelude.{◌≡◌, ◌<◌, ◌≤◌, ◌-◌, ◌==◌, ◌||◌, ◌⊎◌, ℕ, Bool, true, false, cond, List, [], ◌∷◌, ◌++◌, Option, Some, length, map, get_or, slice_get, option_map, unwrap_or, fold, count_by, ◌+◌, vec_len, vec_capacity}
 use Rattle.std.specs.List.{list_any, sum_by}
 use Rattle.std.specs.Option.{option_to_list}
 use Rattle.ot_model.specs.Cells.{updated}
 use Rattle.ot_model.specs.declared.expr.Cell.{Cell}
 use Rattle.ot_model.specs.declared.stmt.Mode.{Mode}
 use Rattle.ot_model.specs.declared.stmt.Use.{Use}
-use Rattle.ot_depend.specs.Siblings.{Sibling}
-use Rattle.ot_depend.specs.Direct.{is_write, uses_cell, writes_cell}
+use Rattle.ot_depend.specs.Siblings.{Sibling, is_write, uses_cell, writes_cell, is_ready, waiting_for}
+use Rattle.std.specs.declared.vec.Vec.{Vec}
 
 -- what each child declares
 abbrev pub decls : List Sibling → List (List Use)
@@ -109,3 +109,24 @@ waiters_of kids place = unwrap_or (option_map (λ k. k.waiters) (slice_get kids 
 -- each of these is known, and waits for as many as it is told of here
 abbrev pub WaitForAll : List Kid → List ℕ → Type 0
 WaitForAll kids told = (w : ℕ) → has w told ≡ true → (k : Kid) × (slice_get kids w ≡ Some k) × (times w told ≤ k.waiting)
+
+-- Whom the end of a child may let run, and who waits for less by it.
+
+-- each child that isn't among these is as ready as before
+abbrev pub LetsTheSame : List ℕ → List Sibling → List Sibling → Type 0
+LetsTheSame among old new = (child : ℕ) → has child among ≡ false → is_ready new child ≡ is_ready old child
+
+-- each child waits by itself for one less for each time that it is among these: so those among them are those that wait
+-- for less, each once
+abbrev pub WaitForLess : List ℕ → List Sibling → List Sibling → Type 0
+WaitForLess among old new = (child : ℕ) → waiting_for old child ≡ waiting_for new child + times child among
+
+-- Room in a list of numbers.
+
+-- one more number fits
+abbrev pub HasRoom : {Z : Type 0} → Vec ℕ Z → Type 0
+HasRoom v = vec_len v < vec_capacity v
+
+-- the list ends with the number, or it fits behind
+abbrev pub Admits : {Z : Type 0} → ℕ → Vec ℕ Z → Type 0
+Admits n v = vec_len v < vec_capacity v + cond (ends_with n v.items) 1 0

@@ -1,12 +1,8 @@
 pub mod Siblings
 pub mod View
 pub mod Laws
-pub mod Direct
 pub mod Kept
-pub mod Waiting
-pub mod Numbers
 pub mod Children
 pub mod Groups
 pub mod Places
 pub mod Cells
-pub mod Waits

@@ -4,8 +4,7 @@ ghost use Rattle.ot_model.specs.declared.stmt.Use.{Use};
 ghost use Rattle.ot_model.specs.declared.expr.Cell.{Cell};
 ghost use Rattle.ot_model.specs.declared.stmt.Mode.TheVariants.{Reads};
 ghost use Rattle.ot_depend.specs.Children.{kids_of};
-ghost use Rattle.ot_depend.specs.Waits.{must_wait, some_must_wait};
-ghost use Rattle.ot_depend.specs.Cells.{entry_in, line_of, enter, place_of, lines_of, nobody, entry_of, IsSound, IsPlaced, HasRoomIn, AdmitsIn, enter_all, found_all};
+ghost use Rattle.ot_depend.specs.Cells.{must_wait, some_must_wait, entry_in, line_of, enter, place_of, lines_of, nobody, entry_of, IsSound, IsPlaced, HasRoomIn, AdmitsIn, enter_all, found_all};
 
 use crate::child::{Child, is_pending, some_pending};
 use crate::numbers::{make_room, put_last};
@@ -38,8 +37,7 @@ pub(crate) struct Table {
 }
 
 impl Row {
-    ghost use Rattle.ot_depend.specs.Numbers.{Admits};
-    ghost use Rattle.ot_depend.specs.Kept.{found};
+    ghost use Rattle.ot_depend.specs.Kept.{Admits, found};
 
     /// A child uses the cell so. There is to be room for it. It takes no memory.
     fn enter(&mut self, child: usize, mode: Mode)

@@ -1,9 +1,8 @@
 //! One child of a body, and who waits for whom among the children.
 ghost use Rattle.std.specs.Prelude.{◌≡◌, ◌+◌, ◌<◌, ◌||◌, false, OnOk, All, length, not, vec_capacity};
 ghost use Rattle.std.specs.List.{list_any};
-ghost use Rattle.ot_depend.specs.Waits.{is_pending};
-ghost use Rattle.ot_depend.specs.Kept.{ends_with, due, enlist, enlisted, woken, waiters_of, WaitForAll};
-ghost use Rattle.ot_depend.specs.Numbers.{HasRoom, Admits};
+ghost use Rattle.ot_depend.specs.Cells.{is_pending};
+ghost use Rattle.ot_depend.specs.Kept.{ends_with, due, enlist, enlisted, woken, waiters_of, WaitForAll, HasRoom, Admits};
 ghost use Rattle.ot_depend.specs.Children.{kid_of, kids_of, HasRoomAt, AdmitsAt};
 
 use crate::numbers::{make_room, put_last};

@@ -1,8 +1,7 @@
 //! The children of a body with what is kept beside them: the rows of the cells and the counters.
 ghost use Rattle.std.specs.Prelude.{◌≡◌, ◌++◌, ◌∷◌, [], ◌↔◌, ◌+◌, ◌<◌, ◌≤◌, ℕ, IsTrue, OnOk, Some, true, false, length, take, slice_get, All};
 ghost use Rattle.ot_model.specs.declared.stmt.Use.{Use};
-ghost use Rattle.ot_depend.specs.Direct.{waiting_for};
-ghost use Rattle.ot_depend.specs.Siblings.{created, with_finished, IsReady, IsUnfinished, waits_for, AreFree};
+ghost use Rattle.ot_depend.specs.Siblings.{waiting_for, created, with_finished, IsReady, IsUnfinished, waits_for, AreFree};
 
 use crate::cells::{Spot, Table};
 use crate::child::{Child, enlist, make_rooms, wake};
@@ -29,8 +28,7 @@ pub(crate) struct Kept {
 impl Kept {
     ghost use Rattle.ot_depend.specs.View.{kids_in, siblings_in, IsKept, IsPlanned};
     ghost use Rattle.ot_model.specs.Cells.{updated};
-    ghost use Rattle.ot_depend.specs.Kept.{woken, waiters_of, ended};
-    ghost use Rattle.ot_depend.specs.Waiting.{LetsTheSame, WaitForLess};
+    ghost use Rattle.ot_depend.specs.Kept.{woken, waiters_of, ended, LetsTheSame, WaitForLess};
 
     /// No children. It takes no memory.
     pub(crate) fn new(alloc: Global) -> Kept

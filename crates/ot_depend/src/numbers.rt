@@ -1,7 +1,6 @@
 //! Lists of children by their numbers, in the order in which the children were created.
 ghost use Rattle.std.specs.Prelude.{◌≡◌, OnOk, not};
-ghost use Rattle.ot_depend.specs.Kept.{ends_with, with_last};
-ghost use Rattle.ot_depend.specs.Numbers.{HasRoom, Admits};
+ghost use Rattle.ot_depend.specs.Kept.{ends_with, with_last, HasRoom, Admits};
 
 use std::alloc::AllocError;
 

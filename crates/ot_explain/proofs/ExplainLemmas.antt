@@ -6,12 +6,9 @@ use Rattle.std.proofs.KnownBytes.{Appends-trans, Appends-nil}
 use Rattle.std.proofs.lemmas.List.{get_or_append_left, get_or-append-add}
 use Rattle.std.proofs.lemmas.Bool.Decides.{leb_tells}
 use Rattle.ot_book.specs.Books.{Register}
-use Rattle.ot_front.specs.Device.{AppendsFront}
+use Rattle.ot_front.specs.Serving.{AppendsFront, Going, Serving}
 use Rattle.ot_book.specs.Room.{room_in}
-use Rattle.ot_front.specs.Heard.{Heard, HasNoEnd, max_line}
-use Rattle.ot_front.specs.Told.{Lines, marked, after, told}
-use Rattle.ot_front.specs.Session.{closing, heard_in, session_text, logged_lines, TellsAll, BreaksOff, SessionTells, Session}
-use Rattle.ot_front.specs.Serving.{Going, Serving}
+use Rattle.ot_front.specs.Session.{Heard, HasNoEnd, max_line, closing, heard_in, session_text, logged_lines, TellsAll, BreaksOff, SessionTells, Session, Lines, marked, after, told}
 use Rattle.ot_front.specs.declared.fault.End.{End}
 use Rattle.ot_front.specs.declared.fault.End.TheVariants as end
 use Rattle.ot_front.specs.declared.fault.FrontFault.{FrontFault}

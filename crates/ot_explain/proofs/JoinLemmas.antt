@@ -3,9 +3,7 @@ use Rattle.std.proofs.Common.{◌≡◌, ℕ, zero, suc, ◌+◌, ◌-◌, ◌�
 use Rattle.std.specs.Prelude.{Option, Some, None, Result, Ok, Err, fold, is_some, if◌then◌else◌, ◌==◌, nat_le}
 use Rattle.ot_book.specs.Books.{Register, next_number}
 use Rattle.ot_book.specs.Room.{Room, room_in, takes, with_entry, room_after}
-use Rattle.ot_front.specs.Heard.{Heard, nothing_heard, hear, with_line, with_byte, is_bye, max_line}
-use Rattle.ot_front.specs.Told.{Lines, texts, marks, marked, after, told, RunsProgram}
-use Rattle.ot_front.specs.Session.{closing, heard_in, session_text, logged_lines, TellsAll, LeavesRun, BreaksOff, SessionTells, Session}
+use Rattle.ot_front.specs.Session.{Heard, nothing_heard, hear, with_line, with_byte, is_bye, max_line, closing, heard_in, session_text, logged_lines, TellsAll, LeavesRun, BreaksOff, SessionTells, Session, Lines, texts, marks, marked, after, told, RunsProgram}
 use Rattle.ot_front.specs.Serving.{Going}
 use Rattle.ot_front.specs.declared.fault.End.{End}
 use Rattle.ot_front.specs.declared.fault.End.TheVariants as end

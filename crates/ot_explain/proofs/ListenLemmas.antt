@@ -2,19 +2,14 @@
 use Rattle.std.proofs.Common.{◌≡◌, ℕ, suc, ◌+◌, ◌<◌, ◌≤◌, List, [], ◌∷◌, ◌++◌, length, take, length-take-le, append_assoc, append-nil, le_refl, refl, sym, ap, subst, ◌∙◌, arith}
 use Rattle.std.specs.Prelude.{All, Option, Some, None, Result, Ok, Err, ⊤, IfOk, IfErr}
 use Rattle.std.specs.Io.KnownBytes.{Appends, Consumes}
-use Rattle.ot_lines.specs.Counts.{Flow}
-use Rattle.ot_lines.specs.Lines.{Hearing, HasNoEnd, opened, Passes, IsIdle}
-use Rattle.ot_lines.specs.Listening.{ended, IsLine, Went, Through, Ends, Listens, Stops as StopsAt}
+use Rattle.ot_lines.specs.Lines.{Flow, Hearing, HasNoEnd, opened, Passes, IsIdle, ended, IsLine, Went, Through, Ends, Listens, Stops as StopsAt}
 use Rattle.ot_lines.specs.declared.lines.LineFault.{LineFault}
 use Rattle.ot_lines.specs.declared.lines.LineFault.TheVariants as lines
 use Rattle.ot_lines.specs.declared.listener.Ended.{Ended}
 use Rattle.ot_lines.specs.declared.listener.Ended.TheVariants as ended_as
 use Rattle.ot_book.specs.Books.{Register, next_number}
-use Rattle.ot_front.specs.Device.{AppendsFront}
-use Rattle.ot_front.specs.Heard.{Heard, max_line}
-use Rattle.ot_front.specs.Told.{told, texts}
-use Rattle.ot_front.specs.Session.{closing, Session}
-use Rattle.ot_front.specs.Serving.{Going, session_bounds, result_of}
+use Rattle.ot_front.specs.Serving.{AppendsFront, Going, session_bounds, result_of}
+use Rattle.ot_front.specs.Session.{Heard, max_line, closing, Session, told, texts}
 use Rattle.ot_front.specs.declared.fault.End.{End}
 use Rattle.ot_front.specs.declared.fault.End.TheVariants as end
 use Rattle.ot_front.specs.declared.fault.FrontFault.{FrontFault}

@@ -5,9 +5,7 @@ use Rattle.std.specs.Io.KnownBytes.{Appends, Consumes}
 use Rattle.std.proofs.lemmas.Bool.Decides.{leb_tells}
 use Rattle.ot_book.specs.Books.{Register, logged}
 use Rattle.ot_book.specs.Room.{Room, room_in, takes, room_after}
-use Rattle.ot_front.specs.Heard.{Heard, heard, hear, with_line, is_bye, HasNoEnd, max_line}
-use Rattle.ot_front.specs.Told.{Lines, texts, marked, after, told, reply_line}
-use Rattle.ot_front.specs.Session.{closing, heard_in, logged_lines, TellsAll, LeavesRun}
+use Rattle.ot_front.specs.Session.{Heard, heard, hear, with_line, is_bye, HasNoEnd, max_line, closing, heard_in, logged_lines, TellsAll, LeavesRun, Lines, texts, marked, after, told, reply_line}
 use Rattle.ot_front.specs.declared.fault.End.{End}
 use Rattle.ot_front.specs.declared.fault.End.TheVariants as end
 use Rattle.ot_front.proofs.HeardLemmas.{at_line, heard-append, lines_grow, heard-piece, heard-long}

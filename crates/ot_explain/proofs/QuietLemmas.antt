@@ -3,16 +3,12 @@ use Rattle.std.proofs.Common.{◌≡◌, ℕ, suc, ◌+◌, ◌<◌, ◌≤◌, 
 use Rattle.std.specs.Prelude.{All, Option, None, Result, Ok, Err, ⊤, IfOk, is_some}
 use Rattle.std.specs.Io.KnownBytes.{Appends, Consumes}
 use Rattle.std.proofs.KnownBytes.{Appends-nil, Appends-trans}
-use Rattle.ot_lines.specs.Counts.{Flow}
-use Rattle.ot_lines.specs.Lines.{Hearing, HasNoEnd, opened, Passes}
-use Rattle.ot_lines.specs.Listening.{ended, IsLine, Went, Through, Ends, Listens, Stops as StopsAt}
+use Rattle.ot_lines.specs.Lines.{Flow, Hearing, HasNoEnd, opened, Passes, ended, IsLine, Went, Through, Ends, Listens, Stops as StopsAt}
 use Rattle.ot_lines.specs.declared.listener.Ended.{Ended}
 use Rattle.ot_lines.specs.declared.listener.Ended.TheVariants as ended_as
 use Rattle.ot_book.specs.Books.{Register, next_number, logged}
 use Rattle.ot_book.specs.Room.{room_in}
-use Rattle.ot_front.specs.Heard.{Heard, max_line}
-use Rattle.ot_front.specs.Told.{Lines, after, texts}
-use Rattle.ot_front.specs.Session.{heard_in, Session, Serves}
+use Rattle.ot_front.specs.Session.{Heard, max_line, heard_in, Session, Serves, Lines, after, texts}
 use Rattle.ot_front.specs.Serving.{Going, session_bounds, result_of}
 use Rattle.ot_front.specs.declared.fault.End.{End}
 use Rattle.ot_front.specs.declared.fault.End.TheVariants as end
@@ -24,8 +20,7 @@ use Rattle.ot_front.proofs.ServingLemmas.{serves_idle}
 use Rattle.ot_front.proofs.PrefixLemmas.{last_of, clean_take, consumed}
 use Rattle.ot_front.proofs.LineLemmas.{going_nothing, serves_in}
 use Rattle.ot_explain.specs.Remarks.{last_code, AreOn, RemarksOn, refuses}
-use Rattle.ot_explain.specs.Explaining.{says, said_at, IsStop}
-use Rattle.ot_explain.specs.Quiet.{RemarksAlone, Hushed, HushedOn, HushesLine}
+use Rattle.ot_explain.specs.Explaining.{says, said_at, IsStop, RemarksAlone, Hushed, HushedOn, HushesLine}
 use Rattle.ot_explain.specs.declared.explaining.Explained.{Explained}
 use Rattle.ot_explain.specs.declared.explaining.Explained.TheVariants.{AllTaken}
 use Rattle.ot_explain.specs.declared.explaining.Talk.{Talk}

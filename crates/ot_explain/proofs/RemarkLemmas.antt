@@ -5,8 +5,7 @@ use Rattle.std.specs.List.{list_any}
 use Rattle.std.specs.Fmt.{decimal}
 use Rattle.std.proofs.lemmas.List.Elements.{All-append}
 use Rattle.ot_book.specs.Books.{Register, logged}
-use Rattle.ot_front.specs.Heard.{HasNoEnd}
-use Rattle.ot_front.specs.Told.{Lines, after, reply_line}
+use Rattle.ot_front.specs.Session.{HasNoEnd, Lines, after, reply_line}
 use Rattle.ot_explain.specs.Remarks.{remark_line, IsRemarks, IsWhole, last_code, with_code, OpensWith, AreOn, Remarked, refuses}
 use Rattle.ot_explain.specs.Explaining.{says}
 use Rattle.ot_explain.specs.declared.explaining.Explained.{Explained}

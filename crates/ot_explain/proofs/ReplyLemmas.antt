@@ -7,10 +7,9 @@ use Rattle.std.specs.Fmt.{digit_glyph, digits_onto, digits}
 use Rattle.json.specs.Print.{escape_letter, escape_byte, escape, quoted}
 use Rattle.serde_json.specs.Data.{Num, unsigned, negative, float, Data, null, boolean, number, string, array, object, Items, no_items, item, Members, no_members, member}
 use Rattle.serde_json.specs.Written.{number_text, comma_if, compact_text, items_text, members_text}
-use Rattle.ot_book.specs.Replies.{Told, Accepted, Cells, Arrays, Used, Done, Refused, Offends, Lost, json_of, text_of}
+use Rattle.ot_book.specs.Answers.{Told, Accepted, Cells, Arrays, Used, Done, Refused, Offends, Lost, json_of, text_of}
 use Rattle.ot_book.specs.Books.{Register, logged, reply_at}
-use Rattle.ot_front.specs.Told.{Lines, told, reply_line, last_reply}
-use Rattle.ot_front.specs.Session.{closing}
+use Rattle.ot_front.specs.Session.{Lines, told, reply_line, last_reply, closing}
 use Rattle.ot_front.specs.declared.fault.End.{End}
 use Rattle.ot_front.specs.declared.fault.End.TheVariants as end
 use Rattle.ot_explain.specs.Remarks.{IsWhole}

@@ -1,3 +1,2 @@
 pub mod Remarks
 pub mod Explaining
-pub mod Quiet

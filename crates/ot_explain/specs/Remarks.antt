@@ -2,9 +2,8 @@
 use Rattle.std.specs.Prelude.{◌≡◌, ℕ, ◌-◌, List, [], ◌∷◌, ◌++◌, length, codes, All, flat_map, Bool, false, ◌||◌, if◌then◌else◌, ◌==◌, Option, Some, None, is_some, option_and_then}
 use Rattle.std.specs.Fmt.{decimal}
 use Rattle.ot_book.specs.Books.{Register, logged, reply_at}
-use Rattle.ot_book.specs.Replies.{Told, Accepted, Cells, Arrays, Used, Done, Refused, Offends, Lost}
-use Rattle.ot_front.specs.Heard.{HasNoEnd}
-use Rattle.ot_front.specs.Told.{Lines, reply_line}
+use Rattle.ot_book.specs.Answers.{Told, Accepted, Cells, Arrays, Used, Done, Refused, Offends, Lost}
+use Rattle.ot_front.specs.Session.{HasNoEnd, Lines, reply_line}
 
 -- a byte more in front of the first line
 abbrev pub with_first : ℕ → List (List ℕ) → List (List ℕ)

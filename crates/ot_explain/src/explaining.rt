@@ -2,7 +2,7 @@
 ghost use Rattle.std.specs.Prelude.{◌≡◌, ◌≤◌, ◌++◌, ◌∷◌, [], ℕ, List, Option, None, Ok, Err, length, IfOk, IfErr};
 ghost use Rattle.ot_lines.specs.Lines.{opened};
 ghost use Rattle.ot_book.specs.Books.{Register, next_number};
-ghost use Rattle.ot_front.specs.Heard.{HasNoEnd, max_line};
+ghost use Rattle.ot_front.specs.Session.{HasNoEnd, max_line};
 ghost use Rattle.ot_front.specs.Serving.{session_bounds};
 ghost use Rattle.ot_front.specs.declared.fault.End.{End};
 ghost use Rattle.ot_explain.specs.Explaining.{beginner, Explains, Explaining, GoesOn, Remarks, said_at, ExplainsLine};

@@ -2,11 +2,10 @@
 ghost use Rattle.std.specs.Prelude.{◌≡◌, ◌≤◌, ◌++◌, ◌∷◌, [], ℕ, List, Option, None, Ok, length, IfOk};
 ghost use Rattle.ot_lines.specs.Lines.{opened};
 ghost use Rattle.ot_book.specs.Books.{Register, next_number};
-ghost use Rattle.ot_front.specs.Heard.{HasNoEnd, max_line};
+ghost use Rattle.ot_front.specs.Session.{HasNoEnd, max_line};
 ghost use Rattle.ot_front.specs.Serving.{session_bounds};
 ghost use Rattle.ot_front.specs.declared.fault.End.{End};
-ghost use Rattle.ot_explain.specs.Explaining.{beginner, said_at};
-ghost use Rattle.ot_explain.specs.Quiet.{RemarksAlone, Hushed, HushedOn, HushesLine};
+ghost use Rattle.ot_explain.specs.Explaining.{beginner, said_at, RemarksAlone, Hushed, HushedOn, HushesLine};
 ghost use Rattle.ot_explain.specs.declared.explaining.Explained.TheVariants.{AllTaken};
 
 use crate::explaining::{Explained, Talk, said_at};

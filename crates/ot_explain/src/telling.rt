@@ -1,7 +1,7 @@
 //! The remarks behind a reply.
 ghost use Rattle.std.specs.Prelude.{◌≡◌, ◌⊎◌, ℕ, List, [], ◌++◌, OnOk, OnErr, IfOk, IfErr, is_some};
 ghost use Rattle.std.specs.Io.KnownBytes.{Appends};
-ghost use Rattle.ot_front.specs.Heard.{HasNoEnd};
+ghost use Rattle.ot_front.specs.Session.{HasNoEnd};
 ghost use Rattle.ot_front.specs.declared.fault.FrontFault.TheVariants as fault;
 ghost use Rattle.ot_explain.specs.Remarks.{without_remarks, remark_line, with_code, last_code, OpensWith, AreOn};
 

@@ -3,12 +3,10 @@ use Rattle.std.proofs.Common.{◌≡◌, ◌≢◌, true, false, List, [], ◌�
 use Rattle.serde_json.specs.Data.{Data, array, no_items, item}
 use Rattle.serde_json.specs.View.{items_view}
 use Rattle.serde_json.specs.declared.value.Value.{Value}
-use Rattle.ot_model.specs.Shapes.{Arrays}
-use Rattle.ot_program.specs.Meanings.{Bindings, size, section, clause, wait_clause}
-use Rattle.ot_program.specs.Profiles.{is_two}
+use Rattle.ot_model.specs.Programs.{Arrays}
+use Rattle.ot_program.specs.Meanings.{Bindings, size, section, clause, wait_clause, is_two}
 use Rattle.ot_place.specs.Texts.{Profile}
-use Rattle.ot_fault.specs.Why.{Form}
-use Rattle.ot_fault.specs.Whys.{clause_whys}
+use Rattle.ot_fault.specs.Whys.{Form, clause_whys}
 use Rattle.ot_fault.specs.declared.why.Wanted.TheVariants as wanted
 
 -- which section a clause of three items has depends on the profile

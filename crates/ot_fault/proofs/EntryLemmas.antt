@@ -1,19 +1,18 @@
 -- Requests and programs by their length.
 use Rattle.std.proofs.Common.{◌≡◌, ◌≢◌, List, [], ◌∷◌, length, get_or, Some, None, map, refl, sym, arith}
-use Rattle.ot_model.specs.Shapes.{Arrays}
+use Rattle.ot_model.specs.Programs.{Arrays}
 use Rattle.serde_json.specs.Data.{Data, array}
 use Rattle.serde_json.specs.View.{view, items_view}
 use Rattle.serde_json.specs.declared.value.Value.{Value}
 use Rattle.ot_program.specs.Copies.{in_copy}
 use Rattle.ot_program.specs.Limits.{total}
-use Rattle.ot_program.specs.Profiles.{profile_of}
+use Rattle.ot_program.specs.Meanings.{profile_of}
 use Rattle.ot_program.specs.Programs.{program_copy}
 use Rattle.ot_place.specs.Spots.{text_spots}
 use Rattle.ot_place.specs.Texts.{Profile}
 use Rattle.ot_place.proofs.PlaceLemmas.{a_program}
 use Rattle.ot_fault.specs.Counting.{counts_of}
-use Rattle.ot_fault.specs.Entries.{first_among, first_fault}
-use Rattle.ot_fault.specs.Walk.{Walked, walk}
+use Rattle.ot_fault.specs.Walk.{first_among, first_fault, Walked, walk}
 use Rattle.ot_fault.proofs.FirstLemmas.{placed_of, met_in, first_walked}
 
 pub no_request : (shape : Arrays) (vs : List Value) → length vs ≢ 2 → first_fault shape (array (items_view vs)) ≡ None

@@ -7,11 +7,10 @@ use Rattle.std.proofs.lemmas.List.{map-append, length-append}
 use Rattle.serde_json.specs.Data.{Data}
 use Rattle.serde_json.specs.View.{view}
 use Rattle.serde_json.specs.declared.value.Value.{Value}
-use Rattle.ot_model.specs.Shapes.{Arrays}
+use Rattle.ot_model.specs.Programs.{Arrays}
 use Rattle.ot_program.specs.Copies.{Text, IfText, ForText, TaskText, GroupText, GroupByText, ProgramText, Placed, Copy, At, Copies, Done, Then, in_copy, in_order}
 use Rattle.ot_program.specs.Limits.{Tally, total, plus, own_tally}
-use Rattle.ot_program.specs.Meanings.{Bindings}
-use Rattle.ot_program.specs.Profiles.{profile_of}
+use Rattle.ot_program.specs.Meanings.{Bindings, profile_of}
 use Rattle.ot_program.specs.Programs.{program_copy}
 use Rattle.ot_program.proofs.Tallies.{plus-nothing, total-append}
 use Rattle.ot_place.specs.Spots.{Path, Spot, first_body, is_loop, spots, in_turns, in_body, program_spots}
@@ -19,11 +18,9 @@ use Rattle.ot_place.specs.Texts.{Profile, text_by}
 use Rattle.ot_place.specs.declared.text.Text.{Text as CodeText}
 use Rattle.ot_place.specs.declared.text.Text.TheVariants as t
 use Rattle.ot_fault.specs.Counting.{counts_of, counts_with, past_limits}
-use Rattle.ot_fault.specs.Entries.{mixed_why, mixed_whys, whys_at, whys_behind, first_behind, first_among}
+use Rattle.ot_fault.specs.Walk.{mixed_why, mixed_whys, whys_at, whys_behind, first_behind, first_among, Walked, Passed, Met, unless_told, counted, walk}
 use Rattle.ot_mixed.specs.Mixed.{mixed_of}
-use Rattle.ot_fault.specs.Walk.{Walked, Passed, Met, unless_told, counted, walk}
-use Rattle.ot_fault.specs.Why.{Why, Mixed, long, short, earlier, after}
-use Rattle.ot_fault.specs.Whys.{nested, text_whys}
+use Rattle.ot_fault.specs.Whys.{Why, Mixed, long, short, earlier, after, nested, text_whys}
 use Rattle.ot_fault.specs.declared.own.Tally.{Tally as CodeTally}
 use Rattle.ot_fault.proofs.AfterLemmas.{after-append}
 

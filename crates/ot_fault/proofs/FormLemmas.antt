@@ -4,12 +4,11 @@ use Rattle.serde_json.specs.Data.{array}
 use Rattle.serde_json.specs.View.{view, items_view}
 use Rattle.serde_json.specs.declared.value.Value.{Value, the_lemmas, Number as JsonNumber, String as JsonString, Array as JsonArray}
 use Rattle.serde_json.specs.declared.number.Number.{Number}
-use Rattle.ot_model.specs.Shapes.{Arrays}
+use Rattle.ot_model.specs.Programs.{Arrays}
 use Rattle.ot_model.specs.Tree.{Literal}
 use Rattle.ot_program.specs.Limits.{size_depth}
 use Rattle.ot_program.specs.Meanings.{Bindings, section, value}
-use Rattle.ot_fault.specs.Why.{Form}
-use Rattle.ot_fault.specs.Whys.{size_whys, cell_whys, section_whys, value_whys, wait_clause_whys}
+use Rattle.ot_fault.specs.Whys.{Form, size_whys, cell_whys, section_whys, value_whys, wait_clause_whys}
 use Rattle.ot_fault.specs.declared.why.Wanted.TheVariants as wanted
 
 -- ---- sizes

@@ -5,24 +5,22 @@ use Rattle.std.specs.Option.{option_or}
 use Rattle.std.proofs.lemmas.Bool.{cases_lt, lt-leb}
 use Rattle.std.proofs.lemmas.List.{map-append}
 use Rattle.serde_json.specs.Data.{Data, array, no_items, item}
-use Rattle.ot_model.specs.Programs.{Expanded}
-use Rattle.ot_model.specs.Shapes.{Arrays}
+use Rattle.ot_model.specs.Programs.{Expanded, Arrays}
 use Rattle.ot_program.specs.Copies.{Placed, in_copy}
 use Rattle.ot_program.specs.Faults as told
 use Rattle.ot_program.specs.Limits.{max_statements, max_turns, max_nodes, max_cells, Tally, total}
-use Rattle.ot_program.specs.Profiles.{profile_of}
+use Rattle.ot_program.specs.Meanings.{profile_of}
 use Rattle.ot_program.specs.Programs.{foremost, faults_behind, told as refusal_told, told_or, program_copy, program_in, program_of}
-use Rattle.ot_program.specs.Refusals.{rank, least}
+use Rattle.ot_program.specs.Faults.{rank, least}
 use Rattle.ot_program.specs.declared.fault.Refusal.{Refusal}
 use Rattle.ot_program.proofs.Firsts.{first_of, foremost_is, merged, first-append}
 use Rattle.ot_program.proofs.StatementsRead.{first-swap}
 use Rattle.ot_place.specs.Spots.{program_spots}
 use Rattle.ot_place.specs.Texts.{Profile}
 use Rattle.ot_fault.specs.Counting.{counts_of, past_limits}
-use Rattle.ot_fault.specs.Entries.{mixed_whys, whys_behind, first_behind, first_among, first_fault}
+use Rattle.ot_fault.specs.Walk.{mixed_whys, whys_behind, first_behind, first_among, first_fault}
 use Rattle.ot_fault.specs.Laws.{refused}
-use Rattle.ot_fault.specs.Why.{Why, long, short, refusal_of, earlier, after}
-use Rattle.ot_fault.specs.Whys.{text_whys}
+use Rattle.ot_fault.specs.Whys.{Why, long, short, refusal_of, earlier, after, text_whys}
 use Rattle.ot_fault.proofs.FirstLemmas.{placed_of, program_placed, none_among}
 use Rattle.ot_fault.proofs.RefusalLemmas.{Are, unless_is, text_is}
 

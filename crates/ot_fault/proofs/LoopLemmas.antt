@@ -10,7 +10,7 @@ use Rattle.serde_json.specs.declared.value.Value.{Value, the_lemmas, Array as Js
 use Rattle.ot_model.specs.declared.expr.Section.{Section}
 use Rattle.ot_program.specs.Limits.{cells_in}
 use Rattle.ot_program.specs.Meanings.{items, each, Clause}
-use Rattle.ot_fault.specs.Why.{Why, after, long}
+use Rattle.ot_fault.specs.Whys.{Why, after, long}
 use Rattle.ot_fault.proofs.AfterLemmas.{after-append}
 
 each-next : (vs : List Value) (i : ℕ) (v : Value) → i < length vs → v ≡ get_or vs i v

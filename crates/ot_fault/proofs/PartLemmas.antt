@@ -7,17 +7,14 @@ use Rattle.std.specs.List.{list_any}
 use Rattle.serde_json.specs.Data.{Data, Num, number, string, array}
 use Rattle.serde_json.specs.View.{view, items_view}
 use Rattle.serde_json.specs.declared.value.Value.{Value}
-use Rattle.ot_model.specs.Shapes.{Arrays}
-use Rattle.ot_model.specs.ShapeView.{arrays_of}
+use Rattle.ot_model.specs.Programs.{Arrays, arrays_of}
 use Rattle.ot_model.specs.Tree.{Literal, CellAt, Apply, PickFrom}
 use Rattle.ot_model.specs.declared.expr.Op.{Op}
 use Rattle.ot_model.specs.declared.expr.Op.TheVariants.{Plus}
 use Rattle.ot_model.specs.declared.shape.ArrayShape.{ArrayShape}
 use Rattle.ot_program.specs.Limits.{size_depth}
-use Rattle.ot_program.specs.Meanings.{Bindings, letters, bound, sign_of, in_range, exact, size, length_of, op_of, indexed, section, value}
-use Rattle.ot_program.specs.Names.{whole_number, is_word}
-use Rattle.ot_fault.specs.Why.{Why, Form, TooGreat, NotExact, Unknown, NoCell, NoCells, Empty, after}
-use Rattle.ot_fault.specs.Whys.{unless, name_whys, variable_whys, size_whys, deep, array_whys, indexed_whys, section_of_whys, section_whys, value_whys}
+use Rattle.ot_program.specs.Meanings.{Bindings, letters, bound, sign_of, in_range, exact, size, length_of, op_of, indexed, section, value, whole_number, is_word}
+use Rattle.ot_fault.specs.Whys.{Why, Form, TooGreat, NotExact, Unknown, NoCell, NoCells, Empty, after, unless, name_whys, variable_whys, size_whys, deep, array_whys, indexed_whys, section_of_whys, section_whys, value_whys}
 use Rattle.ot_fault.specs.declared.why.Wanted.TheVariants as wanted
 use Rattle.ot_mixed.proofs.ClauseLemmas.{three_items}
 use Rattle.ot_fault.proofs.AfterLemmas.{after-append}

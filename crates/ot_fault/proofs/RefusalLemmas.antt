@@ -8,18 +8,15 @@ use Rattle.std.proofs.lemmas.List.{map-append}
 use Rattle.serde_json.specs.Data.{Data, Items, number, string, array, no_items, item}
 use Rattle.serde_json.specs.View.{view}
 use Rattle.serde_json.specs.declared.value.Value.{Value}
-use Rattle.ot_model.specs.Shapes.{Arrays}
+use Rattle.ot_model.specs.Programs.{Arrays}
 use Rattle.ot_model.specs.declared.fold.Fold.{Fold}
 use Rattle.ot_model.specs.declared.stmt.Mode.{Mode}
 use Rattle.ot_model.specs.declared.stmt.Mode.TheVariants.{Folds}
 use Rattle.ot_model.specs.declared.expr.Cell.{Cell}
 use Rattle.ot_program.specs.Copies.{Text, SetText, AddText, FoldText, IfText, ForText, Turn, TaskText, WaitText, WaitForText, GroupText, GroupByText, ProgramText, NoForm as NoStatementForm}
-use Rattle.ot_program.specs.Declarations.{named_cells, is_mixed}
+use Rattle.ot_program.specs.Meanings.{named_cells, is_mixed, items, Bindings, fold_of, mode_of, red_of, red_by, clause, whole_number, is_name, is_word, is_one, is_two}
 use Rattle.ot_program.specs.Faults as told
 use Rattle.ot_program.specs.Faults.{size_faults, value_faults}
-use Rattle.ot_program.specs.Meanings.{items, Bindings, fold_of, mode_of, red_of, red_by, clause}
-use Rattle.ot_program.specs.Names.{whole_number, is_name, is_word}
-use Rattle.ot_program.specs.Profiles.{is_one, is_two}
 use Rattle.ot_program.specs.declared.fault.Refusal.{Refusal}
 use Rattle.ot_program.specs.declared.fault.Refusal.TheVariants.{Form, MixedReduction}
 use Rattle.ot_place.specs.Texts.{Profile, text_by}
@@ -27,10 +24,9 @@ use Rattle.ot_place.specs.declared.text.Text.{Text as CodeText}
 use Rattle.ot_place.specs.declared.text.Text.TheVariants as t
 use Rattle.ot_mixed.proofs.ClauseLemmas.{none_first, none_second}
 use Rattle.ot_mixed.specs.Mixed.{first_mixed, named, mixed_of, faults_of}
-use Rattle.ot_fault.specs.Entries.{mixed_why, mixed_whys}
-use Rattle.ot_fault.specs.Why.{Why, Form as NoForm, refusal_of}
+use Rattle.ot_fault.specs.Walk.{mixed_why, mixed_whys}
+use Rattle.ot_fault.specs.Whys.{Why, Form as NoForm, refusal_of, unless, no_list, list_whys, name_whys, variable_whys, size_whys, array_whys, indexed_whys, cell_whys, section_whys, value_whys, expression_whys, target_whys, is_mode, clause_whys, wait_clause_whys, nested, group_whys, text_whys}
 use Rattle.ot_fault.specs.declared.why.Wanted.TheVariants as wanted
-use Rattle.ot_fault.specs.Whys.{unless, no_list, list_whys, name_whys, variable_whys, size_whys, array_whys, indexed_whys, cell_whys, section_whys, value_whys, expression_whys, target_whys, is_mode, clause_whys, wait_clause_whys, nested, group_whys, text_whys}
 
 -- they have these refusals
 abbrev pub Are : List Why → List Refusal → Type 0

@@ -6,16 +6,15 @@ use Rattle.std.proofs.lemmas.List.{drop_all}
 use Rattle.serde_json.specs.Data.{Data}
 use Rattle.serde_json.specs.View.{view, items_view}
 use Rattle.serde_json.specs.declared.value.Value.{Value}
-use Rattle.ot_model.specs.Shapes.{Arrays}
+use Rattle.ot_model.specs.Programs.{Arrays}
 use Rattle.ot_program.specs.Copies.{Placed, Copies, Done, Turn, at, turns, copies, copies_of, copy, in_order, in_copy}
 use Rattle.ot_program.specs.Meanings.{Bindings, letters, size}
 use Rattle.ot_place.specs.Texts.{Profile, text_by, text_at, copy_by}
 use Rattle.ot_place.specs.declared.text.Text.{Text as CodeText}
 use Rattle.ot_place.specs.declared.text.Text.TheVariants as t
 use Rattle.ot_place.proofs.CopyLemmas.{copy_is}
-use Rattle.ot_fault.specs.Entries.{whys_at}
-use Rattle.ot_fault.specs.Walk.{Walked, Passed, Met, unless_told, counted, walk, in_bodies, step_by}
-use Rattle.ot_fault.specs.Why.{Why, short, after}
+use Rattle.ot_fault.specs.Walk.{whys_at, Walked, Passed, Met, unless_told, counted, walk, in_bodies, step_by}
+use Rattle.ot_fault.specs.Whys.{Why, short, after}
 use Rattle.ot_fault.specs.declared.find.Step.{Step}
 use Rattle.ot_fault.specs.declared.own.Tally.{Tally as CodeTally}
 

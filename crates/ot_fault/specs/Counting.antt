@@ -2,8 +2,7 @@
 use Rattle.std.specs.Prelude.{ℕ, ◌+◌, nat_le, List, ◌++◌}
 use Rattle.ot_model.specs.Tree.{E}
 use Rattle.ot_program.specs.Limits.{max_statements, max_turns, max_nodes, max_cells, depth_of, nodes_of, picked_of, Tally}
-use Rattle.ot_fault.specs.Why.{Why, TooMany, TooManyTasks, long}
-use Rattle.ot_fault.specs.Whys.{unless}
+use Rattle.ot_fault.specs.Whys.{Why, TooMany, TooManyTasks, long, unless}
 use Rattle.ot_fault.specs.declared.look.Measure.{Measure}
 use Rattle.ot_fault.specs.declared.own.Tally.{Tally as CodeTally}
 use Rattle.ot_fault.specs.declared.why.Count.{Count}

@@ -1,17 +1,14 @@
 -- What holds of the faults that are named.
 use Rattle.std.specs.Prelude.{◌≡◌, ◌<◌, ◌^◌, ℕ, ◌++◌, map, Option, Some, None, option_map, Result, Ok, Err}
 use Rattle.serde_json.specs.Data.{Data, array, no_items, item}
-use Rattle.ot_model.specs.Programs.{Expanded}
-use Rattle.ot_model.specs.Shapes.{Arrays}
+use Rattle.ot_model.specs.Programs.{Expanded, Arrays}
 use Rattle.ot_program.specs.Copies.{Text, TaskText}
 use Rattle.ot_program.specs.Faults.{text_faults}
-use Rattle.ot_program.specs.Meanings.{Bindings}
-use Rattle.ot_program.specs.Profiles.{profile_of}
+use Rattle.ot_program.specs.Meanings.{Bindings, profile_of}
 use Rattle.ot_program.specs.Programs.{program_of}
 use Rattle.ot_program.specs.declared.fault.Refusal.{Refusal}
-use Rattle.ot_fault.specs.Entries.{mixed_whys, first_fault}
-use Rattle.ot_fault.specs.Why.{refusal_of}
-use Rattle.ot_fault.specs.Whys.{text_whys}
+use Rattle.ot_fault.specs.Walk.{mixed_whys, first_fault}
+use Rattle.ot_fault.specs.Whys.{refusal_of, text_whys}
 
 -- a task's profile is one that a program's first word names
 abbrev pub HasProfile : Text → Type 0

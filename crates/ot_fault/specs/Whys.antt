@@ -1,19 +1,100 @@
--- The faults of a statement's own parts, each with what is compared. They are those of `ot_program`'s definition, in its order:
--- of each, which part is of no form and what is wanted there, or which name, number, index, length or depth has the fault.
-use Rattle.std.specs.Prelude.{ℕ, ◌+◌, ◌==◌, nat_lt, nat_le, Bool, false, not, ◌&&◌, ◌||◌, if◌then◌else◌, List, [], ◌∷◌, ◌++◌, flat_map, is_some, unwrap_or, codes}
+-- What is at fault in a program, with what is compared, and which of several faults is told.
+use Rattle.std.specs.Prelude.{ℕ, ◌+◌, ◌==◌, nat_lt, nat_le, Bool, false, not, ◌&&◌, ◌||◌, if◌then◌else◌, List, [], ◌∷◌, ◌++◌, flat_map, is_some, unwrap_or, codes, ◌-◌, ◌^◌, min, Option, Some, None, ◌≡◌, option_map}
 use Rattle.std.specs.List.{list_any}
 use Rattle.serde_json.specs.Data.{Data, number, string, array, no_items, item}
-use Rattle.ot_model.specs.Shapes.{Arrays}
+use Rattle.ot_model.specs.Programs.{Arrays, arrays_of}
 use Rattle.ot_model.specs.declared.expr.Op.TheVariants.{Plus}
 use Rattle.ot_program.specs.Copies.{Text, SetText, AddText, FoldText, IfText, ForText, Turn, TaskText, WaitText, WaitForText, GroupText, GroupByText, ProgramText, NoForm}
-use Rattle.ot_program.specs.Faults.{is_list}
+use Rattle.ot_program.specs.Faults.{is_list, rank}
 use Rattle.ot_program.specs.Limits.{max_nesting, max_depth, size_depth, depth_of}
-use Rattle.ot_program.specs.Meanings.{items, letters, Bindings, bound, sign_of, in_range, exact, size, is_called, length_of, op_of, fold_of, value}
-use Rattle.ot_program.specs.Names.{whole_number, is_name, is_word}
-use Rattle.ot_program.specs.Profiles.{is_one, is_two}
-use Rattle.ot_place.specs.Texts.{Profile}
+use Rattle.ot_program.specs.Meanings.{items, letters, Bindings, bound, sign_of, in_range, exact, size, is_called, length_of, op_of, fold_of, value, whole_number, is_name, is_word, is_one, is_two, profile_of}
+use Rattle.ot_place.specs.Texts.{Profile, Stands}
 use Rattle.ot_fault.specs.declared.why.Wanted.TheVariants as wanted
-use Rattle.ot_fault.specs.Why.{Why, Form, NoStatement, Unbound, TooGreat, NotExact, Unknown, NoCell, NoCells, Empty, Nested, Deep, long, short}
+use Rattle.ot_model.specs.declared.expr.Op.{Op}
+use Rattle.ot_program.specs.declared.fault.Refusal.{Refusal}
+use Rattle.ot_program.specs.declared.fault.Refusal.TheVariants as told
+use Rattle.ot_fault.specs.declared.why.Wanted.{Wanted}
+use Rattle.ot_fault.specs.declared.why.Count.{Count}
+use Rattle.serde_json.specs.View.{view}
+use Rattle.ot_model.specs.declared.shape.ArrayShape.{ArrayShape}
+use Rattle.ot_place.specs.Spots.{bindings_of}
+use Rattle.ot_place.specs.declared.text.Profile.{Profile as CodeProfile}
+use Rattle.ot_fault.specs.declared.why.Why.{Why as CodeWhy}
+use Rattle.ot_fault.specs.declared.why.Why.TheVariants as w
+use Rattle.ot_fault.specs.declared.why.First.{First}
+use Rattle.ot_fault.specs.declared.look.Look.{Look}
+
+-- a fault, with what is compared
+pub data Why : Type 0 where
+  -- the part is of no form, where this is wanted
+  Form : (part : Data) → Wanted → Why
+  -- the statement is of no form
+  NoStatement : Why
+  -- no loop around binds the variable
+  Unbound : (name : List ℕ) → Why
+  -- the number is no size
+  TooGreat : ℕ → Why
+  -- the operation of two sizes is none
+  NotExact : Op → ℕ → ℕ → Why
+  -- no array has this name
+  Unknown : (name : List ℕ) → Why
+  -- the array has no cell at this index, but so many
+  NoCell : (name : List ℕ) → (index has : ℕ) → Why
+  -- the array has no cells from this start on so many, but so many in all
+  NoCells : (name : List ℕ) → (start len has : ℕ) → Why
+  -- the section of this array, from this start on, is of no cell
+  Empty : (name : List ℕ) → (start : ℕ) → Why
+  -- a body stands in so many others
+  Nested : (level : ℕ) → Why
+  -- the expression is so deep
+  Deep : (part : Data) → (depth : ℕ) → Why
+  -- there are so many, and may be so many
+  TooMany : Count → (has may : ℕ) → Why
+  -- there are so many task statements, and may be so many
+  TooManyTasks : (has may : ℕ) → Why
+  -- the cell of this array at this index is declared under `red` and otherwise
+  Mixed : (name : List ℕ) → (index : ℕ) → Why
+
+-- a number as it is told: the greatest of 64 bits, or of 32, stands for those beyond
+abbrev pub long : ℕ → ℕ
+long n = min n (2 ^ 64 - 1)
+
+abbrev pub short : ℕ → ℕ
+short n = min n (2 ^ 32 - 1)
+
+-- what a client is told of it
+abbrev pub refusal_of : Why → Refusal
+refusal_of (Form part wanted) = told.Form
+refusal_of NoStatement = told.Form
+refusal_of (Unbound name) = told.Size
+refusal_of (TooGreat n) = told.Size
+refusal_of (NotExact sign a b) = told.Size
+refusal_of (Unknown name) = told.UnknownArray
+refusal_of (NoCell name index has) = told.OutOfRange
+refusal_of (NoCells name start len has) = told.OutOfRange
+refusal_of (Empty name start) = told.EmptySection
+refusal_of (Nested level) = told.TooLarge
+refusal_of (Deep part depth) = told.TooLarge
+refusal_of (TooMany count has may) = told.TooLarge
+refusal_of (TooManyTasks has may) = told.TooManyTasks
+refusal_of (Mixed name index) = told.MixedReduction
+
+-- of two faults the one that is told: the first of the order, and of two in one place of it the first that is found
+abbrev pub earlier : Why → Why → Why
+earlier v w = if nat_lt (rank (refusal_of w)) (rank (refusal_of v)) then w else v
+
+-- what is told after one fault more
+abbrev pub noted : Option Why → Why → Option Why
+noted None w = Some w
+noted (Some v) w = Some (earlier v w)
+
+-- what is told after some more
+abbrev pub after : Option Why → List Why → Option Why
+after told [] = told
+after told (w ∷ ws) = after (noted told w) ws
+
+-- The faults of a statement's own parts, each with what is compared. They are those of `ot_program`'s definition, in its order:
+-- of each, which part is of no form and what is wanted there, or which name, number, index, length or depth has the fault.
 
 -- a fault where a test fails
 abbrev pub unless : Bool → Why → List Why
@@ -157,3 +238,39 @@ module _ (shape : Arrays) (level : ℕ) (variables : Bindings) where
   text_whys (GroupByText op a b) = fold_whys op ++ group_whys a b
   text_whys (ProgramText a b) = group_whys a b
   text_whys NoForm = NoStatement ∷ []
+
+-- What the code's values stand for.
+
+abbrev pub why_by : CodeWhy → Why
+why_by (w.Form part wanted) = Form (view part.now) wanted
+why_by w.NoStatement = NoStatement
+why_by (w.Unbound name) = Unbound name.now
+why_by (w.TooGreat n) = TooGreat n
+why_by (w.NotExact sign a b) = NotExact sign a b
+why_by (w.Unknown name) = Unknown name.now
+why_by (w.NoCell name index has) = NoCell name.now index has
+why_by (w.NoCells name start len has) = NoCells name.now start len has
+why_by (w.Empty name start) = Empty name.now start
+why_by (w.Nested level) = Nested level
+why_by (w.Deep part depth) = Deep (view part.now) depth
+why_by (w.TooMany count has may) = TooMany count has may
+why_by (w.TooManyTasks has may) = TooManyTasks has may
+why_by (w.Mixed name index) = Mixed name.now index
+
+-- what is told so far
+abbrev pub told_by : First → Option Why
+told_by first = option_map why_by first.why
+
+abbrev pub shape_of : List ArrayShape → ℕ → Arrays
+shape_of arrays tasks = record { arrays = arrays_of arrays; tasks = tasks }
+
+-- the arrays and the variables over which parts are looked at
+abbrev pub shape_by : Look → Arrays
+shape_by look = shape_of look.arrays.now look.tasks
+
+abbrev pub variables_by : Look → Bindings
+variables_by look = bindings_of look.trail.now
+
+-- the code's profile is this one, which a program's first word names
+abbrev pub IsProfile : CodeProfile → Profile → Type 0
+IsProfile code profile = Stands code profile × ((t : Data) × (profile_of t ≡ Some profile))

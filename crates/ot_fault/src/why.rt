@@ -1,7 +1,6 @@
 //! What is at fault in a program.
 ghost use Rattle.std.specs.Prelude.{◌≡◌, None};
-ghost use Rattle.ot_fault.specs.Why.{refusal_of, noted, after};
-ghost use Rattle.ot_fault.specs.First.{why_by, told_by};
+ghost use Rattle.ot_fault.specs.Whys.{refusal_of, noted, after, why_by, told_by, unless};
 
 use ot_model::Op;
 use ot_program::Refusal;
@@ -92,8 +91,6 @@ pub(crate) struct First<'a> {
 }
 
 impl<'a> First<'a> {
-    ghost use Rattle.ot_fault.specs.Whys.{unless};
-
     /// Of none.
     pub(crate) fn new() -> First<'a>
         ensures { told_by result ≡ None }
@@ -121,7 +118,7 @@ impl<'a> First<'a> {
     }
 }
 
-ghost use Rattle.ot_program.specs.Refusals.{rank};
+ghost use Rattle.ot_program.specs.Faults.{rank};
 
 /// The place of a fault in that order.
 fn rank(refusal: Refusal) -> u8

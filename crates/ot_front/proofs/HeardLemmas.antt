@@ -1,12 +1,11 @@
 -- What a session hears of a byte, a line or a piece more.
-use Rattle.std.proofs.Common.{◌≡◌, ◌≢◌, ℕ, suc, ◌+◌, ◌≤◌, ◌<◌, List, [], ◌∷◌, ◌++◌, length, refl, sym, ap, ◌∙◌, arith, append_assoc, append-nil, length-append, Bool, true, false}
+use Rattle.std.proofs.Common.{◌≡◌, ◌≢◌, ℕ, suc, ◌+◌, ◌≤◌, ◌<◌, List, [], ◌∷◌, ◌++◌, length, refl, sym, ap, ◌∙◌, arith, append_assoc, append-nil, length-append, Bool, true, false, inl, inr}
 use Rattle.std.specs.Prelude.{Some, None, fold, nat_le, is_some, if◌then◌else◌, ◌==◌}
-use Rattle.std.proofs.Common.{inl, inr}
 use Rattle.std.proofs.lemmas.List.Sums.{fold-append}
 use Rattle.std.proofs.lemmas.Bool.{le-leb}
 use Rattle.std.proofs.lemmas.Bool.Decides.{leb_tells, nat_tests}
 use Rattle.ot_book.specs.Room.{Room, takes, room_after}
-use Rattle.ot_front.specs.Heard.{Heard, nothing_heard, hear, heard, with_line, with_byte, is_bye, max_line, HasNoEnd}
+use Rattle.ot_front.specs.Session.{Heard, nothing_heard, hear, heard, with_line, with_byte, is_bye, max_line, HasNoEnd}
 use Rattle.ot_front.specs.declared.fault.End.{End}
 use Rattle.ot_front.specs.declared.fault.End.TheVariants.{Bye, Full, LongLine}
 

@@ -3,18 +3,14 @@ use Rattle.std.proofs.Common.{◌≡◌, ◌≢◌, ℕ, suc, ◌+◌, ◌<◌, 
 use Rattle.std.specs.Prelude.{All, Option, Some, None, Result, Ok, Err, ⊤, OnOk, OnErr, IfOk, IfErr}
 use Rattle.std.specs.Io.KnownBytes.{Appends, Consumes, IsAtEnd}
 use Rattle.std.proofs.KnownBytes.{Appends-nil}
-use Rattle.ot_lines.specs.Counts.{Flow, next_count, count_after}
-use Rattle.ot_lines.specs.Lines.{Hearing, HasNoEnd, opened, IsIdle}
-use Rattle.ot_lines.specs.Listening.{ended, IsLine, Went, Through, Ends, Listens, Stops as StopsAt}
+use Rattle.ot_lines.specs.Lines.{Flow, next_count, count_after, Hearing, HasNoEnd, opened, IsIdle, ended, IsLine, Went, Through, Ends, Listens, Stops as StopsAt}
 use Rattle.ot_lines.specs.declared.lines.LineFault.{LineFault}
 use Rattle.ot_lines.specs.declared.lines.LineFault.TheVariants as lines
 use Rattle.ot_lines.specs.declared.listener.Ended.{Ended}
 use Rattle.ot_lines.specs.declared.listener.Ended.TheVariants as ended_as
 use Rattle.ot_book.specs.Books.{Register, next_number}
-use Rattle.ot_front.specs.Device.{AppendsFront}
-use Rattle.ot_front.specs.Heard.{Heard, max_line}
-use Rattle.ot_front.specs.Session.{heard_in, closing, Session, Serves}
-use Rattle.ot_front.specs.Serving.{Going, TakesLine, IsServed, result_of, failed_writes, session_bounds}
+use Rattle.ot_front.specs.Serving.{AppendsFront, Going, TakesLine, IsServed, result_of, failed_writes, session_bounds}
+use Rattle.ot_front.specs.Session.{Heard, max_line, heard_in, closing, Session, Serves}
 use Rattle.ot_front.specs.declared.fault.End.{End}
 use Rattle.ot_front.specs.declared.fault.End.TheVariants as end
 use Rattle.ot_front.specs.declared.fault.FrontFault.{FrontFault}

@@ -7,8 +7,7 @@ use Rattle.std.proofs.Math.Seq.{take-append_seam, take-append-add}
 use Rattle.std.proofs.lemmas.List.{get_or-take, length-take-le}
 use Rattle.ot_book.specs.Books.{Register}
 use Rattle.ot_book.specs.Room.{room_in}
-use Rattle.ot_front.specs.Heard.{Heard, HasNoEnd}
-use Rattle.ot_front.specs.Session.{heard_in}
+use Rattle.ot_front.specs.Session.{Heard, HasNoEnd, heard_in}
 use Rattle.ot_front.specs.declared.fault.End.{End}
 use Rattle.ot_front.proofs.HeardLemmas.{heard-append, heard_ended, lines_grow}
 

@@ -4,12 +4,11 @@ use Rattle.std.proofs.Math.Logic.{∥∥₁_elim}
 use Rattle.ot_model.specs.Programs.{Expanded, expanded_of}
 use Rattle.ot_check.specs.Jobs.{Spec}
 use Rattle.ot_book.specs.Answers.{Step, Now, Runs}
-use Rattle.ot_book.specs.Books.{Register, opened, open_step}
-use Rattle.ot_book.specs.Opening.{OpensLine}
+use Rattle.ot_book.specs.Books.{Register, opened, open_step, OpensLine}
 use Rattle.ot_front.specs.Serving.{WouldRun}
 use Rattle.ot_book.specs.declared.book.Opened.{Opened}
 use Rattle.ot_book.specs.declared.book.Opened.TheVariants.{ToRun}
-use Rattle.ot_front.specs.Told.{RunsProgram}
+use Rattle.ot_front.specs.Session.{RunsProgram}
 
 no_run : (s : Step) (p : Expanded) → ∥ s ≡ Runs p ∥₁ → (x : Expanded) × (s ≡ Runs x)
 no_run (Now told arrays) p some = absurd (∥∥₁_elim some (λ (x y : ⊥). absurd x) (λ is. cc))

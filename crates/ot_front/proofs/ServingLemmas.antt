@@ -5,9 +5,7 @@ use Rattle.std.specs.Io.KnownBytes.{Appends, Consumes}
 use Rattle.std.proofs.KnownBytes.{Appends-nil, Consumes-nil}
 use Rattle.std.proofs.lemmas.List.{length-take-le}
 use Rattle.ot_book.specs.Books.{Register, next_number}
-use Rattle.ot_front.specs.Heard.{Heard}
-use Rattle.ot_front.specs.Told.{Lines, texts, marks, marked, after, told}
-use Rattle.ot_front.specs.Session.{heard_in, logged_lines, SessionTells, Session, Serves}
+use Rattle.ot_front.specs.Session.{Heard, heard_in, logged_lines, SessionTells, Session, Serves, Lines, texts, marks, marked, after, told}
 use Rattle.ot_front.specs.Serving.{Going, Serving}
 use Rattle.ot_front.specs.declared.fault.End.{End}
 use Rattle.ot_front.specs.declared.fault.End.TheVariants.{EndOfInput}

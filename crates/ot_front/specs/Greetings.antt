@@ -4,13 +4,12 @@ use Rattle.std.specs.Io.KnownBytes.{Appends, Consumes, IsAtEnd}
 use Rattle.serde_json.specs.Data.{Data, string, array, Items, no_items, item}
 use Rattle.serde_json.specs.Find.{as_array}
 use Rattle.serde_json.specs.Written.{compact_text}
-use Rattle.ot_program.specs.Names.{is_word}
-use Rattle.ot_book.specs.Answers.{value_of}
+use Rattle.ot_program.specs.Meanings.{is_word}
+use Rattle.ot_book.specs.Answers.{value_of, nat}
 use Rattle.ot_book.specs.Books.{Register, next_number}
-use Rattle.ot_book.specs.Replies.{nat}
 use Rattle.ot_book.specs.Requests.{name_in}
-use Rattle.ot_front.specs.Device.{AppendsFront}
-use Rattle.ot_front.specs.Heard.{HasNoEnd}
+use Rattle.ot_front.specs.Serving.{AppendsFront}
+use Rattle.ot_front.specs.Session.{HasNoEnd}
 use Rattle.ot_front.specs.Desks.{IsKnown}
 use Rattle.ot_front.specs.declared.fault.FrontFault.{FrontFault}
 use Rattle.ot_front.specs.declared.fault.FrontFault.TheVariants.{ReadFailed, WriteFailed, Memory}

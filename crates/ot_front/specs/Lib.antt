@@ -1,11 +1,7 @@
-pub mod Device
-pub mod Writing
-pub mod Heard
-pub mod Told
-pub mod Session
 pub mod Serving
+pub mod Writing
+pub mod Session
 pub mod Desks
 pub mod FirstLines
 pub mod Greetings
-pub mod Connections
 pub mod Racks

@@ -1,20 +1,23 @@
--- A session in the middle: between two bytes, and between two reads.
-use Rattle.std.specs.Prelude.{◌≡◌, ◌≢◌, ◌≤◌, ℕ, List, [], ◌∷◌, ◌++◌, length, Bool, true, false, Option, None, Result, Ok, Err, ⊤}
+-- What reads and writes do to the counts that a device keeps and to the bytes that a sink holds.
+use Rattle.std.specs.Prelude.{◌≡◌, ◌≢◌, ◌≤◌, ℕ, List, [], ◌∷◌, ◌++◌, length, Bool, true, false, Option, None, Result, Ok, Err, ⊤, ◌<◌, take}
 use Rattle.std.specs.Io.KnownBytes.{Appends, Consumes, IsAtEnd}
-use Rattle.ot_book.specs.Books.{Register, next_number, logged}
-use Rattle.ot_book.specs.Opening.{IsFullFor}
-use Rattle.ot_lines.specs.Counts.{Flow}
+use Rattle.ot_book.specs.Books.{Register, next_number, logged, IsFullFor}
+use Rattle.ot_lines.specs.Lines.{Flow}
 use Rattle.ot_lines.specs.declared.lines.Bounds.{Bounds}
-use Rattle.ot_front.specs.Device.{next_count, count_after}
-use Rattle.ot_front.specs.Heard.{max_line}
-use Rattle.ot_front.specs.Told.{Lines, texts, after, told, RunsProgram}
-use Rattle.ot_front.specs.Session.{heard_in, Session, Serves}
+use Rattle.ot_front.specs.Session.{max_line, heard_in, Session, Serves, Lines, texts, after, told, RunsProgram}
 use Rattle.ot_front.specs.declared.fault.End.{End}
 use Rattle.ot_front.specs.declared.fault.End.TheVariants as end
 use Rattle.ot_front.specs.declared.fault.FrontFault.{FrontFault}
 use Rattle.ot_front.specs.declared.fault.FrontFault.TheVariants as fault
 use Rattle.ot_front.specs.declared.stop.Stop.{Stop}
 use Rattle.ot_front.specs.declared.stop.Stop.TheVariants.{Bye, Full, LongLine, Closed, Stranger, WriteFailed, Memory}
+pub use Rattle.ot_lines.specs.Lines.{next_count, count_after}
+
+-- known bytes grow by the first bytes of bs, and not by all of them
+abbrev pub AppendsFront : Option (List ℕ) → Option (List ℕ) → List ℕ → Type 0
+AppendsFront old new bs = (n : ℕ) × (n < length bs) × Appends old new (take n bs)
+
+-- A session in the middle: between two bytes, and between two reads.
 
 -- what a session answers that stops so
 abbrev pub result_of : Stop → Result End FrontFault

@@ -1,14 +1,92 @@
--- What a session writes, and what it leaves, is a function of what it reads.
-use Rattle.std.specs.Prelude.{◌≡◌, ◌≤◌, ◌⊎◌, ℕ, ◌+◌, ◌-◌, List, [], ◌∷◌, ◌++◌, length, take, slice_get, codes, Bool, Option, Some, None, Result, Ok, Err}
+-- The replies to lines, one after another.
+use Rattle.std.specs.Prelude.{◌≡◌, ◌≤◌, ◌⊎◌, ℕ, ◌+◌, ◌-◌, List, [], ◌∷◌, ◌++◌, length, take, slice_get, codes, Bool, Option, Some, None, Result, Ok, Err, ◌==◌, fold, nat_le, is_some, if◌then◌else◌, map, false, option_map, unwrap_or}
 use Rattle.std.specs.Io.KnownBytes.{Appends, Consumes}
-use Rattle.ot_book.specs.Books.{Register, next_number}
-use Rattle.ot_book.specs.Room.{room_in}
-use Rattle.ot_front.specs.Heard.{Heard, heard}
-use Rattle.ot_front.specs.Told.{Lines, marked, after, told, RunsProgram}
+use Rattle.ot_book.specs.Books.{Register, next_number, next_step, reply_at, logged}
+use Rattle.ot_book.specs.Room.{room_in, Room, takes, room_after}
 use Rattle.ot_front.specs.declared.fault.End.{End}
-use Rattle.ot_front.specs.declared.fault.End.TheVariants.{EndOfInput, Full, LongLine, Closed}
+use Rattle.ot_front.specs.declared.fault.End.TheVariants.{EndOfInput, Full, LongLine, Closed, Bye}
 use Rattle.ot_front.specs.declared.fault.FrontFault.{FrontFault}
 use Rattle.ot_front.specs.declared.fault.FrontFault.TheVariants.{WriteFailed, Memory, Stranger, SocketFailed}
+pub use Rattle.ot_lines.specs.Lines.{HasNoEnd}
+pub use Rattle.ot_lines.specs.Goodbyes.{is_blank, without_front_blanks, trimmed, is_bye}
+use Rattle.ot_model.specs.Programs.{Expanded}
+use Rattle.ot_book.specs.Answers.{Runs, text_of}
+
+-- lines, each with whether it is answered for want of memory
+abbrev pub Lines : Type 0
+Lines = List (List ℕ × Bool)
+
+abbrev pub texts : Lines → List (List ℕ)
+texts lines = map (λ l. l.0) lines
+
+abbrev pub marks : Lines → List Bool
+marks lines = map (λ l. l.1) lines
+
+-- the lines with these marks beside them, and after the last mark with none
+abbrev pub marked : List (List ℕ) → List Bool → Lines
+marked [] lost = []
+marked (line ∷ lines) [] = (line, false) ∷ marked lines []
+marked (line ∷ lines) (mark ∷ lost) = (line, mark) ∷ marked lines lost
+
+-- the book after the lines, one after another
+abbrev pub after : Register → Lines → Register
+after book [] = book
+after book (line ∷ lines) = after (logged book line.0 line.1) lines
+
+-- the last reply of a log, ended by one LF
+abbrev pub last_reply : Register → List ℕ
+last_reply book = unwrap_or (option_map (λ r. text_of r.0 r.1 ++ 10 ∷ []) (reply_at book (length book.log - 1))) []
+
+-- the reply to a line as the next request: it stands last once the line is logged
+abbrev pub reply_line : Register → List ℕ × Bool → List ℕ
+reply_line book line = last_reply (logged book line.0 line.1)
+
+-- the replies to the lines, one after another
+abbrev pub told : Register → Lines → List ℕ
+told book [] = []
+told book (line ∷ lines) = reply_line book line ++ told (logged book line.0 line.1) lines
+
+-- the line runs a program
+abbrev pub RunsProgram : Register → List ℕ → Type 0
+RunsProgram book line = (program : Expanded) × (next_step book line ≡ Runs program)
+
+-- What a session hears: its input as lines, and where it ends.
+
+-- bytes of a line, without its LF
+abbrev pub max_line : ℕ
+max_line = 65536
+
+-- the lines that are requests, the line that has begun, and whether the session has ended
+pub record Heard : Type 0 where
+  pub lines : List (List ℕ)
+  pub partial : List ℕ
+  pub end : Option End
+
+abbrev pub nothing_heard : Heard
+nothing_heard = record { lines = []; partial = []; end = None }
+
+-- A whole line: the goodbye ends the session, and so does any other line that the log has no room for after those before it.
+abbrev pub with_line : Room → Heard → Heard
+with_line room h =
+    if is_bye h.partial then record { lines = h.lines; partial = []; end = Some Bye }
+    else (if takes (room_after room h.lines) h.partial then record { lines = h.lines ++ h.partial ∷ []; partial = []; end = None }
+    else record { lines = h.lines; partial = []; end = Some Full })
+
+-- A byte of a line, which ends the session where the line is as long as a line may be.
+abbrev pub with_byte : Heard → ℕ → Heard
+with_byte h byte =
+    if nat_le max_line (length h.partial) then record { lines = h.lines; partial = h.partial; end = Some LongLine }
+    else record { lines = h.lines; partial = h.partial ++ byte ∷ []; end = None }
+
+-- one byte more: after the end nothing is heard
+abbrev pub hear : Room → Heard → ℕ → Heard
+hear room h byte = if is_some h.end then h else (if byte == 10 then with_line room h else with_byte h byte)
+
+-- what is heard of the bytes, where the log has this room
+abbrev pub heard : Room → List ℕ → Heard
+heard room bytes = fold (hear room) nothing_heard bytes
+
+-- What a session writes, and what it leaves, is a function of what it reads.
 
 -- how a session closes
 abbrev pub closing : Option End → List ℕ

@@ -4,7 +4,7 @@
 //! bits, so a count begins again at 0 after 2^64.
 ghost use Rattle.std.specs.Prelude.{◌≡◌, ℕ, ◌<◌, ◌≤◌, List, Option, length, IfOk, OnOk, OnErr};
 ghost use Rattle.std.specs.Io.KnownBytes.{WriteAppends};
-ghost use Rattle.ot_front.specs.Device.{next_count};
+ghost use Rattle.ot_front.specs.Serving.{next_count};
 
 use ot_lines::Failed;
 

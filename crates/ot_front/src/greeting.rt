@@ -4,7 +4,7 @@ ghost use Rattle.serde_json.specs.Find.{as_array};
 ghost use Rattle.serde_json.specs.View.{view, items_view};
 ghost use Rattle.ot_book.specs.Answers.{value_of};
 ghost use Rattle.ot_book.specs.Requests.{name_in};
-ghost use Rattle.ot_front.specs.Device.{next_count, count_after};
+ghost use Rattle.ot_front.specs.Serving.{next_count, count_after};
 ghost use Rattle.ot_lines.specs.Lines.{opened};
 ghost use Rattle.ot_front.specs.FirstLines.{first_bounds};
 ghost use Rattle.ot_front.specs.Greetings.{hello_of, greeting_of, hello_text, refusal_text, WritesReply, Answers, Greets, IsGiven, IsRefused};

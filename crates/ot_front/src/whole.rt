@@ -1,7 +1,7 @@
 //! Writing all of a text, however little the sink takes at a time.
 ghost use Rattle.std.specs.Prelude.{◌≡◌, OnOk, OnErr};
 ghost use Rattle.std.specs.Io.KnownBytes.{Appends};
-ghost use Rattle.ot_front.specs.Device.{next_count, AppendsFront};
+ghost use Rattle.ot_front.specs.Serving.{next_count, AppendsFront};
 
 use crate::device::Sink;
 use ot_lines::Failed;

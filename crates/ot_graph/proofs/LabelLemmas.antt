@@ -13,16 +13,14 @@ use Rattle.std.proofs.lemmas.Bool.Decides.{nat_tests, eqb_tells}
 use Rattle.std.proofs.lemmas.List.{drop-append-le, drop_all, map-append, get_or_push, get_or_append_left, get_or-map, take_more, length-append, length-take-le, length-map}
 use Rattle.std.proofs.lemmas.List.Elements.{filter_more}
 use Rattle.std.proofs.lemmas.List.Folds.{list_any-append, list_any_more}
-use Rattle.ot_model.specs.Cells.{same_cell}
-use Rattle.ot_model.specs.Uses.{AreInOrder, mode_in, one_writes}
+use Rattle.ot_model.specs.Cells.{same_cell, AreInOrder, mode_in, one_writes}
 use Rattle.ot_model.specs.declared.expr.Cell.{Cell}
 use Rattle.ot_model.specs.declared.stmt.Mode.{Mode}
 use Rattle.ot_model.specs.declared.stmt.Mode.TheVariants.{Reads, Writes, Folds}
 use Rattle.ot_model.specs.declared.stmt.Use.{Use}
 use Rattle.ot_model.proofs.DeclaredLemmas.{by_mode, any-by_mode}
-use Rattle.ot_depend.specs.Direct.{is_direct, is_write, uses_cell, writes_cell}
-use Rattle.ot_graph.specs.Links.{cells_at, siblings_with}
-use Rattle.ot_graph.specs.Written.{IsWrittenUpTo, IsRow, AreRows, cell_order}
+use Rattle.ot_depend.specs.Siblings.{is_direct, is_write, uses_cell, writes_cell}
+use Rattle.ot_graph.specs.Links.{cells_at, siblings_with, IsWrittenUpTo, IsRow, AreRows, cell_order}
 
 -- ---- what one use asks
 

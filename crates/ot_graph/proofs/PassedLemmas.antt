@@ -7,8 +7,7 @@ use Rattle.std.proofs.lemmas.Bool.Decides.{nat_tests}
 use Rattle.std.proofs.lemmas.List.Folds.{list_any-append}
 use Rattle.ot_model.specs.declared.stmt.Use.{Use}
 use Rattle.ot_graph.specs.Created.{Created, Passed, Creates, Awaits, Enters, Leaves}
-use Rattle.ot_graph.specs.Passing.{takes, is_within}
-use Rattle.ot_graph.specs.Unawaited.{stays_within, is_wait_for, unawaited_of}
+use Rattle.ot_graph.specs.Passing.{takes, is_within, stays_within, is_wait_for, unawaited_of}
 
 -- ---- tests and filters
 

@@ -6,16 +6,12 @@ use Rattle.std.proofs.Math.Bool.{or-false}
 use Rattle.std.proofs.lemmas.Bool.Decides.{nat_tests}
 use Rattle.std.proofs.lemmas.List.Elements.{filter-append}
 use Rattle.std.proofs.lemmas.List.Folds.{list_any-append}
-use Rattle.ot_model.specs.Tree.{S, Set, Fold, If, Task, Wait, Group, Body, End, Next}
+use Rattle.ot_model.specs.Tree.{S, Set, Fold, If, Task, Wait, Group, Body, End, Next, size, size_one, val}
 use Rattle.ot_model.specs.Cells.{cell_of}
-use Rattle.ot_model.specs.Value.{val}
-use Rattle.ot_model.specs.Counts.{size, size_one}
 use Rattle.ot_model.specs.Serial.{State, bump, either, serial, serial_one, serial_run}
 use Rattle.ot_model.proofs.SerialLemmas.{either-both, serial-from}
 use Rattle.ot_graph.specs.Created.{Created, Passed, Creates, Enters, Leaves}
-use Rattle.ot_graph.specs.Families.{begun, created}
-use Rattle.ot_graph.specs.Passing.{takes, spares, is_within, unawaited, unawaited_one, passes, passes_one, marks}
-use Rattle.ot_graph.specs.Unawaited.{stays_within, is_wait_for, unawaited_of, AwaitExactly}
+use Rattle.ot_graph.specs.Passing.{begun, created, takes, spares, is_within, unawaited, unawaited_one, passes, passes_one, marks, stays_within, is_wait_for, unawaited_of, AwaitExactly}
 use Rattle.ot_graph.proofs.LinkLemmas.{other_number, same_number}
 use Rattle.ot_graph.proofs.PassedLemmas.{or_none, filter_same, filter_all, filter_both, filter_swap, filter_weaker, within_more, within-more, none-fewer, is_by, unawaited-others, none-of-others, waits-of-others, IsBalanced, leaves-none-balanced, leaves-none-alone, survives, unawaited-append, AreRight, right-append, right-at}
 

@@ -1,11 +1,6 @@
 pub mod Created
 pub mod Links
-pub mod Laws
-pub mod Written
-pub mod Families
 pub mod Passing
-pub mod Unawaited
-pub mod Children
 pub mod Graphs
 pub mod Dot
 pub mod Drawn

@@ -2,9 +2,7 @@
 ghost use Rattle.std.specs.Prelude.{◌≡◌, IfOk};
 ghost use Rattle.ot_model.specs.Programs.{expanded_of};
 ghost use Rattle.ot_check.specs.Jobs.{meaning_of};
-ghost use Rattle.ot_graph.specs.Families.{families};
-ghost use Rattle.ot_graph.specs.Passing.{marks};
-ghost use Rattle.ot_graph.specs.Unawaited.{AwaitExactly};
+ghost use Rattle.ot_graph.specs.Passing.{families, marks, AwaitExactly};
 ghost use Rattle.ot_graph.specs.Graphs.{families_of, marks_of};
 
 use crate::family::Family;

@@ -1,7 +1,7 @@
 //! Places of statements: each has a number, from 1, before those in its bodies.
 ghost use Rattle.std.specs.Prelude.{◌≡◌, ◌+◌, ◌<◌, ◌^◌};
 ghost use Rattle.ot_model.specs.View.{stmt_of, stmts_of};
-ghost use Rattle.ot_model.specs.Counts.{size, size_one};
+ghost use Rattle.ot_model.specs.Tree.{size, size_one};
 
 use ot_model::Stmt;
 

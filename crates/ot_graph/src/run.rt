@@ -3,16 +3,13 @@ ghost use Rattle.std.specs.Prelude.{◌≡◌, ◌+◌, ◌++◌, ◌∷◌, [],
 ghost use Rattle.std.specs.List.{filter};
 ghost use Rattle.ot_model.specs.View.{stmt_of, stmts_of};
 ghost use Rattle.ot_model.specs.Cells.{lengths};
-ghost use Rattle.ot_model.specs.Counts.{size, size_one, tasks_in, tasks_in_one};
+ghost use Rattle.ot_model.specs.Tree.{size, size_one, tasks_in, tasks_in_one};
 ghost use Rattle.ot_model.specs.Names.{NamedIn, OneNamedIn};
-ghost use Rattle.ot_model.specs.Runs.{state_of};
-ghost use Rattle.ot_model.specs.Serial.{serial, serial_one};
+ghost use Rattle.ot_model.specs.Serial.{state_of, serial, serial_one};
 ghost use Rattle.ot_check.specs.Offences.{awaits};
 ghost use Rattle.ot_graph.specs.Created.{Creates, Awaits, Enters, Leaves};
-ghost use Rattle.ot_graph.specs.Children.{created_of, all_of};
-ghost use Rattle.ot_graph.specs.Graphs.{families_of, marks_of};
-ghost use Rattle.ot_graph.specs.Families.{children_in, children_one, created, entered, inside, inside_one, kin_within};
-ghost use Rattle.ot_graph.specs.Passing.{is_within, passes, passes_one, spares, takes, unawaited, unawaited_one};
+ghost use Rattle.ot_graph.specs.Graphs.{created_of, all_of, families_of, marks_of};
+ghost use Rattle.ot_graph.specs.Passing.{children_in, children_one, created, entered, inside, inside_one, kin_within, is_within, passes, passes_one, spares, takes, unawaited, unawaited_one};
 
 use crate::child::Child;
 use crate::family::Family;

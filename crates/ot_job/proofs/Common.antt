@@ -11,16 +11,12 @@ pub use Rattle.std.proofs.lemmas.List.Sorted.{All-permutation, Contains-permutat
 pub use Rattle.std.proofs.lemmas.List.Sums.{count_by-le-length, length-filter, sum_by-cons}
 pub use Rattle.std.proofs.lemmas.Option.{none-some, same_Some, slice_get-get_or, slice_get_within}
 pub use Rattle.std.proofs.lemmas.Result.{IfOk-from_err, IfOk-weaker}
-pub use Rattle.ot_model.specs.Cells.{cell_of, lengths, same_cell, updated}
-pub use Rattle.ot_model.specs.Counts.{size, tasks_in}
+pub use Rattle.ot_model.specs.Cells.{cell_of, lengths, same_cell, updated, AreInOrder, Conflict, Precedes, conflicts, depends_on, first_of, is_fold, joined, mode_in, same_fold}
+pub use Rattle.ot_model.specs.Tree.{size, tasks_in, Apply, Body, CellAt, E, End, Fold, Group, If, Literal, Next, PickFrom, S, Set, Task, Wait, append, HasAll, cell_at, cells_named, val}
 pub use Rattle.ot_model.specs.Joining.{join_by, unit_of}
 pub use Rattle.ot_model.specs.Names.{AreInShape, NamedIn, ValueNamedIn}
 pub use Rattle.ot_model.specs.Programs.{Expanded, expanded_of}
-pub use Rattle.ot_model.specs.Runs.{state_of}
-pub use Rattle.ot_model.specs.Serial.{State, bump, change, either, serial, serial_run}
-pub use Rattle.ot_model.specs.Tree.{Apply, Body, CellAt, E, End, Fold, Group, If, Literal, Next, PickFrom, S, Set, Task, Wait, append}
-pub use Rattle.ot_model.specs.Uses.{AreInOrder, Conflict, Precedes, conflicts, depends_on, first_of, is_fold, joined, mode_in, same_fold}
-pub use Rattle.ot_model.specs.Value.{HasAll, cell_at, cells_named, val}
+pub use Rattle.ot_model.specs.Serial.{state_of, State, bump, change, either, serial, serial_run}
 pub use Rattle.ot_model.specs.View.{expr_of}
 pub use Rattle.ot_model.specs.declared.expr.Cell.{Cell}
 pub use Rattle.ot_model.specs.declared.expr.Section.{Section}
@@ -31,18 +27,14 @@ pub use Rattle.ot_model.specs.declared.stmt.Use.{Use}
 pub use Rattle.ot_model.proofs.CellsLemmas.{length-updated, updated-updated}
 pub use Rattle.ot_model.proofs.CountsLemmas.{tasks_in-≤-size}
 pub use Rattle.ot_model.proofs.SerialLemmas.{serial-append}
-pub use Rattle.ot_depend.specs.Kept.{has}
+pub use Rattle.ot_depend.specs.Kept.{has, LetsTheSame}
 pub use Rattle.ot_depend.specs.Siblings.{IsReady, IsUnfinished, Sibling, created, is_in, is_ready, is_unfinished, is_unfinished_in, with_finished}
-pub use Rattle.ot_depend.specs.Waiting.{LetsTheSame}
 pub use Rattle.ot_depend.proofs.ListLemmas.{slice_get-push_place}
 pub use Rattle.ot_depend.proofs.SiblingsLemmas.{slice_get-push}
-pub use Rattle.ot_owner.specs.Back.{all_back}
+pub use Rattle.ot_owner.specs.Worth.{all_back, AreJoined, AreWorthSame, worth, worth_over, worths}
 pub use Rattle.ot_owner.specs.Keeping.{Keeping}
-pub use Rattle.ot_owner.specs.Leases.{Lease, copy_of, lease_of, lent_from}
-pub use Rattle.ot_owner.specs.Lending.{first_at, is_at, use_of, uses_of, value_at}
-pub use Rattle.ot_owner.specs.Owning.{IsFreeFor, Loan, Owned, loan_of}
-pub use Rattle.ot_owner.specs.Rows.{IsNamed, IsSummed, IsSummedBy, Summed, begun_for}
-pub use Rattle.ot_owner.specs.Worth.{AreJoined, AreWorthSame, worth, worth_over, worths}
+pub use Rattle.ot_owner.specs.Lending.{Lease, copy_of, lease_of, lent_from, first_at, is_at, use_of, uses_of, value_at}
+pub use Rattle.ot_owner.specs.Owning.{IsFreeFor, Loan, Owned, loan_of, IsNamed, IsSummed, IsSummedBy, Summed, begun_for}
 pub use Rattle.ot_owner.specs.declared.lent.LentCell.{LentCell}
 pub use Rattle.ot_owner.proofs.LentLemmas.{found-lent}
 pub use Rattle.ot_owner.proofs.OutLemmas.{permutation_rest}
@@ -50,41 +42,30 @@ pub use Rattle.ot_owner.proofs.WorthLemmas.{cell_of-worths, worths-same}
 pub use Rattle.ot_roster.specs.Members.{Kept, Tells, put, with_kid, with_member}
 pub use Rattle.ot_roster.proofs.TellsLemmas.{put-here, put-other, tells-same}
 pub use Rattle.ot_check.specs.Discipline.{AreAssigns, Children, IsClean, IsFine, IsHarmless, behind_one}
-pub use Rattle.ot_check.specs.Offences.{Declared, Openings, allows, awaits, clashes, covers, folds_by, folds_to, has_cell, opened_by_any}
-pub use Rattle.ot_check.specs.Paths.{touches, use_as}
-pub use Rattle.ot_check.specs.Touches.{Agree, EachRead, EachTask, EachTouch}
+pub use Rattle.ot_check.specs.Offences.{Declared, Openings, allows, awaits, clashes, covers, folds_by, folds_to, has_cell, opened_by_any, touches, use_as, Agree, EachRead, EachTask, EachTouch}
 pub use Rattle.ot_check.specs.declared.fault.Offence.TheVariants.{ConflictsWithChild, NotDeclared, ReductionMisuse}
 pub use Rattle.ot_check.proofs.Cited.{and_left, and_right, and_true, clash_free, group_free, groups_inside, harmless, harmless_if, not_false, not_true, opened-none, or_false_left, or_false_right, or_right, or_true, same_is, touch-weaker, true_or}
-pub use Rattle.ot_task.specs.Assigns.{CanAssign, CanRun}
+pub use Rattle.ot_task.specs.Assigns.{CanAssign, CanRun, AreHeld, held, held_as, mode_held, noted, stronger, with_mode}
 pub use Rattle.ot_task.specs.Copies.{Look, assigned}
-pub use Rattle.ot_task.specs.Modes.{AreHeld, held, held_as, mode_held, noted, stronger, with_mode}
-pub use Rattle.ot_task.specs.Pieces.{awake, begun, behind, group_passed, leading, leading_len, passed, test_of}
-pub use Rattle.ot_task.specs.Place.{Open, todo}
-pub use Rattle.ot_task.specs.Regions.{Region, Run, Waiting, children_at, executed, group_next, inside, new_region, next_task, over, rest_at, root_region, stepped, stepped_from, stopped, tasks_next, with_child, with_created, with_rest, without}
-pub use Rattle.ot_task.specs.Standing.{is_at_end}
+pub use Rattle.ot_task.specs.Pieces.{awake, begun, behind, group_passed, leading, leading_len, passed, test_of, is_at_end}
+pub use Rattle.ot_task.specs.Regions.{Open, todo, Region, Run, Waiting, children_at, executed, group_next, inside, new_region, next_task, over, rest_at, root_region, stepped, stepped_from, stopped, tasks_next, with_child, with_created, with_rest, without, end_lets_go, is_awaited_at, is_held, is_let_go, region_weight, weight_left, weight_of}
 pub use Rattle.ot_task.specs.Touched.{assign_touches, piece_touches, test_touches}
-pub use Rattle.ot_task.specs.Waits.{end_lets_go, is_awaited_at, is_held, is_let_go}
-pub use Rattle.ot_task.specs.Weighing.{region_weight, weight_left, weight_of}
 pub use Rattle.ot_task.proofs.CellLemmas.{same_self}
 pub use Rattle.ot_task.proofs.HeldLemmas.{reads-append}
 pub use Rattle.ot_job.specs.Awaiting.{AwaitsAll, IsFineAt, Kids, children_of, kids_behind, opened, unawaited}
 pub use Rattle.ot_job.specs.Calls.{HasPiece, IsBack}
 pub use Rattle.ot_job.specs.Claiming.{claimable_of, is_claimable, picked}
-pub use Rattle.ot_job.specs.Claims.{Claims, ahead}
-pub use Rattle.ot_job.specs.Counting.{out_in}
+pub use Rattle.ot_job.specs.Moves.{Claims, ahead, CreatesInOrder, Settles, closed, counted, counts_after, moved_on, settled, told_parent, units_of}
+pub use Rattle.ot_job.specs.Left.{out_in, children_left, left}
 pub use Rattle.ot_job.specs.Holding.{Holds, touches_out}
 pub use Rattle.ot_job.specs.JobView.{live_of}
-pub use Rattle.ot_job.specs.Left.{children_left, left}
 pub use Rattle.ot_job.specs.Listing.{AreKept, IsRefreshed, member, members}
-pub use Rattle.ot_job.specs.Live.{Live}
+pub use Rattle.ot_job.specs.Dealings.{Live, aborted, all_ended, any_out, claimable_in, state_in}
 pub use Rattle.ot_job.specs.Numbered.{at, ended_at, gone, left_of, parent_of, parents, todo_at}
 pub use Rattle.ot_job.specs.Opened.{AreOpen, IsFor, IsRoomFor}
 pub use Rattle.ot_job.specs.Opening.{MayOpen, Opens, left_open}
-pub use Rattle.ot_job.specs.Rights.{IsRight}
 pub use Rattle.ot_job.specs.Running.{RunsWell}
-pub use Rattle.ot_job.specs.Settling.{CreatesInOrder, Settles, closed, counted, counts_after, moved_on, settled, told_parent, units_of}
 pub use Rattle.ot_job.specs.Sound.{DontMix, IsBegun, IsKin, IsPlaced, IsSound, LetsAll, NamedOnce, OnlyFolds, grouped_in, may_at}
-pub use Rattle.ot_job.specs.States.{aborted, all_ended, any_out, claimable_in, state_in}
 pub use Rattle.ot_job.specs.Taken.{Came, IsOut, Taken, taken_by, worker_in}
 pub use Rattle.ot_job.specs.Well.{IsOnCourse, IsWell, MaySettle}
 pub use Rattle.ot_job.specs.Whole.{assigns_out, loan_in, loans_out, whole, wholes, with_loan}

@@ -2,7 +2,7 @@
 use Rattle.std.proofs.Common.{◌≡◌, ◌≢◌, ℕ, suc, ◌+◌, ◌<◌, List, [], ◌∷◌, ◌++◌, length, Bool, true, false, cond, refl, sym, ◌∙◌, ap, subst, inl, inr, ⊎_elim, ◌⊎◌, arith, true≢false, ◌==◌}
 use Rattle.ot_job.proofs.Common.{cases_eq, cases_Bool, nat_tests, E, S, Set, Fold, If, Task, Wait, Group, Body, End, Next, append, val, cell_of, State, bump, either, serial, Reads, Use, serial-append, use_as, EachTouch, Agree, touch-weaker, left}
 use Rattle.ot_model.proofs.SerialLemmas.{serial-bump, either-ap}
-use Rattle.ot_check.specs.Touches.{EachTouchOne, AreApart}
+use Rattle.ot_check.specs.Offences.{EachTouchOne, AreApart}
 use Rattle.ot_check.proofs.Cited.{read-behind, apart}
 use Rattle.ot_task.proofs.AssignLemmas.{read-all}
 use Rattle.ot_job.proofs.Order.{order, order_from, insert_before, run_all, left-order, Anc, self, up, IsBefore, Each, Each-weaker, Ordered, Descends, AreParents, order-ordered, branch, anc-le}

@@ -6,7 +6,7 @@ use Rattle.std.proofs.lemmas.List.Elements.{Contains-get_or, Contains-append_lef
 use Rattle.std.proofs.lemmas.List.Quantifiers.{position-Some}
 use Rattle.std.proofs.lemmas.List.Sorted.{IsPermutation-middle, IsPermutation-to_front, IsPermutation-append_right}
 use Rattle.ot_model.proofs.EqualLemmas.{cell-decides}
-use Rattle.ot_owner.specs.Rows.{is_of, place_in, names, without as without_group}
+use Rattle.ot_owner.specs.Owning.{is_of, place_in, names, without as without_group}
 use Rattle.ot_owner.specs.Worth.{IsCombined}
 use Rattle.ot_owner.proofs.NameLemmas.{place-named as place-of}
 use Rattle.ot_owner.proofs.ShareLemmas.{bares, bares-back, bares-begun}

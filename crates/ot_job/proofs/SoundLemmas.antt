@@ -1,7 +1,7 @@
 -- A job's regions make it sound.
 use Rattle.std.proofs.Common.{◌≡◌, ℕ, zero, suc, ◌<◌, ◌≤◌, true, false, List, [], ◌∷◌, length, refl, sym, ap, subst, ◌∙◌, ◌⊎◌, inl, inr, arith, ◌&&◌, true≢false, Some, slice_get, ⊎_elim}
 use Rattle.ot_job.proofs.Common.{cases_lt, same_Some, Any-from_list_any, list_any-from_Any, and_left, and_right, and_true, same_is, same_self, conflicts, Cell, Operation, Mode, Reads, Writes, Folds, Use, Sibling, use_as, Declared, allows, covers, folds_by, same_cell, Agree, Region, at, gone, parent_of, todo_at, ended_at, may_at, IsBegun, DontMix, IsSound}
-use Rattle.ot_model.specs.Uses.{DependsOn, one_writes}
+use Rattle.ot_model.specs.Cells.{DependsOn, one_writes}
 use Rattle.ot_job.proofs.FoldLemmas.{same-op, both-fold, covered-fold}
 use Rattle.ot_job.proofs.Kept.{Sound}
 

@@ -7,11 +7,9 @@ use Rattle.ot_model.specs.declared.stmt.Mode.TheVariants.{Writes, Folds}
 use Rattle.ot_model.specs.declared.stmt.Use.{Use}
 use Rattle.ot_depend.specs.Siblings.{IsReady, IsUnfinished}
 use Rattle.ot_owner.specs.Keeping.{Keeping, Prepared, IsLast, IsOpenable}
-use Rattle.ot_owner.specs.Back.{AreStored, all_back}
-use Rattle.ot_owner.specs.Leases.{lent_from}
-use Rattle.ot_owner.specs.Owning.{Owned, loan_of, IsFreeFor}
-use Rattle.ot_owner.specs.Rows.{IsSummed, IsSummedBy, begun_for}
-use Rattle.ot_owner.specs.Worth.{worth, AreJoined, AreWorthSame}
+use Rattle.ot_owner.specs.Worth.{AreStored, all_back, worth, AreJoined, AreWorthSame}
+use Rattle.ot_owner.specs.Lending.{lent_from}
+use Rattle.ot_owner.specs.Owning.{Owned, loan_of, IsFreeFor, IsSummed, IsSummedBy, begun_for}
 use Rattle.ot_owner.specs.declared.lent.LentCell.{LentCell}
 use Rattle.ot_task.specs.Regions.{Region}
 use Rattle.ot_job.specs.Numbered.{at, parent_of}

@@ -1,17 +1,17 @@
 -- What the pieces that are out hold, in every job, failing ones too.
 use Rattle.std.specs.Prelude.{◌≡◌, ◌≢◌, ℕ, true, false, List, Some, None, Contains}
-use Rattle.ot_model.specs.Uses.{Conflict, mode_in}
+use Rattle.ot_model.specs.Cells.{Conflict, mode_in}
 use Rattle.ot_model.specs.declared.expr.Cell.{Cell}
 use Rattle.ot_model.specs.declared.fold.Fold.{Fold as Operation}
 use Rattle.ot_model.specs.declared.stmt.Mode.TheVariants.{Reads, Writes, Folds}
 use Rattle.ot_model.specs.declared.stmt.Use.{Use}
 use Rattle.ot_check.specs.Offences.{Declared, folds_to}
-use Rattle.ot_owner.specs.Leases.{lease_of, lent_from}
+use Rattle.ot_owner.specs.Lending.{lease_of, lent_from}
 use Rattle.ot_owner.specs.Worth.{worths}
 use Rattle.ot_task.specs.Pieces.{test_of}
 use Rattle.ot_task.specs.Regions.{Region, Run}
 use Rattle.ot_task.specs.Touched.{piece_touches}
-use Rattle.ot_job.specs.Live.{Live}
+use Rattle.ot_job.specs.Dealings.{Live}
 use Rattle.ot_job.specs.Numbered.{at}
 
 -- one of the touches is of the cell

@@ -1,10 +1,9 @@
 -- What is kept at every moment.
 use Rattle.std.specs.Prelude.{◌≡◌}
-use Rattle.ot_model.specs.Serial.{serial_run}
-use Rattle.ot_model.specs.Runs.{state_of}
+use Rattle.ot_model.specs.Serial.{serial_run, state_of}
 use Rattle.ot_owner.specs.Worth.{worths}
 use Rattle.ot_job.specs.Numbered.{left_of}
-use Rattle.ot_job.specs.Live.{Live}
+use Rattle.ot_job.specs.Dealings.{Live}
 use Rattle.ot_job.specs.Whole.{wholes}
 use Rattle.ot_job.specs.declared.state.State.{State}
 use Rattle.ot_job.specs.declared.state.State.TheVariants.{Working, Ended}

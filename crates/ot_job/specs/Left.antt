@@ -1,7 +1,8 @@
 -- What is left of a job, run serially.
-use Rattle.std.specs.Prelude.{ℕ, ◌+◌, List, [], ◌∷◌, ◌==◌, if◌then◌else◌}
+use Rattle.std.specs.Prelude.{ℕ, ◌+◌, List, [], ◌∷◌, ◌==◌, if◌then◌else◌, is_some, count_by}
 use Rattle.ot_model.specs.Tree.{Body}
 use Rattle.ot_model.specs.Serial.{State, serial}
+use Rattle.ot_task.specs.Regions.{Region}
 
 -- what is left of the children of the task p among the tasks k, k + 1, .., whose parents are listed, in order of
 -- creation: of each child what is left of its own children, and then its remaining statements
@@ -13,3 +14,9 @@ children_left todo p k (q ∷ qs) s =
 -- what is left of the job: of the root's children, and then of the root
 abbrev pub left : (ℕ → Body) → List ℕ → State → State
 left todo parents s = serial (todo 0) (children_left todo 0 1 parents s)
+
+-- How many pieces of a job are out.
+
+-- how many have a piece out
+abbrev pub out_in : List Region → ℕ
+out_in rs = count_by (λ r. is_some r.running) rs

@@ -3,8 +3,7 @@ use Rattle.std.specs.Prelude.{ℕ, zero, suc, Bool, true, List, [], ◌∷◌, m
 use Rattle.ot_model.specs.Tree.{Body, End}
 use Rattle.ot_model.specs.Serial.{State}
 use Rattle.ot_job.specs.Left.{left}
-use Rattle.ot_task.specs.Place.{todo}
-use Rattle.ot_task.specs.Regions.{Region}
+use Rattle.ot_task.specs.Regions.{todo, Region}
 
 -- no region
 abbrev pub gone : Region

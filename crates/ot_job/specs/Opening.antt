@@ -3,8 +3,7 @@ use Rattle.std.specs.Prelude.{◌≡◌, ◌≢◌, ◌↔◌, ℕ, List, [], �
 use Rattle.ot_model.specs.declared.expr.Cell.{Cell}
 use Rattle.ot_model.specs.declared.fold.Fold.{Fold as Operation}
 use Rattle.ot_model.specs.declared.stmt.Use.{Use}
-use Rattle.ot_owner.specs.Owning.{Loan, Owned, IsFreeFor}
-use Rattle.ot_owner.specs.Rows.{Summed, without, IsNamed, IsSummed}
+use Rattle.ot_owner.specs.Owning.{Loan, Owned, IsFreeFor, Summed, without, IsNamed, IsSummed}
 use Rattle.ot_owner.specs.Worth.{closed_over}
 
 -- the groups that stay open where this one's end is passed

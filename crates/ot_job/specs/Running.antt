@@ -1,12 +1,12 @@
 -- What holds of a region with a piece out.
 use Rattle.std.specs.Prelude.{◌≡◌, false, None}
 use Rattle.ot_model.specs.Tree.{End}
-use Rattle.ot_model.specs.Uses.{AreInOrder, mode_in}
+use Rattle.ot_model.specs.Cells.{AreInOrder, mode_in}
 use Rattle.ot_model.specs.declared.expr.Cell.{Cell}
 use Rattle.ot_check.specs.Discipline.{AreAssigns}
 use Rattle.ot_task.specs.Regions.{Region, Run}
 use Rattle.ot_task.specs.Pieces.{leading, test_of}
-use Rattle.ot_task.specs.Modes.{held}
+use Rattle.ot_task.specs.Assigns.{held}
 use Rattle.ot_task.specs.Touched.{piece_touches}
 
 pub record RunsWell (r : Region) (run : Run) : Type 0 where

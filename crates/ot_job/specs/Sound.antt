@@ -6,18 +6,12 @@ use Rattle.ot_model.specs.declared.fold.Fold.{Fold as Operation}
 use Rattle.ot_model.specs.declared.stmt.Mode.{Mode}
 use Rattle.ot_model.specs.declared.stmt.Mode.TheVariants.{Writes, Folds}
 use Rattle.ot_model.specs.declared.stmt.Use.{Use}
-use Rattle.ot_model.specs.Uses.{same_fold}
+use Rattle.ot_model.specs.Cells.{same_fold}
 use Rattle.ot_depend.specs.Siblings.{Sibling, IsReady, is_in}
-use Rattle.ot_check.specs.Paths.{use_as}
-use Rattle.ot_check.specs.Offences.{Declared, Openings, allows, folds_to, has_cell}
-use Rattle.ot_check.specs.Touches.{EachTouch, EachTask}
+use Rattle.ot_check.specs.Offences.{use_as, Declared, Openings, allows, folds_to, has_cell, EachTouch, EachTask}
 use Rattle.ot_job.specs.Numbered.{at, parent_of, ended_at}
-use Rattle.ot_task.specs.Place.{Open, todo}
+use Rattle.ot_task.specs.Regions.{Open, todo, Region}
 use Rattle.ot_job.specs.Awaiting.{opened, IsFineAt, AwaitsAll, unawaited}
-use Rattle.ot_task.specs.Regions.{Region}
-
-abbrev pub may_at : List Region → ℕ → Use → Type 0
-may_at rs i u = allows (at rs i).own u ≡ true
 
 -- the task is the root, or ready by its parent's table
 abbrev pub IsBegun : List Region → ℕ → Type 0

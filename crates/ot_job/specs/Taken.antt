@@ -1,7 +1,6 @@
 -- A piece that is handed out, and comes back.
 use Rattle.std.specs.Prelude.{◌≡◌, ℕ, Bool, List, Option, option_map, unwrap_or, nat_lt}
-use Rattle.ot_model.specs.Tree.{E, Body}
-use Rattle.ot_model.specs.Value.{val}
+use Rattle.ot_model.specs.Tree.{E, Body, val}
 use Rattle.ot_model.specs.declared.expr.Cell.{Cell}
 use Rattle.ot_owner.specs.Lending.{first_at, value_at}
 use Rattle.ot_owner.specs.declared.lent.LentCell.{LentCell}

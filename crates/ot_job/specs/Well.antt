@@ -2,18 +2,17 @@
 use Rattle.std.specs.Prelude.{◌≡◌, ◌<◌, ◌≤◌, ◌+◌, ◌*◌, ℕ, false, Some, All, Contains, IsSome, length, IsPermutation}
 use Rattle.ot_model.specs.Names.{NamedIn, AreInShape}
 use Rattle.ot_model.specs.Cells.{cell_of, lengths}
-use Rattle.ot_model.specs.Counts.{size}
-use Rattle.ot_task.specs.Regions.{Run}
+use Rattle.ot_model.specs.Tree.{size}
+use Rattle.ot_task.specs.Regions.{Run, weight_of}
 use Rattle.ot_job.specs.Numbered.{at, parent_of, todo_at}
 use Rattle.ot_job.specs.Sound.{IsBegun, IsSound}
 use Rattle.ot_job.specs.Kept.{IsKept}
 use Rattle.ot_depend.specs.Siblings.{IsReady, IsUnfinished}
-use Rattle.ot_job.specs.Live.{Live}
+use Rattle.ot_job.specs.Dealings.{Live}
 use Rattle.ot_job.specs.Whole.{wholes, loan_in, loans_out}
 use Rattle.ot_job.specs.Opened.{AreOpen}
 use Rattle.ot_job.specs.Holding.{AllHold, HavePresent, AreApart}
 use Rattle.ot_job.specs.Running.{RunsWell}
-use Rattle.ot_task.specs.Weighing.{weight_of}
 
 -- what holds until it fails
 pub record IsOnCourse (j : Live) : Type 0 where
@@ -40,10 +39,3 @@ pub record IsWell (j : Live) : Type 0 where
   pub few : j.counts.units ≤ size j.program.body
   pub light : weight_of j.regions ≤ 2 * size j.program.body + 1
   pub course : j.failing ≡ false → IsOnCourse j
-
--- what holds of a job for each piece that is out: its loan is out, its cells are there, and its parent's table lets it finish
-pub record MaySettle (j : Live) : Type 0 where
-  pub out : (i : ℕ) (run : Run) → (at j.regions i).running ≡ Some run → Contains j.owned.out (loan_in run) × All (λ u. IsSome (cell_of j.cells u.cell)) run.lease.uses
-  pub kin : (i : ℕ) (run : Run) → (at j.regions i).running ≡ Some run → 0 < i
-      → (parent_of j.regions i < length j.regions) × IsReady (at j.regions (parent_of j.regions i)).children (at j.regions i).child
-      × IsUnfinished (at j.regions (parent_of j.regions i)).children (at j.regions i).child

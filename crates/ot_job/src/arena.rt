@@ -1,7 +1,7 @@
 ghost use Rattle.std.specs.Prelude.{◌≡◌, ◌<◌, ◌≤◌, length, vec_len, OnOk, OnErr};
 ghost use Rattle.ot_task.specs.Regions.{executed};
 ghost use Rattle.ot_job.specs.Numbered.{at};
-ghost use Rattle.ot_job.specs.Settling.{CreatesInOrder};
+ghost use Rattle.ot_job.specs.Moves.{CreatesInOrder};
 
 use ot_task::Task;
 use std::alloc::{AllocError, Global};

@@ -28,7 +28,7 @@ pub struct Job {
 impl Model for Job {
     ghost use Rattle.std.specs.Coded.{codes};
     ghost use Rattle.ot_model.specs.Code.{body_code};
-    ghost use Rattle.ot_job.specs.Live.{Live};
+    ghost use Rattle.ot_job.specs.Dealings.{Live};
 
     ghost Value = { Live };
 
@@ -45,17 +45,15 @@ impl Model for Job {
 impl Job {
     ghost use Rattle.std.specs.Prelude.{◌≡◌, ◌<◌, ◌≤◌, ◌+◌, ◌*◌, ◌↔◌, Some, IsSome, IsTrue, length, OnErr, IfOk, IfErr};
     ghost use Rattle.ot_model.specs.Cells.{cell_of, lengths};
-    ghost use Rattle.ot_model.specs.Counts.{size};
-    ghost use Rattle.ot_owner.specs.Rows.{NoTwoShare};
+    ghost use Rattle.ot_model.specs.Tree.{size};
+    ghost use Rattle.ot_owner.specs.Owning.{NoTwoShare};
     ghost use Rattle.ot_owner.specs.Worth.{worth};
-    ghost use Rattle.ot_job.specs.Settling.{Settles, Refuses};
+    ghost use Rattle.ot_job.specs.Moves.{Settles, Refuses, Claimed};
     ghost use Rattle.ot_job.specs.Claiming.{picked};
-    ghost use Rattle.ot_job.specs.Claims.{Claimed};
-    ghost use Rattle.ot_job.specs.States.{Starts, Fails, state_in, claimable_in, aborted};
-    ghost use Rattle.ot_job.specs.Dealings.{state_of, IsOver, NoneOut, IsOf};
+    ghost use Rattle.ot_job.specs.Dealings.{Starts, Fails, state_in, claimable_in, aborted, state_of, IsOver, NoneOut, IsOf};
     ghost use Rattle.ot_job.specs.declared.state.State.TheVariants.{Working, Failing, Ended, Failed};
     ghost use Rattle.ot_check.specs.Jobs.{Spec, IsMeaning};
-    ghost use Rattle.ot_task.specs.Weighing.{weight_of};
+    ghost use Rattle.ot_task.specs.Regions.{weight_of};
     ghost use Rattle.ot_job.specs.Kept.{IsKeptIn};
     ghost use Rattle.ot_job.specs.Holding.{AllHold, HavePresent, AreApart};
 

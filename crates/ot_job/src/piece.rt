@@ -1,6 +1,6 @@
 ghost use Rattle.std.specs.Prelude.{◌≡◌, IfSome, option_map, ◌∷◌, ◌↔◌, IsTrue, All, Contains, IsSome, IsPermutation};
 ghost use Rattle.ot_model.specs.View.{expr_of};
-ghost use Rattle.ot_model.specs.Value.{val, HasAll};
+ghost use Rattle.ot_model.specs.Tree.{val, HasAll};
 ghost use Rattle.ot_owner.specs.Lending.{value_at};
 ghost use Rattle.ot_job.specs.Taken.{IsRun, taken_by};
 
@@ -56,7 +56,7 @@ impl Model for Done {
 
     ghost coded = { Prim.hlevel (codes, body_code, value_code) };
 
-    ghost use Rattle.ot_job.specs.DoneView.{came_of};
+    ghost use Rattle.ot_job.specs.JobView.{came_of};
     ghost use Rattle.ot_job.specs.Taken.{IsRun};
 
     ghost view = { came_of };
@@ -138,11 +138,9 @@ fn answer(condition: Option<&Expr>, lent: &Lent) -> Option<u64>
 impl Done {
     ghost use Rattle.ot_model.specs.Cells.{cell_of, lengths};
     ghost use Rattle.ot_model.specs.declared.stmt.Mode.TheVariants.{Writes};
-    ghost use Rattle.ot_owner.specs.Back.{AreStored, all_back};
+    ghost use Rattle.ot_owner.specs.Worth.{AreStored, all_back, AreJoined, worth};
     ghost use Rattle.ot_owner.specs.Keeping.{IsOpenable};
-    ghost use Rattle.ot_owner.specs.Owning.{loan_of};
-    ghost use Rattle.ot_owner.specs.Rows.{IsSummed};
-    ghost use Rattle.ot_owner.specs.Worth.{AreJoined, worth};
+    ghost use Rattle.ot_owner.specs.Owning.{loan_of, IsSummed};
     ghost use Rattle.ot_task.specs.Pieces.{Runs, leading_len};
 
     /// The number of its task.

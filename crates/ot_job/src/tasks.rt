@@ -42,9 +42,9 @@ impl Tasks {
     ghost use Rattle.ot_parts.specs.Parts.{parts_of};
     ghost use Rattle.ot_job.specs.Numbered.{at, parent_of};
     ghost use Rattle.ot_task.specs.Pieces.{leading, awake, begun};
-    ghost use Rattle.ot_job.specs.Settling.{CreatesInOrder, closed, moved_on, settled};
+    ghost use Rattle.ot_job.specs.Moves.{CreatesInOrder, closed, moved_on, settled};
     ghost use Rattle.ot_job.specs.Claiming.{claimable_of, picked};
-    ghost use Rattle.ot_job.specs.States.{any_out, all_ended};
+    ghost use Rattle.ot_job.specs.Dealings.{any_out, all_ended};
     ghost use Rattle.ot_job.specs.Calls.{HasPiece, MayEnd, MayFinish};
 
     /// The root task alone, at the beginning of the program's body.

@@ -1,5 +1,5 @@
 ghost use Rattle.std.specs.Prelude.{◌≡◌, ◌<◌, ◌^◌};
-ghost use Rattle.ot_task.specs.Weighing.{weight_of};
+ghost use Rattle.ot_task.specs.Regions.{weight_of};
 
 use ot_task::Task;
 

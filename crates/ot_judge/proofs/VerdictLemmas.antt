@@ -8,10 +8,9 @@ use Rattle.std.proofs.lemmas.Option.{slice_get-get_or}
 use Rattle.ot_model.specs.Programs.{expanded_of}
 use Rattle.ot_check.specs.Jobs.{Spec}
 use Rattle.ot_store.specs.Arrays.{Named}
-use Rattle.ot_book.specs.Replies as r
+use Rattle.ot_book.specs.Answers as r
 use Rattle.ot_book.specs.Answers.{Step, Now, Runs, answer_or_lost, finished, is_checkpoint}
-use Rattle.ot_book.specs.Books.{Register, state_in, next_step, appended, cleared, logged, opened, open_step, refused}
-use Rattle.ot_book.specs.Opening.{IsFullFor, OpensLine}
+use Rattle.ot_book.specs.Books.{Register, state_in, next_step, appended, cleared, logged, opened, open_step, refused, IsFullFor, OpensLine}
 use Rattle.ot_book.specs.declared.book.Opened.{Opened}
 use Rattle.ot_book.specs.declared.book.Opened.TheVariants.{Full, Answered, ToRun}
 use Rattle.ot_book.proofs.BookLemmas.{logged-by, state-cleared}

@@ -1,17 +1,23 @@
 -- Which requests of a file are refused, where no program is run.
-use Rattle.std.specs.Prelude.{ℕ, zero, suc, ◌-◌, List, [], ◌∷◌, length, slice_range, codes, Bool, true, false, if◌then◌else◌, Option, Some, None, option_map, option_and_then, Result, Ok, Err}
+use Rattle.std.specs.Prelude.{ℕ, zero, suc, ◌-◌, List, [], ◌∷◌, length, slice_range, codes, Bool, true, false, if◌then◌else◌, Option, Some, None, option_map, option_and_then, Result, Ok, Err, ◌≡◌, ◌≤◌, ◌+◌, drop, unwrap_or, ◌⊎◌}
 use Rattle.ot_file.specs.Cuts.{piece_from}
 use Rattle.ot_file.specs.declared.request.Piece.{Piece}
 use Rattle.ot_store.specs.Arrays.{Named, created}
-use Rattle.ot_store.specs.Usual.{usual_limits}
+use Rattle.ot_store.specs.Refusals.{usual_limits}
 use Rattle.ot_store.specs.declared.fault.StoreRefusal.{StoreRefusal}
-use Rattle.ot_book.specs.Replies as r
-use Rattle.ot_book.specs.Answers.{Step, Now, Runs}
+use Rattle.ot_book.specs.Answers as r
+use Rattle.ot_book.specs.Answers.{Step, Now, Runs, value_of}
 use Rattle.ot_book.specs.Books.{Register, new_register, next_step, logged, reply_at}
 use Rattle.ot_book.specs.Room.{room_in, takes}
-use Rattle.ot_judge.specs.Lines.{is_goodbye, line_of}
+use Rattle.ot_judge.specs.Lines.{is_goodbye, line_of, is_program}
 use Rattle.ot_judge.specs.declared.verdict.Verdict.{Verdict}
 use Rattle.ot_judge.specs.declared.verdict.Verdict.TheVariants.{Taken, Refused, Full}
+use Rattle.ot_file.specs.Items.{offset_of}
+use Rattle.ot_file.specs.Positions.{position_of}
+use Rattle.ot_file.specs.declared.position.Position.{Position}
+use Rattle.ot_place.specs.Spots.{Path, Spot, statements_of, numbered}
+use Rattle.ot_judge.specs.declared.findings.Found.{Found}
+use Rattle.ot_judge.specs.declared.findings.Finding.{Finding}
 
 -- ---- one request
 
@@ -124,3 +130,80 @@ made arrays (one ∷ others) = and_then (created one.0 one.1 usual_limits arrays
 -- the book that a file finds, where these arrays are there: that of a tenant that begins
 abbrev pub finds : List Named → Register
 finds arrays = new_register (codes "t1") usual_limits arrays
+
+-- Where in a file a request is refused.
+
+-- the path in a piece to what a path in its line leads to: a program is the second item of its line
+abbrev pub path_in : Bool → Path → Path
+path_in true path = drop 1 path
+path_in false path = path
+
+-- how many bytes of a piece stand before a statement
+abbrev pub spot_offset : List ℕ → Spot → Option ℕ
+spot_offset piece s = offset_of piece (path_in (is_program piece) s.path)
+
+-- the same of the statement that has this number in replies
+abbrev pub statement_offset : List ℕ → ℕ → Option ℕ
+statement_offset piece number =
+    option_and_then (λ request. option_and_then (spot_offset piece) (numbered number (statements_of request))) (value_of (line_of piece))
+
+-- where in a file without comments that statement of a piece stands, or the piece, where it has none
+abbrev pub statement_position : List ℕ → ℕ → ℕ → ℕ → Position
+statement_position blank start end number =
+    position_of blank (start + unwrap_or (statement_offset (slice_range blank start end) number) 0)
+
+-- a byte of the piece, or the one behind it
+pub record IsInPiece (blank : List ℕ) (start end : ℕ) (position : Position) : Type 0 where
+  pub offset : ℕ
+  pub within : offset ≤ end - start
+  pub is : position ≡ position_of blank (start + offset)
+
+-- an offence is told at the statement that the reply counts, and what else is refused, in the piece
+abbrev pub IsPlacedBy : Option r.Told → List ℕ → ℕ → ℕ → Position → Type 0
+IsPlacedBy (Some (r.Offends code number)) blank start end position = position ≡ statement_position blank start end number
+IsPlacedBy told blank start end position = IsInPiece blank start end position
+
+-- a full log is told at the piece
+abbrev pub IsPlacedIn : Option Register → List ℕ → ℕ → ℕ → Position → Type 0
+IsPlacedIn None blank start end position = position ≡ position_of blank start
+IsPlacedIn (Some book) blank start end position = IsPlacedBy (last_told book) blank start end position
+
+abbrev pub IsPlaced : List ℕ → Refusal → Position → Type 0
+IsPlaced blank refusal position = IsPlacedIn refusal.book blank refusal.start refusal.end position
+
+-- A request that isn't taken.
+
+-- as a refusal, by the book behind it
+abbrev pub found_as : Found → Register → Refusal
+found_as f book = record { start = f.start; end = f.end; book = if f.is_full then None else Some book }
+
+-- How far a file was judged.
+
+-- a file without comments, from which byte on it is still to be judged, and the book that the rest finds
+pub record Standing : Type 0 where
+  pub blank : List ℕ
+  pub from : ℕ
+  pub book : Register
+
+abbrev pub standing : List ℕ → ℕ → Register → Standing
+standing blank from book = record { blank = blank; from = from; book = book }
+
+-- how many bytes are still to be judged
+abbrev pub bytes_left : Standing → ℕ
+bytes_left s = length s.blank - s.from
+
+-- these are the refusals that are still to come; so many pieces are left at most
+pub record Goes (all : List Refusal) (s : Standing) : Type 0 where
+  pub most : ℕ
+  pub enough : length s.blank ≤ s.from + most
+  pub is : refusals_from most s.blank s.from s.book ≡ all
+
+-- what is found is this refusal
+pub record IsSeen (one : Refusal) (f : Finding) : Type 0 where
+  pub start : f.start ≡ one.start
+  pub end : f.end ≡ one.end
+  pub code : f.code ≡ option_and_then code_in (told_in one)
+
+-- this book is the one behind it, unless it found the log full
+abbrev pub IsBehind : Refusal → Register → Type 0
+IsBehind one book = (one.book ≡ None) ⊎ (one.book ≡ Some book)

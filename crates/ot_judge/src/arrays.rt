@@ -1,8 +1,8 @@
 //! The arrays that are there before a file.
 ghost use Rattle.std.specs.Prelude.{◌≡◌, List, [], Ok, IfOk};
 ghost use Rattle.ot_store.specs.Arrays.{Named};
-ghost use Rattle.ot_store.specs.Usual.{usual_limits};
-ghost use Rattle.ot_model.specs.ShapeView.{arrays_of};
+ghost use Rattle.ot_store.specs.Refusals.{usual_limits};
+ghost use Rattle.ot_model.specs.Programs.{arrays_of};
 ghost use Rattle.ot_judge.specs.Judging.{finds, made};
 
 use crate::fault::JudgeFault;

@@ -1,8 +1,6 @@
 //! The requests of a file that are refused, one after another.
 ghost use Rattle.std.specs.Prelude.{◌≡◌, ◌≤◌, ◌<◌, [], ◌∷◌, None, List, length, IfOk, IfSome, MatchOption, ℕ, Ok, option_and_then};
-ghost use Rattle.ot_judge.specs.Judging.{Refusal, refusals_in, finds, made, code_in, told_in};
-ghost use Rattle.ot_judge.specs.Places.{IsPlaced, statement_position};
-ghost use Rattle.ot_judge.specs.Going.{Goes, standing, IsBehind, IsSeen, bytes_left};
+ghost use Rattle.ot_judge.specs.Judging.{Refusal, refusals_in, finds, made, code_in, told_in, IsPlaced, statement_position, Goes, standing, IsBehind, IsSeen, bytes_left, found_as};
 
 use crate::arrays::book_with;
 use crate::fault::JudgeFault;
@@ -42,7 +40,7 @@ pub struct Findings<'a> {
 
 impl<'a> Model for Findings<'a> {
     ghost use Rattle.std.specs.Prelude.{◌≡◌, ◌≤◌, None, length};
-    ghost use Rattle.ot_judge.specs.Going.{Standing, standing};
+    ghost use Rattle.ot_judge.specs.Judging.{Standing, standing};
 
     ghost Value = { Standing };
 
@@ -53,7 +51,7 @@ impl<'a> Model for Findings<'a> {
 
 impl<'a> Findings<'a> {
     ghost use Rattle.ot_store.specs.Arrays.{Named};
-    ghost use Rattle.ot_model.specs.ShapeView.{arrays_of};
+    ghost use Rattle.ot_model.specs.Programs.{arrays_of};
 
     /// Those of a file without comments, where these arrays are there before it, each cell 0.
     pub fn new(
@@ -126,8 +124,6 @@ struct Found {
     is_full: bool,
     next: usize,
 }
-
-ghost use Rattle.ot_judge.specs.Found.{found_as};
 
 impl Found {
     /// The code that is told.

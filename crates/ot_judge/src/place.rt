@@ -2,9 +2,8 @@
 ghost use Rattle.std.specs.Prelude.{◌≡◌, ◌≤◌, ℕ, Some, length, IfOk, unwrap_or, option_map};
 ghost use Rattle.serde_json.specs.View.{view};
 ghost use Rattle.ot_book.specs.Answers.{value_of};
-ghost use Rattle.ot_book.specs.Replies as replies;
-ghost use Rattle.ot_judge.specs.Judging.{last_told};
-ghost use Rattle.ot_judge.specs.Places.{path_in, statement_offset};
+ghost use Rattle.ot_book.specs.Answers as replies;
+ghost use Rattle.ot_judge.specs.Judging.{last_told, path_in, statement_offset};
 
 use crate::line::{is_program, line_of};
 use crate::told::told_last;

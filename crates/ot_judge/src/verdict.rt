@@ -1,7 +1,7 @@
 //! One request of a file, as the next one of a book.
 ghost use Rattle.std.specs.Prelude.{◌≡◌, ◌≢◌, ◌<◌, false, None, Some, length, IfOk};
 ghost use Rattle.ot_book.specs.ReplyView.{told_of};
-ghost use Rattle.ot_book.specs.Replies as replies;
+ghost use Rattle.ot_book.specs.Answers as replies;
 ghost use Rattle.ot_judge.specs.Judging.{is_full, is_taken, passed, verdict_of, verdict_on, last_told};
 
 use crate::fault::JudgeFault;

@@ -13,7 +13,7 @@ use Rattle.serde_json.specs.Written.{compact_text}
 use Rattle.serde_json.proofs.Texts.{print-outline}
 use Rattle.ot_store.specs.Arrays.{Named, overwritten}
 use Rattle.ot_book.specs.Pieces.{tokens_of}
-use Rattle.ot_book.specs.Replies.{nat, nats}
+use Rattle.ot_book.specs.Answers.{nat, nats}
 use Rattle.ot_book.proofs.RepliesLemmas.{written-end}
 use Rattle.ot_keep.specs.Arrays.{named_by}
 use Rattle.ot_keep.specs.Files.{Fits, Makes, MakesOne, Piece, written}

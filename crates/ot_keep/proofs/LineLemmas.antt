@@ -8,12 +8,11 @@ use Rattle.std.proofs.lemmas.List.Elements.{All-from_get_or}
 use Rattle.std.proofs.lemmas.List.Folds.{concat-append}
 use Rattle.std.proofs.lemmas.Option.{unwrap_or-slice_get}
 use Rattle.memchr.specs.Find.{IsFirstByte, is_byte}
-use Rattle.ot_ask.specs.Lines.{IsWhole}
-use Rattle.ot_ask.specs.Streams.{Link}
+use Rattle.ot_ask.specs.Streams.{IsWhole, Link}
 use Rattle.ot_keep.specs.Files.{AreLines}
 use Rattle.ot_keep.specs.Questions.{Line, Turn}
 use Rattle.ot_keep.specs.Replies.{Taken}
-use Rattle.ot_keep.specs.Restoring.{AreTaken}
+use Rattle.ot_keep.specs.Saving.{AreTaken}
 use Rattle.ot_keep.proofs.KeepLemmas.{talks_append, talks_one}
 
 -- the bytes up to the first LF are a whole line

@@ -8,7 +8,7 @@ use Rattle.serde_json.specs.Written.{compact_text}
 use Rattle.sha2.specs.Sha256.{sha256}
 use Rattle.hex.specs.Hex.{encode_lower}
 use Rattle.ot_store.specs.Arrays.{Named, overwritten}
-use Rattle.ot_book.specs.Replies.{nat, nats}
+use Rattle.ot_book.specs.Answers.{nat, nats}
 
 -- ---- the session
 

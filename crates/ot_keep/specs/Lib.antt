@@ -1,9 +1,7 @@
 pub mod Replies
-pub mod Answers
 pub mod Questions
 pub mod Asked
 pub mod Arrays
 pub mod Files
 pub mod Tenants
 pub mod Saving
-pub mod Restoring

@@ -1,10 +1,14 @@
 -- What a server's replies tell.
-use Rattle.std.specs.Prelude.{ℕ, List, [], ◌∷◌, if◌then◌else◌, Option, Some, None, option_and_then, option_map, codes}
+use Rattle.std.specs.Prelude.{ℕ, List, [], ◌∷◌, if◌then◌else◌, Option, Some, None, option_and_then, option_map, codes, string_bytes}
 use Rattle.serde_json.specs.Data.{Data, Items, no_items, item}
 use Rattle.serde_json.specs.Find.{as_array}
-use Rattle.ot_program.specs.Names.{is_word}
+use Rattle.ot_program.specs.Meanings.{is_word}
 use Rattle.ot_book.specs.Answers.{value_of}
 use Rattle.ot_book.specs.Requests.{all_numbers, name_in, number_in, size_in}
+use Rattle.ot_model.specs.Programs.{arrays_of}
+use Rattle.ot_model.specs.declared.shape.ArrayShape.{ArrayShape}
+use Rattle.ot_keep.specs.declared.answer.Answer.{Answer}
+use Rattle.ot_keep.specs.declared.answer.Answer.TheVariants as v
 
 -- what a reply tells, for a request that was performed
 pub data Reply : Type 0 where
@@ -48,3 +52,14 @@ reply_of d = option_and_then list_in (as_array d)
 -- what a line tells, its LF among its white space
 abbrev pub reply_in : List ℕ → Option Reply
 reply_in line = option_and_then reply_of (value_of line)
+
+-- The replies that values of the code stand for.
+
+abbrev pub reply_by : Answer → Reply
+reply_by (v.Taken number) = Taken number
+reply_by (v.Used units) = Used units
+reply_by (v.Listed arrays) = Listed (arrays_of arrays.items)
+reply_by (v.Cells cells) = Cells cells.items
+
+abbrev pub sized_by : ArrayShape → List ℕ × ℕ
+sized_by array = (string_bytes array.name, array.len)

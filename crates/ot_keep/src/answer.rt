@@ -2,11 +2,10 @@
 ghost use Rattle.std.specs.Prelude.{◌≡◌, IfOk, option_map};
 ghost use Rattle.serde_json.specs.Data.{item, no_items};
 ghost use Rattle.serde_json.specs.View.{view, items_view};
-ghost use Rattle.ot_model.specs.ShapeView.{arrays_of};
+ghost use Rattle.ot_model.specs.Programs.{arrays_of};
 ghost use Rattle.ot_book.specs.Answers.{value_of};
 ghost use Rattle.ot_book.specs.Requests.{all_numbers, name_in, size_in};
-ghost use Rattle.ot_keep.specs.Replies.{all_sized, list_in, listed_of, reply_in, reply_of, sized_in, sized_of};
-ghost use Rattle.ot_keep.specs.Answers.{sized_by, reply_by};
+ghost use Rattle.ot_keep.specs.Replies.{all_sized, list_in, listed_of, reply_in, reply_of, sized_in, sized_of, sized_by, reply_by};
 
 use ot_model::ArrayShape;
 use ot_program::{is_name, is_word};

@@ -2,7 +2,7 @@
 ghost use Rattle.std.specs.Prelude.{◌≡◌, ◌++◌, ◌∷◌, [], ◌≢◌, ◌+◌, ◌≤◌, List, ℕ, length, map, IfOk, OnOk, codes};
 ghost use Rattle.serde_json.specs.Data.{array, string};
 ghost use Rattle.serde_json.specs.View.{items_of};
-ghost use Rattle.ot_book.specs.Replies.{nat, nats};
+ghost use Rattle.ot_book.specs.Answers.{nat, nats};
 ghost use Rattle.ot_book.specs.Pieces.{tokens_of};
 ghost use Rattle.ot_keep.specs.Arrays.{named_by};
 ghost use Rattle.ot_keep.specs.Files.{Makes, MakesOne, new_line, put_line};

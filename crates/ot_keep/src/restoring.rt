@@ -1,7 +1,7 @@
 //! A tenant is restored.
 ghost use Rattle.ot_ask.specs.Streams.{link, outgoing};
 ghost use Rattle.ot_keep.specs.Files.{AreLines};
-ghost use Rattle.ot_keep.specs.Restoring.{Clears, Compares, Restores, TakesSession};
+ghost use Rattle.ot_keep.specs.Saving.{Clears, Compares, Restores, TakesSession};
 
 use crate::body::session_text;
 use crate::fault::KeepFault;

@@ -1,9 +1,9 @@
 //! A tenant's arrays, as a server tells them, and the end of a session.
 ghost use Rattle.std.specs.Prelude.{◌≡◌, MatchResult, map};
 ghost use Rattle.ot_ask.specs.Streams.{link, outgoing};
-ghost use Rattle.ot_model.specs.ShapeView.{arrays_of};
+ghost use Rattle.ot_model.specs.Programs.{arrays_of};
 ghost use Rattle.ot_store.specs.Arrays.{listed};
-ghost use Rattle.ot_keep.specs.Answers.{sized_by};
+ghost use Rattle.ot_keep.specs.Replies.{sized_by};
 ghost use Rattle.ot_keep.specs.Arrays.{named_by};
 ghost use Rattle.ot_keep.specs.Questions.{TurnFails, StopsAsking, AsksInTurn, Turn};
 ghost use Rattle.ot_keep.specs.Tenants.{arrays_turns, cells_turn, SaysBye, sized};

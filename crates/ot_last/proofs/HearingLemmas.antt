@@ -2,15 +2,13 @@
 use Rattle.std.proofs.Common.{◌≡◌, ◌≢◌, ℕ, suc, ◌+◌, ◌<◌, ◌≤◌, List, [], ◌∷◌, ◌++◌, length, append_assoc, append-nil, refl, sym, ap, subst, ◌∙◌, arith, inr}
 use Rattle.std.specs.Prelude.{All, Option, Some, None, Result, Ok, Err, ⊤}
 use Rattle.std.specs.Io.KnownBytes.{Consumes, IsAtEnd}
-use Rattle.ot_lines.specs.Counts.{Flow, next_count, count_after}
-use Rattle.ot_lines.specs.Lines.{Hearing, HasNoEnd, opened, Passes, IsIdle}
-use Rattle.ot_lines.specs.Listening.{ended, IsLine, Went, Through, Ends, Listens, Stops}
+use Rattle.ot_lines.specs.Lines.{Flow, next_count, count_after, Hearing, HasNoEnd, opened, Passes, IsIdle, ended, IsLine, Went, Through, Ends, Listens, Stops}
 use Rattle.ot_lines.specs.declared.lines.LineFault.{LineFault}
 use Rattle.ot_lines.specs.declared.lines.LineFault.TheVariants as lines
 use Rattle.ot_lines.specs.declared.listener.Ended.{Ended}
 use Rattle.ot_lines.specs.declared.listener.Ended.TheVariants as ended_as
 use Rattle.ot_book.specs.Books.{Register, next_number}
-use Rattle.ot_front.specs.Heard.{max_line}
+use Rattle.ot_front.specs.Session.{max_line}
 use Rattle.ot_front.specs.Serving.{session_bounds}
 use Rattle.ot_front.proofs.PrefixLemmas.{consumed}
 use Rattle.ot_last.specs.LastRuns.{Run}

@@ -9,15 +9,14 @@ use Rattle.ot_model.specs.Tree.{Body}
 use Rattle.ot_model.specs.declared.expr.Section.{Section}
 use Rattle.ot_check.specs.Jobs.{Spec}
 use Rattle.ot_store.specs.Arrays.{Named, listed, cells_in}
-use Rattle.ot_book.specs.Replies as r
+use Rattle.ot_book.specs.Answers as r
 use Rattle.ot_book.specs.Answers.{Now, Runs, answer_or_lost, finished, is_checkpoint}
-use Rattle.ot_book.specs.Books.{Register, state_in, next_number, next_step, appended, cleared, logged, opened, open_step, closed}
-use Rattle.ot_book.specs.Opening.{IsFullFor, AnswersNow, OpensLine}
+use Rattle.ot_book.specs.Books.{Register, state_in, next_number, next_step, appended, cleared, logged, opened, open_step, closed, IsFullFor, AnswersNow, OpensLine}
 use Rattle.ot_book.specs.declared.book.Opened.{Opened}
 use Rattle.ot_book.specs.declared.book.Opened.TheVariants.{Full, Answered, ToRun}
 use Rattle.ot_book.proofs.BookLemmas.{logged-by, state-cleared}
 use Rattle.ot_book.proofs.RoomLemmas.{free-takes, full-takes}
-use Rattle.ot_front.specs.Heard.{is_bye}
+use Rattle.ot_front.specs.Session.{is_bye}
 use Rattle.ot_front.proofs.RunLemmas.{run_asked}
 use Rattle.ot_front.proofs.ToldLemmas.{slice_get-seam, some-logged}
 use Rattle.ot_last.specs.LastRuns.{Run, Taken, BadAt, answer_of, is_refusal, run_with, run_over, found_by, found}

@@ -1,10 +1,9 @@
 -- The last program that a session runs, or its first line that isn't taken.
 use Rattle.std.specs.Prelude.{ℕ, ◌+◌, List, [], ◌∷◌, length, codes, Bool, true, false, if◌then◌else◌, Option, Some, None}
-use Rattle.ot_model.specs.Programs.{Expanded, expanded_of}
-use Rattle.ot_model.specs.ShapeView.{arrays_of}
+use Rattle.ot_model.specs.Programs.{Expanded, expanded_of, arrays_of}
 use Rattle.ot_store.specs.Arrays.{Named, listed, cells_in}
-use Rattle.ot_store.specs.Usual.{usual_limits}
-use Rattle.ot_book.specs.Replies as r
+use Rattle.ot_store.specs.Refusals.{usual_limits}
+use Rattle.ot_book.specs.Answers as r
 use Rattle.ot_book.specs.Answers.{Step, Now, Runs}
 use Rattle.ot_book.specs.Books.{Register, new_register, next_number, next_step, logged}
 use Rattle.ot_front.specs.Session.{heard_in}

@@ -1,3 +1,2 @@
 pub mod LastRuns
-pub mod Finding
 pub mod Going

@@ -2,7 +2,7 @@
 ghost use Rattle.std.specs.Prelude.{◌≡◌, ◌++◌, ◌∷◌, ◌<◌, [], ℕ, List, Some, Err, length, OnOk, OnErr};
 ghost use Rattle.ot_model.specs.Programs.{expanded_of};
 ghost use Rattle.ot_store.specs.Arrays.{listed};
-ghost use Rattle.ot_book.specs.Replies as replies;
+ghost use Rattle.ot_book.specs.Answers as replies;
 ghost use Rattle.ot_book.specs.ReplyView.{told_of};
 ghost use Rattle.ot_book.specs.Books.{IsOpenFor, closed};
 ghost use Rattle.ot_last.specs.LastRuns.{run_with};

@@ -1,7 +1,7 @@
 -- How counts add up.
 use Rattle.std.proofs.Common.{◌≡◌, ◌≢◌, ℕ, zero, suc, ◌+◌, ◌%◌, ◌^◌, ◌<◌, ap, ◌∙◌, arith}
 use Rattle.std.proofs.Math.Nat.{mod-add-mod}
-use Rattle.ot_lines.specs.Counts.{count_after}
+use Rattle.ot_lines.specs.Lines.{count_after}
 
 -- k more after j more
 pub count_after-both : (j k n : ℕ) → count_after k (count_after j n) ≡ count_after (j + k) n

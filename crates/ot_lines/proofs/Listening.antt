@@ -3,13 +3,11 @@ use Rattle.std.proofs.Common.{◌≡◌, ℕ, zero, suc, ◌+◌, ◌*◌, ◌<�
 use Rattle.std.specs.Prelude.{All, Result, Ok, Err, ⊤}
 use Rattle.std.proofs.lemmas.List.Elements.{All-append}
 use Rattle.std.proofs.Math.Nat.{mul-le-mul_right}
-use Rattle.ot_lines.specs.Counts.{Flow}
+use Rattle.ot_lines.specs.Lines.{Flow, Hearing, Passes, Hears, ended, IsLine, Went, Through, Stops, Ends}
 use Rattle.ot_lines.specs.declared.lines.Heard.TheVariants.{Line, End, Long}
 use Rattle.ot_lines.specs.declared.lines.LineFault.{LineFault}
 use Rattle.ot_lines.specs.declared.lines.LineFault.TheVariants.{ReadFailed, TooManyReads}
 use Rattle.ot_lines.specs.declared.listener.Ended.TheVariants as ended_as
-use Rattle.ot_lines.specs.Lines.{Hearing, Passes, Hears}
-use Rattle.ot_lines.specs.Listening.{ended, IsLine, Went, Through, Stops, Ends}
 use Rattle.ot_lines.proofs.Passing.{passes_nothing, passes_on}
 
 pub ended-append : (lines more : List (List ℕ)) → ended (lines ++ more) ≡ ended lines ++ ended more

@@ -3,8 +3,7 @@ use Rattle.std.proofs.Common.{◌≡◌, ℕ, ◌+◌, List, [], ◌++◌, lengt
 use Rattle.std.specs.Prelude.{Option, Some, None}
 use Rattle.std.specs.Io.KnownBytes.{Consumes, prepend_known}
 use Rattle.std.proofs.KnownBytes.{Consumes-nil, Consumes-trans}
-use Rattle.ot_lines.specs.Counts.{Flow, count_after}
-use Rattle.ot_lines.specs.Lines.{Hearing, Passes, stream}
+use Rattle.ot_lines.specs.Lines.{Flow, count_after, Hearing, Passes, stream}
 use Rattle.ot_lines.proofs.Counting.{count_after-both}
 
 -- nothing was heard

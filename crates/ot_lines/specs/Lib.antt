@@ -1,6 +1,4 @@
-pub mod Counts
-pub mod Reading
 pub mod Lines
+pub mod Reading
 pub mod LinesView
-pub mod Listening
 pub mod Goodbyes

@@ -1,12 +1,36 @@
--- Lines of a stream, however its bytes are read.
-use Rattle.std.specs.Prelude.{◌≡◌, ◌≢◌, ◌<◌, ◌≤◌, ◌+◌, ◌++◌, ◌∷◌, [], ℕ, suc, List, length, take, drop, slice_index, Bool, true, false, Option, Some, None, Result, Ok, Err}
+-- How a source counts, and what it tells of itself.
+use Rattle.std.specs.Prelude.{◌≡◌, ◌≢◌, ◌<◌, ◌≤◌, ◌+◌, ◌++◌, ◌∷◌, [], ℕ, suc, List, length, take, drop, slice_index, Bool, true, false, Option, Some, None, Result, Ok, Err, zero, ◌%◌, ◌^◌, All, ⊤}
 use Rattle.std.specs.Io.KnownBytes.{Consumes, IsAtEnd, prepend_known}
-use Rattle.ot_lines.specs.Counts.{Flow, count_after}
 use Rattle.ot_lines.specs.declared.lines.Bounds.{Bounds}
 use Rattle.ot_lines.specs.declared.lines.Heard.{Heard}
 use Rattle.ot_lines.specs.declared.lines.Heard.TheVariants.{Line, End, Long}
 use Rattle.ot_lines.specs.declared.lines.LineFault.{LineFault}
 use Rattle.ot_lines.specs.declared.lines.LineFault.TheVariants.{ReadFailed, TooManyReads}
+use Rattle.ot_lines.specs.declared.listener.Ended.{Ended}
+use Rattle.ot_lines.specs.declared.listener.Ended.TheVariants as over
+
+-- a count after one more, in the 64 bits that a source counts with
+abbrev pub next_count : ℕ → ℕ
+next_count n = (n + 1) % 2 ^ 64
+
+-- a count after k more
+abbrev pub count_after : ℕ → ℕ → ℕ
+count_after zero n = n
+count_after (suc k) n = (n + suc k) % 2 ^ 64
+
+-- The bytes that a source has ahead, where they are known; how many its last read gave; how often it was read, failed,
+-- and told the end.
+pub record Flow : Type 0 where
+  pub ahead : Option (List ℕ)
+  pub latest : ℕ
+  pub reads : ℕ
+  pub failures : ℕ
+  pub ends : ℕ
+
+abbrev pub flow : Option (List ℕ) → ℕ → ℕ → ℕ → ℕ → Flow
+flow ahead latest reads failures ends = record { ahead = ahead; latest = latest; reads = reads; failures = failures; ends = ends }
+
+-- Lines of a stream, however its bytes are read.
 
 -- no LF stands in the bytes
 abbrev pub HasNoEnd : List ℕ → Type 0
@@ -133,3 +157,61 @@ pub record Fills (old : Hearing) (before : Flow) (new : Hearing) (after : Flow) 
   pub line : new.line ≡ old.line
   pub passes : Passes old before new after [] (failures_by result) (ends_at result)
   pub is : IsFilled old new after result
+
+-- Who listens to a stream takes its lines one after another.
+
+-- lines, each ended by one LF
+abbrev pub ended : List (List ℕ) → List ℕ
+ended [] = []
+ended (line ∷ lines) = line ++ 10 ∷ ended lines
+
+-- one line, and no longer than one may be
+pub record IsLine (longest : ℕ) (line : List ℕ) : Type 0 where
+  pub clean : HasNoEnd line
+  pub short : length line ≤ longest
+
+-- how many ends are told
+abbrev pub ends_in : {X : Type 0} → Result (Ended X) LineFault → ℕ
+ends_in (Ok over.End) = 1
+ends_in result = 0
+
+module _ {S A X : Type 0} (took : S → A → List ℕ → S → A → Result ⊤ X → Type 0) where
+  -- one line after another was taken, and the next one may be
+  abbrev pub Went : S → A → List (List ℕ) → S → A → Type 0
+  Went old answers [] new told = (new ≡ old) × (told ≡ answers)
+  Went old answers (line ∷ lines) new told = (mid : S) × (more : A) × took old answers line mid more (Ok tt) × Went mid more lines new told
+
+  -- The lines of the stream were taken one after another, and then this rest of it was heard.
+  pub record Through (from : Hearing) (before : Flow) (old : S) (answers : A) (to : Hearing) (after : Flow) (new : S) (told : A) (rest : List ℕ) (failures ends : ℕ) : Type 0 where
+    pub lines : List (List ℕ)
+    pub are : All (IsLine from.longest) lines
+    pub passes : Passes from before to after (ended lines ++ rest) failures ends
+    pub went : Went old answers lines new told
+
+  -- the last line stopped who listens
+  pub record Stops (from : Hearing) (before : Flow) (old : S) (answers : A) (to : Hearing) (after : Flow) (new : S) (told : A) (why : X) : Type 0 where
+    pub mid : S
+    pub more : A
+    pub through : Through from before old answers to after mid more (to.line ++ 10 ∷ []) 0 0
+    pub is : IsLine from.longest to.line
+    pub amid : IsAmid to
+    pub last : took mid more to.line new told (Err why)
+
+  -- the rest without its LF, by the result
+  abbrev pub IsRest : Hearing → Flow → Result (Ended X) LineFault → Type 0
+  IsRest h f (Ok over.End) = IsIdle h × IsAtEnd f.ahead
+  IsRest h f (Ok over.Long) = (length h.line ≡ suc h.longest) × IsAmid h
+  IsRest h f (Ok (over.Stopped why)) = ⊥
+  IsRest h f (Err ReadFailed) = IsIdle h
+  IsRest h f (Err TooManyReads) = IsIdle h × (h.left ≡ 0)
+
+  -- no line stopped who listens
+  pub record Ends (from : Hearing) (before : Flow) (old : S) (answers : A) (to : Hearing) (after : Flow) (new : S) (told : A) (result : Result (Ended X) LineFault) : Type 0 where
+    pub through : Through from before old answers to after new told to.line (failures_by result) (ends_in result)
+    pub clean : HasNoEnd to.line
+    pub is : IsRest to after result
+
+  -- who listens is stopped by a line, or hears the end of input, a line that is too long, or no more
+  abbrev pub Listens : Hearing → Flow → S → A → Hearing → Flow → S → A → Result (Ended X) LineFault → Type 0
+  Listens from before old answers to after new told (Ok (over.Stopped why)) = Stops from before old answers to after new told why
+  Listens from before old answers to after new told result = Ends from before old answers to after new told result

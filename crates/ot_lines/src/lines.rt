@@ -1,7 +1,6 @@
 //! Lines, one by one.
 ghost use Rattle.std.specs.Prelude.{◌≡◌, ◌<◌, ◌≤◌, ◌++◌, ◌+◌, suc, length, take, drop, vec_len, IfOk, OnErr, OnOk, []};
-ghost use Rattle.ot_lines.specs.Counts.{flow};
-ghost use Rattle.ot_lines.specs.Lines.{opened, Hears, Cuts, Fills, taken, passed};
+ghost use Rattle.ot_lines.specs.Lines.{flow, opened, Hears, Cuts, Fills, taken, passed};
 
 use crate::source::Source;
 use memchr::memchr;

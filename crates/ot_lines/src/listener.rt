@@ -1,6 +1,5 @@
 //! Lines, one after another, for who takes them.
-ghost use Rattle.ot_lines.specs.Counts.{flow};
-ghost use Rattle.ot_lines.specs.Listening.{Listens};
+ghost use Rattle.ot_lines.specs.Lines.{flow, Listens};
 
 use crate::lines::{Heard, LineFault, Lines};
 use crate::source::Source;

@@ -4,7 +4,7 @@
 //! to it. It counts in 64 bits, so a count begins again at 0 after 2^64.
 ghost use Rattle.std.specs.Prelude.{◌≡◌, ℕ, ◌<◌, ◌≤◌, List, Option, length, IfOk, OnOk, OnErr};
 ghost use Rattle.std.specs.Io.KnownBytes.{ReadConsumes};
-ghost use Rattle.ot_lines.specs.Counts.{next_count};
+ghost use Rattle.ot_lines.specs.Lines.{next_count};
 
 /// A read or a write that failed. Of the reason nothing is made.
 #[derive(Clone, Copy, Debug, PartialEq, Eq)]

@@ -6,15 +6,15 @@ use Rattle.serde_json.specs.View.{items_of}
 use Rattle.ot_model.specs.Programs.{Expanded}
 use Rattle.ot_program.specs.Programs.{program_of}
 use Rattle.ot_program.specs.declared.fault.Refusal.{Refusal}
-use Rattle.ot_check.specs.FirstOffence.{first_offence}
+use Rattle.ot_check.specs.Laws.{first_offence}
 use Rattle.ot_check.specs.declared.fault.Offence.{Offence}
 use Rattle.ot_store.specs.declared.limits.Limits.{Limits}
 use Rattle.ot_store.specs.declared.fault.StoreRefusal.{StoreRefusal}
 use Rattle.ot_store.specs.Arrays.{Named, created, freed, put, got, listed, shape_in}
-use Rattle.ot_store.specs.Usual.{usual_limits}
+use Rattle.ot_store.specs.Refusals.{usual_limits}
 use Rattle.ot_book.specs.Answers.{State, Step, Now, Runs, changed, fetched, judged, started, performed, asked, parsed, value_of, step_of, finished, answer_or_lost}
 use Rattle.ot_book.specs.Books.{Register, state_in, logged}
-use Rattle.ot_book.specs.Replies as r
+use Rattle.ot_book.specs.Answers as r
 use Rattle.ot_book.specs.Requests.{Request, New, Free, Put, Get, Arrays, Used, Checkpoint, Run, request_of, size_in}
 use Rattle.ot_book.proofs.BookLemmas.{state-logged}
 use Rattle.ot_mirror.specs.Heard.{all_sized, told_in, told_in_data}

@@ -13,13 +13,13 @@ use Rattle.ot_model.specs.Cells.{lengths}
 use Rattle.ot_model.specs.Programs.{Expanded}
 use Rattle.ot_program.specs.Programs.{program_of}
 use Rattle.ot_program.specs.declared.fault.Refusal.{Refusal}
-use Rattle.ot_check.specs.FirstOffence.{first_offence}
+use Rattle.ot_check.specs.Laws.{first_offence}
 use Rattle.ot_check.specs.declared.fault.Offence.{Offence}
 use Rattle.ot_store.specs.declared.limits.Limits.{Limits}
 use Rattle.ot_store.specs.declared.fault.StoreRefusal.{StoreRefusal}
 use Rattle.ot_store.specs.declared.fault.StoreRefusal.TheVariants.{UnknownArray, NameTaken, OutOfRange, TooManyCells, TooManyArrays}
 use Rattle.ot_store.specs.Arrays.{Named, names_in, cells_in, cell_count, cells_called, created, others, freed, within, overwritten, put, got, listed, shape_in}
-use Rattle.ot_store.specs.Usual.{usual_limits}
+use Rattle.ot_store.specs.Refusals.{usual_limits}
 use Rattle.ot_store.proofs.ArraysLemmas.{lengths-set_value, array_lengths-shape_in}
 use Rattle.ot_book.specs.Answers.{Step, Now, Runs, changed, fetched, judged, started, performed, asked, parsed, value_of, step_of}
 use Rattle.ot_book.specs.Requests.{Request, New, Free, Put, Get, Arrays, Used, Checkpoint, Run, request_of}

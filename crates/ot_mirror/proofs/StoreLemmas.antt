@@ -10,12 +10,12 @@ use Rattle.std.proofs.lemmas.List.Elements.{All-push}
 use Rattle.std.proofs.lemmas.List.Sums.{sum_by-append, sum_by-cons}
 use Rattle.std.proofs.lemmas.Bool.Decides.{leb_tells, nat_tests}
 use Rattle.std.proofs.lemmas.Map.Made.{is_some-lookup}
-use Rattle.ot_model.specs.ShapeView.{arrays_of}
+use Rattle.ot_model.specs.Programs.{arrays_of}
 use Rattle.ot_model.specs.declared.shape.ArrayShape.{ArrayShape}
 use Rattle.ot_store.specs.declared.fault.StoreRefusal.{StoreRefusal}
 use Rattle.ot_store.specs.declared.fault.StoreRefusal.TheVariants.{NameTaken, TooManyCells, TooManyArrays}
 use Rattle.ot_store.specs.Arrays.{Named, names_in, cells_in, cell_count, cells_called, created, listed}
-use Rattle.ot_store.specs.Usual.{usual_limits}
+use Rattle.ot_store.specs.Refusals.{usual_limits}
 use Rattle.ot_mirror.specs.HeardView.{sized_as}
 use Rattle.ot_mirror.specs.Mirrors.{Sizes, MayHave}
 use Rattle.ot_mirror.proofs.SizesLemmas.{cells-listed, count-listed, lengths-listed, listed-push}

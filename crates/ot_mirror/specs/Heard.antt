@@ -2,9 +2,8 @@
 use Rattle.std.specs.Prelude.{ℕ, List, [], ◌∷◌, if◌then◌else◌, Option, Some, None, option_and_then, option_map, codes}
 use Rattle.serde_json.specs.Data.{Data, Items, no_items, item}
 use Rattle.serde_json.specs.Find.{as_array}
-use Rattle.ot_program.specs.Names.{is_word}
-use Rattle.ot_book.specs.Answers.{value_of}
-use Rattle.ot_book.specs.Replies.{Told, Accepted, Arrays, Refused, Offends}
+use Rattle.ot_program.specs.Meanings.{is_word}
+use Rattle.ot_book.specs.Answers.{value_of, Told, Accepted, Arrays, Refused, Offends}
 use Rattle.ot_book.specs.Requests.{name_in, number_in, size_in}
 
 -- a name with a length

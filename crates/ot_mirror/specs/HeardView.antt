@@ -1,8 +1,8 @@
 -- What values of the code tell.
 use Rattle.std.specs.Prelude.{ℕ, List, Option, Some, None, string_bytes}
-use Rattle.ot_model.specs.ShapeView.{arrays_of}
+use Rattle.ot_model.specs.Programs.{arrays_of}
 use Rattle.ot_model.specs.declared.shape.ArrayShape.{ArrayShape}
-use Rattle.ot_book.specs.Replies.{Told, Accepted, Arrays, Refused, Offends}
+use Rattle.ot_book.specs.Answers.{Told, Accepted, Arrays, Refused, Offends}
 use Rattle.ot_mirror.specs.declared.heard.Heard.{Heard}
 use Rattle.ot_mirror.specs.declared.heard.Heard.TheVariants as v
 use Rattle.ot_mirror.specs.declared.heard.Refusal.{Refusal}

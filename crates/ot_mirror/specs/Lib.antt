@@ -1,4 +1,3 @@
 pub mod Heard
 pub mod HeardView
 pub mod Mirrors
-pub mod Given

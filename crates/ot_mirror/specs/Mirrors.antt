@@ -1,11 +1,10 @@
 -- The arrays of a tenant as far as a server's replies tell: their names and lengths.
-use Rattle.std.specs.Prelude.{◌≡◌, ◌<◌, ◌≤◌, ℕ, List, map, length, sum, replicate, bytes_eq, All, Bool, Option, Some}
+use Rattle.std.specs.Prelude.{◌≡◌, ◌<◌, ◌≤◌, ℕ, List, map, length, sum, replicate, bytes_eq, All, Bool, Option, Some, ◌⊎◌, ◌-◌, [], codes, true, false, None, option_map}
 use Rattle.std.specs.List.{IsDistinct}
 use Rattle.ot_store.specs.Arrays.{Named, listed}
-use Rattle.ot_store.specs.Usual.{usual_limits}
-use Rattle.ot_book.specs.Answers.{Step, Now, Runs, step_of, value_of, answer_or_lost}
-use Rattle.ot_book.specs.Books.{Register, state_in, logged}
-use Rattle.ot_book.specs.Replies.{Told, Accepted, json_of}
+use Rattle.ot_store.specs.Refusals.{usual_limits}
+use Rattle.ot_book.specs.Answers.{Step, Now, Runs, step_of, value_of, answer_or_lost, Told, Accepted, json_of, is_lost}
+use Rattle.ot_book.specs.Books.{Register, state_in, logged, new_register, next_step, reply_at}
 use Rattle.ot_mirror.specs.Heard.{told_in}
 
 -- names with lengths, in order of creation
@@ -43,3 +42,31 @@ abbrev pub MirrorFollows : Type 0
 MirrorFollows = (book : Register) (line reply : List ℕ) (memory : Bool) (number : ℕ) → book.limits ≡ usual_limits →
     value_of reply ≡ Some (json_of number (answer_or_lost book.limits (state_in book) line memory).0) →
     listed (logged book line memory).store ≡ behind (listed book.store) line (told_in reply)
+
+-- A book that was given one line.
+
+-- a book that begins with these arrays
+abbrev pub begun : List Named → Register
+begun arrays = new_register [] usual_limits arrays
+
+-- whether a program would be run
+abbrev pub is_run : Step → Bool
+is_run (Now told arrays) = false
+is_run (Runs program) = true
+
+-- it has answered the line, or it would have run a program, and that was given up
+abbrev pub Given : List Named → List ℕ → Register → Type 0
+Given arrays line book =
+    ((memory : Bool) × (book ≡ logged (begun arrays) line memory)) ⊎ ((is_run (next_step (begun arrays) line) ≡ true) × (book ≡ begun arrays))
+
+-- what was told last
+abbrev pub last_told : Register → Option Told
+last_told book = option_map (λ reply. reply.1) (reply_at book (length book.log - 1))
+
+abbrev pub is_lost_in : Option Told → Bool
+is_lost_in None = false
+is_lost_in (Some told) = is_lost told
+
+-- memory ran out for it
+abbrev pub ran_out : Register → Bool
+ran_out book = is_lost_in (last_told book)

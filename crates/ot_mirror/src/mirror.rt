@@ -26,7 +26,7 @@ impl Model for Mirror {
 impl Mirror {
     ghost use Rattle.std.specs.Prelude.{◌≡◌, IfOk, OnOk, OnErr, MatchOption, Some, option_and_then};
     ghost use Rattle.ot_explain.specs.Remarks.{AreOn, code_in};
-    ghost use Rattle.ot_book.specs.Replies.{Arrays};
+    ghost use Rattle.ot_book.specs.Answers.{Arrays};
     ghost use Rattle.ot_mirror.specs.Heard.{told_in};
 
     /// The arrays that the reply to `["list"]` tells, where it is such a reply, and a tenant with the usual limits may have

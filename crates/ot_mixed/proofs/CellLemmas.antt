@@ -3,19 +3,16 @@ use Rattle.std.proofs.Common.{◌≡◌, ℕ, zero, suc, ◌+◌, ◌^◌, ◌<�
 use Rattle.std.specs.Prelude.{◌⊎◌, nat_lt, not, flat_map, find, option_map}
 use Rattle.std.specs.List.{list_any, fold, range_with_len}
 use Rattle.std.proofs.lemmas.Bool.{lt-ltb, ltb-true, cases_lt, or_cases, or_left, or_right, and_parts, and_from, not-true, not_from_false, false_from_ne_true, both_ways}
-use Rattle.ot_model.specs.Cells.{same_cell, is_before}
-use Rattle.ot_model.specs.Shapes.{Arrays}
-use Rattle.ot_model.specs.Uses.{Precedes, is_fold, same_mode}
-use Rattle.ot_model.specs.Value.{cell_at, cells_of}
+use Rattle.ot_model.specs.Cells.{same_cell, is_before, Precedes, is_fold, same_mode}
+use Rattle.ot_model.specs.Programs.{Arrays}
+use Rattle.ot_model.specs.Tree.{cell_at, cells_of}
 use Rattle.ot_model.specs.declared.expr.Cell.{Cell}
 use Rattle.ot_model.specs.declared.expr.Section.{Section}
 use Rattle.ot_model.specs.declared.stmt.Mode.{Mode}
 use Rattle.ot_model.specs.declared.stmt.Mode.TheVariants.{Reads, Writes, Folds}
-use Rattle.ot_program.specs.Declarations.{placed, named_cells, names, operation_in, named_otherwise, is_mixed}
-use Rattle.ot_program.specs.Meanings.{Clause}
+use Rattle.ot_program.specs.Meanings.{placed, named_cells, names, operation_in, named_otherwise, is_mixed, Clause}
 use Rattle.ot_program.proofs.Declared.{same_keys, keys_same}
-use Rattle.ot_mixed.specs.Mixed.{first_mixed, named}
-use Rattle.ot_mixed.specs.Rows.{Row, address, row_of, Fits, same_operation}
+use Rattle.ot_mixed.specs.Mixed.{first_mixed, named, Row, address, row_of, Fits, same_operation}
 use Rattle.ot_mixed.proofs.InLemmas.{In, in_left, in_right, in_either, any_in, in_any}
 use Rattle.ot_mixed.proofs.SweepLemmas.{Covers, Clear, Outcome, operation_differs}
 

@@ -7,19 +7,17 @@ use Rattle.std.proofs.lemmas.Slice.Eq.{bytes_eq-Decides}
 use Rattle.serde_json.specs.Data.{Data, array, no_items, item}
 use Rattle.serde_json.specs.View.{view, items_view}
 use Rattle.serde_json.specs.declared.value.Value.{Value}
-use Rattle.ot_model.specs.Shapes.{Arrays}
+use Rattle.ot_model.specs.Programs.{Arrays}
 use Rattle.ot_model.specs.declared.fold.Fold.{Fold}
 use Rattle.ot_model.specs.declared.fold.Fold.TheVariants as by
 use Rattle.ot_model.specs.declared.stmt.Mode.TheVariants.{Reads, Folds}
-use Rattle.ot_program.specs.Declarations.{operation_in}
+use Rattle.ot_program.specs.Meanings.{operation_in, letters, Bindings, size, is_called, position_of, length_of, section, fold_of, mode_of, red_by, clause, is_word}
 use Rattle.ot_program.specs.Faults.{unless, deep, array_faults, size_faults, section_faults, clause_faults}
 use Rattle.ot_program.specs.Limits.{size_depth}
-use Rattle.ot_program.specs.Meanings.{letters, Bindings, size, is_called, position_of, length_of, section, fold_of, mode_of, red_by, clause}
-use Rattle.ot_program.specs.Names.{is_word}
 use Rattle.ot_program.specs.declared.fault.Refusal.{Refusal}
 use Rattle.ot_program.specs.declared.fault.Refusal.TheVariants.{Form, UnknownArray, OutOfRange, EmptySection}
 use Rattle.ot_place.specs.Texts.{Profile}
-use Rattle.ot_mixed.specs.Rows.{Row, address, row_at, row_of, Fits, place_from}
+use Rattle.ot_mixed.specs.Mixed.{Row, address, row_at, row_of, Fits, place_from}
 
 -- ---- no faults
 

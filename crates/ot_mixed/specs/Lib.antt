@@ -1,2 +1,1 @@
 pub mod Mixed
-pub mod Rows

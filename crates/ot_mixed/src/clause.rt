@@ -2,15 +2,13 @@
 ghost use Rattle.std.specs.Prelude.{◌≡◌, [], ◌||◌, if◌then◌else◌, length, Some, None, option_map, codes};
 ghost use Rattle.serde_json.specs.Data.{array, no_items, item};
 ghost use Rattle.serde_json.specs.View.{view, items_view};
-ghost use Rattle.ot_model.specs.Shapes.{Arrays};
-ghost use Rattle.ot_model.specs.ShapeView.{arrays_of};
+ghost use Rattle.ot_model.specs.Programs.{Arrays, arrays_of};
 ghost use Rattle.ot_model.specs.declared.fold.Fold.TheVariants.{Plus};
 ghost use Rattle.ot_program.specs.Faults.{section_faults, clause_faults};
-ghost use Rattle.ot_program.specs.Meanings.{section, clause, fold_of};
-ghost use Rattle.ot_program.specs.Names.{is_word};
-ghost use Rattle.ot_place.specs.Seeking.{bindings_of};
+ghost use Rattle.ot_program.specs.Meanings.{section, clause, fold_of, is_word};
+ghost use Rattle.ot_place.specs.Spots.{bindings_of};
 ghost use Rattle.ot_place.specs.Texts.{Profile};
-ghost use Rattle.ot_mixed.specs.Rows.{row_at, row_of, row_by, Fits, place_from};
+ghost use Rattle.ot_mixed.specs.Mixed.{row_at, row_of, row_by, Fits, place_from};
 
 use ot_model::{ArrayShape, Fold};
 use ot_place::{Trail, letters, size_of};

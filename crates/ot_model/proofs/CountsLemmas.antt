@@ -1,7 +1,6 @@
 -- How counts of statements and of tasks compare.
 use Rattle.std.proofs.Common.{◌≤◌, arith}
-use Rattle.ot_model.specs.Tree.{Set, Fold, If, Task, Wait, Group, Body, End, Next}
-use Rattle.ot_model.specs.Counts.{size, tasks_in}
+use Rattle.ot_model.specs.Tree.{Set, Fold, If, Task, Wait, Group, Body, End, Next, size, tasks_in}
 
 -- a task statement is a statement
 pub tasks_in-≤-size : (b : Body) → tasks_in b ≤ size b

@@ -3,11 +3,10 @@ use Rattle.std.proofs.lemmas.Bool.{eqb-true}
 use Rattle.std.proofs.Common.{rules, ℕ, zero, suc, sym, true≢false, ◌≡◌, ◌&&◌, ◌∙◌, Bool, true, Decides, refl, ap, subst, arith}
 use Rattle.std.proofs.lemmas.Bool.Decides.{nat_tests}
 use Rattle.ot_model.proofs.CellsLemmas.{same_cell as one_cell}
-use Rattle.ot_model.specs.Cells.{same_cell}
+use Rattle.ot_model.specs.Cells.{same_cell, number_of, same_fold, same_mode}
 use denote.Enum.Bare.{same_true, sameb}
 use Rattle.ot_model.specs.contracts.fold.Fold.{the_type}
 use Rattle.ot_model.specs.contracts.stmt.ModePartialEq.TheImpl.{eq-value}
-use Rattle.ot_model.specs.Uses.{number_of, same_fold, same_mode}
 use Rattle.ot_model.specs.declared.fold.Fold.{Fold}
 use Rattle.ot_model.specs.declared.fold.Fold.TheVariants.{Plus, Times, And, Or, Xor, Min, Max}
 use Rattle.ot_model.specs.declared.expr.Cell.{Cell}

@@ -2,9 +2,8 @@
 use Rattle.std.proofs.Common.{◌≡◌, ℕ, ◌<◌, List, length, sym, ap, ◌∙◌, arith}
 use Rattle.std.specs.Prelude.{Option, Some, None, IsSome, is_some, option_map, option_and_then, slice_get}
 use Rattle.std.proofs.lemmas.Option.{slice_get-map, slice_get-get_or}
-use Rattle.ot_model.specs.Tree.{E, Literal, CellAt, Apply, PickFrom, Body, End, Next, append}
+use Rattle.ot_model.specs.Tree.{E, Literal, CellAt, Apply, PickFrom, Body, End, Next, append, HasAll, cell_at}
 use Rattle.ot_model.specs.Cells.{cell_of, lengths}
-use Rattle.ot_model.specs.Value.{HasAll, cell_at}
 use Rattle.ot_model.specs.Names.{IsInShape, ValueNamedIn, NamedIn}
 use Rattle.ot_model.specs.declared.expr.Cell.{Cell}
 

@@ -4,8 +4,7 @@ use Rattle.std.proofs.lemmas.Bool.{cases_lt}
 use Rattle.std.proofs.lemmas.Bool.Decides.{nat_tests}
 use Rattle.std.proofs.lemmas.List.Elements.{All-nil, All-cons, All-weaker}
 use Rattle.std.specs.List.{All, AllPairs}
-use Rattle.ot_model.specs.Cells.{is_before}
-use Rattle.ot_model.specs.Uses.{Precedes, AreInOrder}
+use Rattle.ot_model.specs.Cells.{is_before, Precedes, AreInOrder}
 use Rattle.ot_model.specs.declared.expr.Cell.{Cell}
 use Rattle.ot_model.specs.declared.stmt.Use.{Use}
 

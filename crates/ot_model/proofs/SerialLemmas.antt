@@ -1,11 +1,9 @@
 -- The serial meaning: bodies in parts, and counts.
 use Rattle.std.proofs.Common.{◌≡◌, ◌≤◌, ◌+◌, ℕ, true, false, List, refl, sym, ap, ◌∙◌, zero-add, arith}
 use Rattle.std.specs.Prelude.{◌==◌, if◌then◌else◌, Bool}
-use Rattle.ot_model.specs.Tree.{Set, Fold, If, Task, Wait, Group, Body, End, Next, append}
+use Rattle.ot_model.specs.Tree.{Set, Fold, If, Task, Wait, Group, Body, End, Next, append, size, tasks_in, val}
 use Rattle.ot_model.specs.Cells.{cell_of}
-use Rattle.ot_model.specs.Value.{val}
 use Rattle.ot_model.specs.Joining.{join_by}
-use Rattle.ot_model.specs.Counts.{size, tasks_in}
 use Rattle.ot_model.specs.Serial.{State, bump, change, either, serial, serial_run}
 
 -- a body of two parts is run as the one and then the other

@@ -10,7 +10,7 @@ use Rattle.ot_model.specs.declared.expr.Op.{Op}
 use Rattle.ot_model.specs.declared.expr.Op.TheVariants.{Plus, Minus, Times, And, Or, Xor, Less, Equal, Min, Max}
 use Rattle.ot_model.specs.declared.fold.Fold.{Fold as Operation}
 use Rattle.ot_model.specs.declared.fold.Fold.TheVariants as f
-use Rattle.ot_model.specs.Uses.{number_of}
+use Rattle.ot_model.specs.Cells.{number_of}
 use Rattle.ot_model.specs.declared.stmt.Mode.{Mode}
 use Rattle.ot_model.specs.declared.stmt.Mode.TheVariants.{Reads, Writes, Folds}
 use Rattle.ot_model.specs.declared.stmt.Use.{Use}

@@ -1,10 +1,10 @@
 -- The serial meaning of a body: each task is executed where it is created.
 use Rattle.std.specs.Prelude.{ℕ, ◌+◌, ◌==◌, if◌then◌else◌, List}
-use Rattle.ot_model.specs.Tree.{S, Set, Fold, If, Task, Wait, Group, Body, End, Next}
+use Rattle.ot_model.specs.Tree.{S, Set, Fold, If, Task, Wait, Group, Body, End, Next, val}
 use Rattle.ot_model.specs.Cells.{cell_of, with_cell}
-use Rattle.ot_model.specs.Value.{val}
 use Rattle.ot_model.specs.Joining.{join_by}
 use Rattle.ot_model.specs.declared.expr.Cell.{Cell}
+use Rattle.ot_model.specs.declared.plain.Counts.{Counts}
 
 -- the cells, and what was executed so far: task statements, and units
 pub record State : Type 0 where
@@ -40,3 +40,8 @@ abbrev mutual
 -- the cells after a body that begins with these cells, and its counts
 abbrev pub serial_run : Body → List (List ℕ) → State
 serial_run b cells = serial b (record { cells = cells; tasks = 0; units = 0 })
+
+-- What the evaluator's cells and counts stand for.
+
+abbrev pub state_of : List (List ℕ) → Counts → State
+state_of cells counts = record { cells = cells; tasks = counts.tasks; units = counts.units }

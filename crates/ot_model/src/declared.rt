@@ -1,5 +1,5 @@
 ghost use Rattle.std.specs.Prelude.{◌≡◌};
-ghost use Rattle.ot_model.specs.Uses.{AreInOrder, mode_in};
+ghost use Rattle.ot_model.specs.Cells.{AreInOrder, mode_in};
 
 use crate::expr::Cell;
 use crate::stmt::{Mode, Use};

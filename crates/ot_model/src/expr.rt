@@ -1,6 +1,6 @@
 ghost use Rattle.std.specs.Prelude.{◌≡◌, ◌↔◌, IsTrue, ℕ, ◌<◌, Option, Some, IsSome, IfOk};
 ghost use Rattle.ot_model.specs.View.{expr_of};
-ghost use Rattle.ot_model.specs.Value.{val, HasAll, applied};
+ghost use Rattle.ot_model.specs.Tree.{val, HasAll, applied};
 
 use std::alloc::{AllocError, Global};
 

@@ -1,6 +1,5 @@
 ghost use Rattle.std.specs.Prelude.{◌≡◌, ◌↔◌, IsTrue};
-ghost use Rattle.ot_model.specs.Uses.{AreInOrder, MeetAtACell};
-ghost use Rattle.ot_model.specs.Meeting.{asked};
+ghost use Rattle.ot_model.specs.Cells.{AreInOrder, MeetAtACell, asked};
 
 use crate::stmt::{Mode, Use};
 

@@ -1,10 +1,9 @@
 ghost use Rattle.std.specs.Prelude.{◌≡◌, ◌≤◌, ◌<◌, ◌+◌, ◌^◌, IsOk, IfOk};
 ghost use Rattle.ot_model.specs.View.{stmt_of, stmts_of};
 ghost use Rattle.ot_model.specs.Cells.{lengths};
-ghost use Rattle.ot_model.specs.Counts.{size, size_one, tasks_in, tasks_in_one};
-ghost use Rattle.ot_model.specs.Serial.{serial, serial_one, serial_run};
+ghost use Rattle.ot_model.specs.Tree.{size, size_one, tasks_in, tasks_in_one};
+ghost use Rattle.ot_model.specs.Serial.{serial, serial_one, serial_run, state_of};
 ghost use Rattle.ot_model.specs.Names.{NamedIn, OneNamedIn};
-ghost use Rattle.ot_model.specs.Runs.{state_of};
 
 use crate::cells::Cells;
 use crate::expr::{Look, value};

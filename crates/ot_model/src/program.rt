@@ -1,6 +1,6 @@
 ghost use Rattle.std.specs.Prelude.{◌≡◌, ◌≤◌, IfOk};
 ghost use Rattle.ot_model.specs.View.{stmts_of};
-ghost use Rattle.ot_model.specs.Counts.{size, tasks_in};
+ghost use Rattle.ot_model.specs.Tree.{size, tasks_in};
 
 use crate::expr::Section;
 use crate::stmt::{Stmt, copy_stmts};

@@ -16,11 +16,11 @@ pub struct Shape {
 }
 
 impl Model for Shape {
-    ghost use Rattle.ot_model.specs.Shapes.{Arrays, AreShort};
+    ghost use Rattle.ot_model.specs.Programs.{Arrays, AreShort};
 
     ghost Value = { Arrays };
 
-    ghost use Rattle.ot_model.specs.ShapeView.{arrays_of};
+    ghost use Rattle.ot_model.specs.Programs.{arrays_of};
 
     ghost view = { λ s. record { arrays = arrays_of s.arrays.items; tasks = s.tasks } };
 
@@ -29,8 +29,7 @@ impl Model for Shape {
 
 impl Shape {
     ghost use Rattle.std.specs.Prelude.{◌≡◌};
-    ghost use Rattle.ot_model.specs.Shapes.{AreShort};
-    ghost use Rattle.ot_model.specs.ShapeView.{arrays_of};
+    ghost use Rattle.ot_model.specs.Programs.{AreShort, arrays_of};
 
     /// The shape of these arrays, fewer than 2^32. It takes no memory.
     pub fn new(arrays: Vec<ArrayShape>, tasks: u32) -> Shape

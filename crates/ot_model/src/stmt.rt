@@ -1,6 +1,6 @@
 ghost use Rattle.std.specs.Prelude.{◌≡◌, ◌↔◌, IsTrue, IfOk, map};
 ghost use Rattle.ot_model.specs.View.{stmt_of, stmts_of};
-ghost use Rattle.ot_model.specs.Uses.{conflicts, one_writes, first_of, joined, AreInOrder, mode_in, DependsOn, Conflict};
+ghost use Rattle.ot_model.specs.Cells.{conflicts, one_writes, first_of, joined, AreInOrder, mode_in, DependsOn, Conflict};
 
 use crate::declared::mode_in;
 use crate::expr::{Cell, Expr};
@@ -82,7 +82,7 @@ pub struct Decl {
 impl Model for Decl {
     ghost use Rattle.std.specs.Prelude.{List};
     ghost use Rattle.ot_model.specs.declared.stmt.Use.{Use};
-    ghost use Rattle.ot_model.specs.Uses.{AreInOrder};
+    ghost use Rattle.ot_model.specs.Cells.{AreInOrder};
 
     ghost Value = { List Use };
 

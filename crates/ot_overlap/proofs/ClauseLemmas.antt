@@ -4,14 +4,12 @@ use Rattle.std.specs.Prelude.{if◌then◌else◌, not, Some, None, bytes_eq, st
 use Rattle.std.specs.List.{position_or_len}
 use Rattle.std.proofs.Math.Seq.{drop-cons}
 use Rattle.std.proofs.lemmas.List.{drop_all}
-use Rattle.ot_model.specs.ShapeView.{arrays_of}
+use Rattle.ot_model.specs.Programs.{arrays_of, Arrays}
 use Rattle.ot_model.specs.declared.shape.ArrayShape.{ArrayShape}
 use Rattle.serde_json.specs.Data.{array}
 use Rattle.serde_json.specs.View.{view, items_view}
 use Rattle.serde_json.specs.declared.value.Value.{Value}
-use Rattle.ot_model.specs.Shapes.{Arrays}
-use Rattle.ot_program.specs.Meanings.{Bindings, position_of, size, section}
-use Rattle.ot_program.specs.Names.{is_word}
+use Rattle.ot_program.specs.Meanings.{Bindings, position_of, size, section, is_word}
 use Rattle.ot_overlap.specs.Items.{depends, writes, is_iterated, is_difference}
 
 pub no_clause : (vs : List Value) → length vs ≢ 2 → depends (array (items_view vs)) ≡ None

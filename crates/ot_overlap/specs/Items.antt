@@ -1,12 +1,10 @@
 -- The items of a program's `depend` clauses, each with the entry that has it and with the task in whose body that entry is.
 use Rattle.std.specs.Prelude.{ℕ, zero, suc, Bool, true, false, not, ◌+◌, ◌++◌, if◌then◌else◌, List, [], ◌∷◌, map, flat_map, Option, Some, None, option_map, unwrap_or, codes}
 use Rattle.serde_json.specs.Data.{Data, array, no_items, item}
-use Rattle.ot_model.specs.Shapes.{Arrays}
+use Rattle.ot_model.specs.Programs.{Arrays}
 use Rattle.ot_model.specs.declared.expr.Section.{Section}
 use Rattle.ot_program.specs.Copies.{Text, TaskText, WaitForText, Placed, Copy, At, Copies, Done, Then}
-use Rattle.ot_program.specs.Meanings.{items, Bindings, section}
-use Rattle.ot_program.specs.Names.{is_word}
-use Rattle.ot_program.specs.Profiles.{profile_of}
+use Rattle.ot_program.specs.Meanings.{items, Bindings, section, is_word, profile_of}
 use Rattle.ot_program.specs.Programs.{program_copy}
 use Rattle.ot_overlap.specs.declared.item.Item.{Item}
 

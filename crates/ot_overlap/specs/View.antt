@@ -1,6 +1,6 @@
 -- What the code's values stand for.
 use Rattle.std.specs.Prelude.{ℕ, List}
-use Rattle.ot_model.specs.ShapeView.{arrays_of}
+use Rattle.ot_model.specs.Programs.{arrays_of}
 use Rattle.ot_overlap.specs.Items as s
 use Rattle.ot_overlap.specs.declared.walk.Met.{Met}
 use Rattle.ot_overlap.specs.declared.walk.Walk.{Walk}

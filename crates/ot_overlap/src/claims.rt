@@ -1,5 +1,5 @@
 //! Which items claim which cells.
-ghost use Rattle.std.specs.Prelude.{◌≡◌, ℕ, OnOk, true, false, if◌then◌else◌, Some, None};
+ghost use Rattle.std.specs.Prelude.{◌≡◌, ℕ, OnOk, true, false, if◌then◌else◌, Some, None, ◌≢◌};
 ghost use Rattle.ot_overlap.specs.Claims.{claimed, Clashes, DiffersAt, AreWhole, is_here, is_taken};
 
 use crate::item::Item;
@@ -104,8 +104,6 @@ impl Claims {
         Ok(())
     }
 }
-
-ghost use Rattle.std.specs.Prelude.{◌≢◌};
 
 fn are_same(one: Section, other: Section) -> bool
     ensures same { result ≡ true → one ≡ other }

@@ -1,8 +1,8 @@
 //! The sections of `depend` clauses.
-ghost use Rattle.std.specs.Prelude.{◌≡◌, option_map, IfOk};
+ghost use Rattle.std.specs.Prelude.{◌≡◌, option_map, IfOk, bytes_eq};
 ghost use Rattle.serde_json.specs.Data.{array};
 ghost use Rattle.serde_json.specs.View.{view, items_view};
-ghost use Rattle.ot_overlap.specs.Items.{depends};
+ghost use Rattle.ot_overlap.specs.Items.{depends, writes, is_iterated, is_difference, over};
 
 use ot_model::{ArrayShape, Section};
 use ot_place::{Trail, letters, size_of};
@@ -39,8 +39,6 @@ fn depends_in(items: &[Value]) -> Option<&Value>
     }
 }
 
-ghost use Rattle.ot_overlap.specs.Items.{writes};
-
 /// Whether a clause writes.
 pub(crate) fn writes(clause: &Value) -> bool
     ensures { result ≡ writes (view clause.now) }
@@ -63,8 +61,6 @@ fn writes_in(items: &[Value]) -> bool
         _ => unreachable!(),
     }
 }
-
-ghost use Rattle.ot_overlap.specs.Items.{is_iterated, is_difference};
 
 /// Whether a section is that of an iterator, whose length is a difference.
 pub(crate) fn is_iterated(section: &Value) -> bool
@@ -112,10 +108,9 @@ fn is_difference_in(items: &[Value]) -> bool
     }
 }
 
-ghost use Rattle.ot_model.specs.ShapeView.{arrays_of};
-ghost use Rattle.ot_place.specs.Seeking.{bindings_of};
+ghost use Rattle.ot_model.specs.Programs.{arrays_of};
+ghost use Rattle.ot_place.specs.Spots.{bindings_of};
 ghost use Rattle.ot_program.specs.Meanings.{section};
-ghost use Rattle.ot_overlap.specs.Items.{over};
 
 /// What a section denotes over these arrays, in these turns.
 pub(crate) fn section_of(
@@ -158,7 +153,6 @@ fn section_in(
     }
 }
 
-ghost use Rattle.std.specs.Prelude.{bytes_eq};
 ghost use Rattle.std.specs.List.{position_or_len};
 
 /// The position of the array of this name, or behind all.

@@ -1,5 +1,5 @@
 //! Items, those that write before those that don't.
-ghost use Rattle.std.specs.Prelude.{◌≡◌, ◌++◌, IfOk, OnOk};
+ghost use Rattle.std.specs.Prelude.{◌≡◌, ◌++◌, IfOk, OnOk, ◌∷◌, [], if◌then◌else◌};
 ghost use Rattle.std.specs.List.{filter};
 ghost use Rattle.ot_overlap.specs.Overlaps.{writers_first, writes_so};
 
@@ -25,8 +25,6 @@ fn put_those(items: &[Item], writes: bool, ordered: &mut Vec<Item>) -> Result<()
     }
     Ok(())
 }
-
-ghost use Rattle.std.specs.Prelude.{◌∷◌, [], if◌then◌else◌};
 
 fn put_one(item: &Item, writes: bool, ordered: &mut Vec<Item>) -> Result<(), AllocError>
     ensures { OnOk result (ordered.new.items ≡ ordered.old.items ++ (if writes_so writes item.now then item.now ∷ [] else [])) }

@@ -1,8 +1,8 @@
 //! The first overlap in the program that a request runs.
-ghost use Rattle.std.specs.Prelude.{IfOk};
+ghost use Rattle.std.specs.Prelude.{IfOk, ◌≡◌};
 ghost use Rattle.serde_json.specs.Data.{array};
 ghost use Rattle.serde_json.specs.View.{view, items_view};
-ghost use Rattle.ot_model.specs.ShapeView.{arrays_of};
+ghost use Rattle.ot_model.specs.Programs.{arrays_of};
 ghost use Rattle.ot_overlap.specs.Items.{items_of, text_items, program_items};
 ghost use Rattle.ot_overlap.specs.Overlaps.{IsFirst};
 
@@ -28,8 +28,6 @@ pub fn first_overlap(
     let ordered = writers_first(alloc, &items)?;
     first_of(alloc, &ordered)
 }
-
-ghost use Rattle.std.specs.Prelude.{◌≡◌};
 
 fn items_of(alloc: Global, request: &Value, arrays: &[ArrayShape]) -> Result<Vec<Item>, AllocError>
     ensures { IfOk result (λ items. items.items ≡ items_of (arrays_of arrays.now) (view request.now)) }

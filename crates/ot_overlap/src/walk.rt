@@ -1,11 +1,11 @@
 //! A walk through the entries of a text, which notes the items of their `depend` clauses.
-ghost use Rattle.std.specs.Prelude.{◌≡◌, ℕ, ◌+◌, ◌-◌, ◌∷◌, OnOk};
+ghost use Rattle.std.specs.Prelude.{◌≡◌, ℕ, ◌+◌, ◌-◌, ◌∷◌, OnOk, ◌++◌, map};
 ghost use Rattle.serde_json.specs.View.{view, items_view};
 ghost use Rattle.ot_program.specs.Copies.{copies, copies_of, copy, turns as each_turn, at, Done, Turn as OneTurn};
 ghost use Rattle.ot_program.specs.Programs.{program_copy};
 ghost use Rattle.ot_place.specs.Texts.{Profile as Defined, Stands, text_by, first_copies, second_copies};
-ghost use Rattle.ot_place.specs.Seeking.{bindings_of};
-ghost use Rattle.ot_overlap.specs.Items.{met_at, met_one, met_in, task_of};
+ghost use Rattle.ot_place.specs.Spots.{bindings_of};
+ghost use Rattle.ot_overlap.specs.Items.{met_at, met_one, met_in, task_of, item_of, sections_at, sections_in, sections_among, section_as};
 ghost use Rattle.ot_overlap.specs.View.{met_by, arrays_by};
 
 use crate::clause::{depends, is_iterated, section_of, writes};
@@ -212,9 +212,7 @@ fn task_of(parent: u32, entry: u32, text: &Text<'_>) -> u32
     }
 }
 
-ghost use Rattle.std.specs.Prelude.{◌++◌, map};
 ghost use Rattle.ot_program.specs.Meanings.{each};
-ghost use Rattle.ot_overlap.specs.Items.{item_of, sections_at, sections_in, sections_among, section_as};
 
 impl Walk<'_> {
     /// The items of a statement's own clauses.

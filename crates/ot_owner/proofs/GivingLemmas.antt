@@ -7,17 +7,16 @@ use Rattle.std.proofs.lemmas.List.Quantifiers.{Any-push}
 use Rattle.std.specs.List.{All, AllPairs}
 use Rattle.std.specs.Prelude.{Option, Some, None, IsSome, option_map, if◌then◌else◌}
 use Rattle.ot_model.specs.Joining.{join_by}
-use Rattle.ot_model.specs.Uses.{AreInOrder, is_fold, joined}
+use Rattle.ot_model.specs.Cells.{AreInOrder, is_fold, joined}
 use Rattle.ot_model.specs.declared.expr.Cell.{Cell}
 use Rattle.ot_model.specs.declared.fold.Fold.{Fold as Operation}
 use Rattle.ot_model.specs.declared.stmt.Mode.{Mode}
 use Rattle.ot_model.specs.declared.stmt.Mode.TheVariants.{Reads, Writes, Folds}
 use Rattle.ot_model.proofs.OrderLemmas.{precedes_apart}
 use Rattle.ot_owner.specs.declared.lent.LentCell.{LentCell}
-use Rattle.ot_owner.specs.Back.{kept, AreStored, taken_back, all_back}
+use Rattle.ot_owner.specs.Worth.{kept, AreStored, taken_back, all_back, worth_over, AreJoined}
 use Rattle.ot_owner.specs.Lending.{uses_of}
-use Rattle.ot_owner.specs.Rows.{Summed, IsSummed, IsOnlyBy, copy_among, folded}
-use Rattle.ot_owner.specs.Worth.{worth_over, AreJoined}
+use Rattle.ot_owner.specs.Owning.{Summed, IsSummed, IsOnlyBy, copy_among, folded}
 use Rattle.ot_owner.proofs.OrderLemmas.{each_precedes}
 use Rattle.ot_owner.proofs.JoinedLemmas.{not_lent, lent_push, others_before}
 use Rattle.ot_owner.proofs.GroupLemmas.{worth-grew, worth-idle, worth-other}

@@ -11,7 +11,7 @@ use Rattle.ot_model.specs.declared.fold.Fold.{Fold as Operation}
 use Rattle.ot_model.specs.declared.stmt.Mode.TheVariants.{Reads}
 use Rattle.ot_model.specs.declared.stmt.Use.{Use}
 use Rattle.ot_model.proofs.EqualLemmas.{cell-decides}
-use Rattle.ot_owner.specs.Rows.{Summed, is_of, place_in, names, IsOnlyBy, copy_in, row_in, copies_where, copies_in, copy_among, folded_at, folded_in, folded}
+use Rattle.ot_owner.specs.Owning.{Summed, is_of, place_in, names, IsOnlyBy, copy_in, row_in, copies_where, copies_in, copy_among, folded_at, folded_in, folded}
 use Rattle.ot_owner.specs.Worth.{combined, worth_over}
 use Rattle.ot_owner.specs.Kept.{holder_from}
 use Rattle.ot_owner.proofs.CombineLemmas.{Grew, combined-shift, combined-grew, combined-idle}

@@ -5,14 +5,13 @@ use Rattle.std.specs.List.{insert, All, AllWithin, position_from}
 use Rattle.std.proofs.lemmas.Iterator.Adapters.{position_from-zero}
 use Rattle.std.proofs.lemmas.List.{take_more}
 use Rattle.std.proofs.lemmas.List.Elements.{All-cons}
-use Rattle.ot_model.specs.Cells.{is_before}
-use Rattle.ot_model.specs.Uses.{Precedes, AreInOrder}
+use Rattle.ot_model.specs.Cells.{is_before, Precedes, AreInOrder}
 use Rattle.ot_model.specs.declared.expr.Cell.{Cell}
 use Rattle.ot_model.specs.declared.stmt.Use.{Use}
 use Rattle.ot_model.proofs.DeclaredLemmas.{after_more, neither_before}
 use Rattle.ot_model.proofs.OrderLemmas.{precedes_from_before, rest_in_order}
 use Rattle.ot_model.proofs.EqualLemmas.{cell-decides}
-use Rattle.ot_owner.specs.Rows.{IsNamed, is_of, place_in}
+use Rattle.ot_owner.specs.Owning.{IsNamed, is_of, place_in}
 
 -- where the cell isn't met at its place, it comes before what stands from there on
 pub behind_place : (us : List Use) (i : ℕ) (cell : Cell) → AreInOrder us → AllWithin (λ u. is_before u.cell cell ≡ false) us i (length us) →

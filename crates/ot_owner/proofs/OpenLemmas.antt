@@ -11,9 +11,8 @@ use Rattle.std.proofs.lemmas.List.{length-map, length-replicate, get_or_default,
 use Rattle.std.proofs.lemmas.List.Sorted.{All-permutation}
 use Rattle.std.proofs.lemmas.Option.{same_Some}
 use Rattle.std.proofs.Math.ListN.{get_or-map}
-use Rattle.ot_model.specs.Cells.{updated}
+use Rattle.ot_model.specs.Cells.{updated, joined as join, is_fold, conflicts, Conflict}
 use Rattle.ot_model.specs.Joining.{join_by, unit_of}
-use Rattle.ot_model.specs.Uses.{joined as join, is_fold, conflicts, Conflict}
 use Rattle.ot_model.specs.declared.expr.Cell.{Cell}
 use Rattle.ot_model.specs.declared.stmt.Mode.{Mode}
 use Rattle.ot_model.specs.declared.fold.Fold.{Fold as Operation}
@@ -21,13 +20,11 @@ use Rattle.ot_model.specs.declared.stmt.Mode.TheVariants.{Reads, Writes, Folds}
 use Rattle.ot_model.specs.declared.stmt.Use.{Use}
 use Rattle.ot_model.proofs.EqualLemmas.{cell-decides}
 use Rattle.ot_owner.specs.declared.lent.LentCell.{LentCell}
-use Rattle.ot_owner.specs.Back.{taken_back, all_back}
+use Rattle.ot_owner.specs.Worth.{taken_back, all_back, combined, worth_over, closed_over, AreJoined}
 use Rattle.ot_owner.specs.Keeping.{IsRegular, HasCopies, IsByOwn, IsSound}
 use Rattle.ot_owner.specs.Lending.{use_of, uses_of}
 use Rattle.ot_owner.specs.Kept.{summed_of, summeds_of}
-use Rattle.ot_owner.specs.Owning.{Loan, IsFreeFor}
-use Rattle.ot_owner.specs.Rows.{Summed, is_of, place_in, names, IsNamed, IsSummed, IsSummedBy, IsOnlyBy, NoTwoShare, folds_in, copy_in, row_in, copies_at, copies_where, copies_in, copy_among, folded_in, folded, begun_row, begun_in, begun_for, without}
-use Rattle.ot_owner.specs.Worth.{combined, worth_over, closed_over, AreJoined}
+use Rattle.ot_owner.specs.Owning.{Loan, IsFreeFor, Summed, is_of, place_in, names, IsNamed, IsSummed, IsSummedBy, IsOnlyBy, NoTwoShare, folds_in, copy_in, row_in, copies_at, copies_where, copies_in, copy_among, folded_in, folded, begun_row, begun_in, begun_for, without}
 use Rattle.ot_owner.specs.declared.rows.Group.{Group}
 use Rattle.ot_owner.proofs.ApartLemmas.{no_two-begun, no_two-ended}
 use Rattle.ot_owner.proofs.CombineLemmas.{unit-small, join-small, combined-small, combined-swap}

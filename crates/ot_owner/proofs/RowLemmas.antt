@@ -1,7 +1,7 @@
 -- How the copies of a cell change as a number is folded into a worker's copy, and as a row begins.
 use Rattle.std.proofs.Common.{◌≡◌, ◌≢◌, ℕ, zero, suc, take, cond, get_or, set, map, ◌+◌, ◌^◌, ◌<◌, ◌≤◌, ◌⊎◌, List, [], ◌∷◌, ◌++◌, length, refl, sym, ap, ◌∙◌, subst, inl, inr, arith, true≢false, Bool, true, false, Vec, Global}
 use Rattle.std.specs.Prelude.{position, Option, Some, None, is_some, IfSome, slice_get, option_map, option_and_then, replicate, if◌then◌else◌}
-use Rattle.ot_model.specs.Cells.{updated, cell_of}
+use Rattle.ot_model.specs.Cells.{updated, cell_of, AreInOrder, same_cell}
 use Rattle.ot_model.specs.Joining.{join_by, unit_of}
 use Rattle.ot_model.specs.declared.expr.Cell.{Cell}
 use Rattle.ot_model.specs.declared.fold.Fold.{Fold as Operation}
@@ -14,13 +14,11 @@ use Rattle.std.proofs.Math.ListN.{get_or-map}
 use Rattle.std.proofs.lemmas.Iterator.Adapters.{position_from-zero}
 use Rattle.std.proofs.lemmas.Grind.{common_steps}
 use Rattle.std.specs.List.{position_from, All, remove}
-use Rattle.ot_model.specs.Uses.{AreInOrder}
-use Rattle.ot_model.specs.Cells.{same_cell}
 use Rattle.ot_model.proofs.EqualLemmas.{cell-decides}
 use Rattle.ot_model.proofs.OrderLemmas as uses
 use Rattle.ot_model.proofs.CellsLemmas.{set-updated, slice_get-updated, slice_get-updated-other}
 use Rattle.ot_owner.specs.Worth.{combined, combined_by}
-use Rattle.ot_owner.specs.Rows.{is_of, copy_in, row_in, with_copy, copies_at, copies_where, folded_at, begun_row}
+use Rattle.ot_owner.specs.Owning.{is_of, copy_in, row_in, with_copy, copies_at, copies_where, folded_at, begun_row}
 use Rattle.ot_owner.specs.Kept.{row_of}
 use Rattle.ot_owner.specs.declared.rows.Row.{Row}
 use Rattle.ot_owner.proofs.CombineLemmas.{Grew, join-unit, join-small}

@@ -8,15 +8,15 @@ use Rattle.std.proofs.lemmas.List.Elements.{All-cons}
 use Rattle.std.proofs.lemmas.List.Kept.{AllPairs-cons}
 use Rattle.std.proofs.lemmas.List.Quantifiers.{all_pairs_push, position-Some}
 use Rattle.std.proofs.Math.ListN.{get_or-map}
-use Rattle.ot_model.specs.Uses.{is_fold}
+use Rattle.ot_model.specs.Cells.{is_fold}
 use Rattle.ot_model.specs.declared.expr.Cell.{Cell}
 use Rattle.ot_model.specs.declared.fold.Fold.{Fold as Operation}
 use Rattle.ot_model.specs.declared.stmt.Mode.TheVariants.{Reads}
 use Rattle.ot_model.specs.declared.stmt.Use.{Use}
 use Rattle.ot_model.proofs.EqualLemmas.{cell-decides}
 use Rattle.ot_owner.specs.declared.lent.LentCell.{LentCell}
-use Rattle.ot_owner.specs.Back.{taken_back, all_back}
-use Rattle.ot_owner.specs.Rows.{Summed, is_of, place_in, names, IsNamed, IsSummed, IsSummedBy, IsOnlyBy, ShareNothing, NoTwoShare, folds_in, folded_in, folded, begun_in, begun_for, without}
+use Rattle.ot_owner.specs.Worth.{taken_back, all_back}
+use Rattle.ot_owner.specs.Owning.{Summed, is_of, place_in, names, IsNamed, IsSummed, IsSummedBy, IsOnlyBy, ShareNothing, NoTwoShare, folds_in, folded_in, folded, begun_in, begun_for, without}
 
 -- ---- where the groups are the same but for their rows
 

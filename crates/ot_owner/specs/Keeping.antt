@@ -1,11 +1,10 @@
 -- What owners keep: what is out, the open groups, and what is reserved for the calls that take no memory.
 use Rattle.std.specs.Prelude.{◌≡◌, ◌≤◌, ◌<◌, ◌^◌, ℕ, true, List, All, length, Some, IsSome, IfSome, slice_get}
-use Rattle.ot_model.specs.Uses.{is_fold}
+use Rattle.ot_model.specs.Cells.{is_fold}
 use Rattle.ot_model.specs.declared.fold.Fold.{Fold as Operation}
 use Rattle.ot_model.specs.declared.stmt.Mode.TheVariants.{Writes, Folds}
 use Rattle.ot_model.specs.declared.stmt.Use.{Use}
-use Rattle.ot_owner.specs.Owning.{Owned, NoTwoConflict}
-use Rattle.ot_owner.specs.Rows.{Summed, IsOnlyBy, NoTwoShare, copy_among, folds_in}
+use Rattle.ot_owner.specs.Owning.{Owned, NoTwoConflict, Summed, IsOnlyBy, NoTwoShare, copy_among, folds_in}
 
 -- the cells of an open group, and how many copies there is room for in the row of each worker
 pub record Made : Type 0 where

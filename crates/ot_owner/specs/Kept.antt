@@ -2,9 +2,8 @@
 use Rattle.std.specs.Prelude.{◌+◌, ◌-◌, ℕ, List, [], ◌∷◌, map, length, Option, Some, None, if◌then◌else◌, option_map}
 use Rattle.slab.specs.Slab.{get, values, slab_len}
 use Rattle.ot_model.specs.declared.expr.Cell.{Cell}
-use Rattle.ot_owner.specs.Owning.{Loan}
+use Rattle.ot_owner.specs.Owning.{Loan, Summed, names, place_in}
 use Rattle.ot_owner.specs.Keeping.{Made}
-use Rattle.ot_owner.specs.Rows.{Summed, names, place_in}
 use Rattle.ot_owner.specs.declared.rights.Rights.{Rights}
 use Rattle.ot_owner.specs.declared.rows.Row.{Row}
 use Rattle.ot_owner.specs.declared.rows.Group.{Group}

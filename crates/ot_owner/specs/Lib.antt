@@ -1,9 +1,6 @@
 pub mod Lending
-pub mod Leases
-pub mod Rows
 pub mod Owning
 pub mod Worth
-pub mod Back
 pub mod Keeping
 pub mod Laws
 pub mod Kept

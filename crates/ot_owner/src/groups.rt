@@ -1,14 +1,12 @@
 //! The open groups, one after another.
 ghost use Rattle.std.specs.Prelude.{◌≡◌, ◌≢◌, ◌<◌, ◌^◌, ◌==◌, IsSome, OnOk, All, true, option_map, position, vec_capacity, vec_len};
-ghost use Rattle.ot_model.specs.Cells.{cell_of, lengths};
-ghost use Rattle.ot_model.specs.Uses.{AreInOrder, is_fold};
+ghost use Rattle.ot_model.specs.Cells.{cell_of, lengths, AreInOrder, is_fold};
 ghost use Rattle.ot_model.specs.declared.expr.Cell.{Cell};
-ghost use Rattle.ot_owner.specs.Back.{kept, AreStored, taken_back, all_back};
+ghost use Rattle.ot_owner.specs.Worth.{kept, AreStored, taken_back, all_back, worth_over};
 ghost use Rattle.ot_owner.specs.Keeping.{HasRow, IsRegular};
 ghost use Rattle.ot_owner.specs.Kept.{summeds_of, mades_of, holder_from};
 ghost use Rattle.ot_owner.specs.Lending.{uses_of};
-ghost use Rattle.ot_owner.specs.Rows.{copy_among, folded, folds_in, begun_for};
-ghost use Rattle.ot_owner.specs.Worth.{worth_over};
+ghost use Rattle.ot_owner.specs.Owning.{copy_among, folded, folds_in, begun_for};
 
 use crate::lent::LentCell;
 use crate::rows::Group;

@@ -43,11 +43,9 @@ impl Owners {
     ghost use Rattle.ot_model.specs.declared.expr.Cell.{Cell};
     ghost use Rattle.ot_model.specs.declared.fold.Fold.{Fold as Operation};
     ghost use Rattle.ot_model.specs.declared.stmt.Mode.TheVariants.{Writes, Folds};
-    ghost use Rattle.ot_owner.specs.Leases.{lent_from};
-    ghost use Rattle.ot_owner.specs.Owning.{loan_of, IsFreeFor, NoTwoConflict};
-    ghost use Rattle.ot_owner.specs.Rows.{IsNamed, IsSummed, IsSummedBy, NoTwoShare, copy_among, begun_for, without};
-    ghost use Rattle.ot_owner.specs.Worth.{closed_over, worth, IsCombined, AreWorthSame, AreJoined};
-    ghost use Rattle.ot_owner.specs.Back.{AreStored, all_back};
+    ghost use Rattle.ot_owner.specs.Lending.{lent_from};
+    ghost use Rattle.ot_owner.specs.Owning.{loan_of, IsFreeFor, NoTwoConflict, IsNamed, IsSummed, IsSummedBy, NoTwoShare, copy_among, begun_for, without};
+    ghost use Rattle.ot_owner.specs.Worth.{closed_over, worth, IsCombined, AreWorthSame, AreJoined, AreStored, all_back};
     ghost use Rattle.ot_owner.specs.Keeping.{Prepared, IsLast, IsOpenable};
 
     /// No right is out, and no group is open. It takes no memory.

@@ -26,7 +26,7 @@ impl Model for Loan {
 }
 
 impl Loan {
-    ghost use Rattle.ot_model.specs.Uses.{Conflict};
+    ghost use Rattle.ot_model.specs.Cells.{Conflict};
 
     /// Whether what may be done by it conflicts with the declaration.
     fn conflicts(&self, decl: &Decl) -> bool

@@ -1,11 +1,10 @@
 ghost use Rattle.std.specs.Prelude.{◌≡◌, ◌↔◌, ◌⊎◌, ◌≤◌, IfOk, OnOk, All, Contains, None, true, false, length, replicate};
 ghost use Rattle.std.specs.List.Sorted.{IsPartitionPoint};
-ghost use Rattle.ot_model.specs.Cells.{is_before};
-ghost use Rattle.ot_model.specs.Uses.{AreInOrder};
+ghost use Rattle.ot_model.specs.Cells.{is_before, AreInOrder};
 ghost use Rattle.ot_model.specs.declared.expr.Cell.{Cell};
 ghost use Rattle.ot_model.specs.declared.stmt.Mode.TheVariants.{Writes};
 ghost use Rattle.ot_owner.specs.Kept.{rows_of, summed_of};
-ghost use Rattle.ot_owner.specs.Rows.{IsNamed};
+ghost use Rattle.ot_owner.specs.Owning.{IsNamed};
 
 use crate::rows::{Group, Row};
 use ot_model::{Cell, Decl, Fold, Mode, Use};

@@ -1,10 +1,9 @@
 //! The private copies that workers keep of the cells of an open group.
 ghost use Rattle.std.specs.Prelude.{◌≡◌, ℕ, IsSome, OnOk, All, length, position, option_map, true, ◌<◌, false, if◌then◌else◌, is_some, Some};
-ghost use Rattle.ot_model.specs.Cells.{cell_of, lengths, updated, is_before};
+ghost use Rattle.ot_model.specs.Cells.{cell_of, lengths, updated, is_before, AreInOrder, is_fold};
 ghost use Rattle.ot_model.specs.Joining.{join_by};
-ghost use Rattle.ot_model.specs.Uses.{AreInOrder, is_fold};
 ghost use Rattle.ot_model.specs.declared.expr.Cell.{Cell};
-ghost use Rattle.ot_owner.specs.Rows.{is_of, copy_in, copies_at, copies_where, begun_row, place_in, folds_in, row_in, folded_in, begun_in, copies_in};
+ghost use Rattle.ot_owner.specs.Owning.{is_of, copy_in, copies_at, copies_where, begun_row, place_in, folds_in, row_in, folded_in, begun_in, copies_in};
 ghost use Rattle.ot_owner.specs.Kept.{row_of, rows_of, summed_of, made_of};
 ghost use Rattle.ot_owner.specs.Worth.{combined_by, combined};
 

@@ -1,6 +1,6 @@
 ghost use Rattle.std.specs.Prelude.{◌≡◌, List, IfOk, ◌<◌, IsSome, All};
 ghost use Rattle.ot_model.specs.declared.stmt.Use.{Use};
-ghost use Rattle.ot_owner.specs.Rows.{folds_in};
+ghost use Rattle.ot_owner.specs.Owning.{folds_in, loan_of};
 
 use crate::lent::LentCell;
 use crate::right::{Right, RightRoom};
@@ -24,7 +24,7 @@ impl Model for Slip {
     ghost use Rattle.std.specs.Prelude.{◌≡◌, ◌≤◌, ◌<◌, [], List, length, vec_capacity};
     ghost use Rattle.ot_model.specs.declared.stmt.Use.{Use};
     ghost use Rattle.ot_owner.specs.Keeping.{Prepared};
-    ghost use Rattle.ot_owner.specs.Rows.{folds_in};
+    ghost use Rattle.ot_owner.specs.Owning.{folds_in};
 
     ghost Value = { Prepared };
 
@@ -34,10 +34,8 @@ impl Model for Slip {
 }
 
 impl Slip {
-    ghost use Rattle.ot_model.specs.Cells.{cell_of};
-    ghost use Rattle.ot_model.specs.Uses.{AreInOrder};
-    ghost use Rattle.ot_owner.specs.Leases.{lent_from};
-    ghost use Rattle.ot_owner.specs.Owning.{loan_of};
+    ghost use Rattle.ot_model.specs.Cells.{cell_of, AreInOrder};
+    ghost use Rattle.ot_owner.specs.Lending.{lent_from};
 
     /// Room for a lease of these uses to this worker, which is at most 16.
     pub(crate) fn of(alloc: Global, decl: Decl, worker: u32) -> Result<Slip, AllocError>

@@ -3,7 +3,7 @@ use Rattle.std.proofs.Common.{◌≡◌, ◌+◌, ◌≤◌, ◌^◌, ℕ, List,
 use Rattle.std.specs.Prelude.{IfSome, Option, Some, None, option_map}
 use Rattle.ot_model.specs.Tree.{E, Literal, CellAt, Apply, PickFrom, Set, Fold, If, Task, Wait, Group, Body, End, Next}
 use Rattle.ot_model.specs.Names.{ValueNamedIn, NamedIn}
-use Rattle.ot_parts.specs.Leading.{leading, behind, test_of}
+use Rattle.ot_parts.specs.Parts.{leading, behind, test_of}
 use Rattle.ot_parts.specs.Modes.{PicksFit, AssignsFit}
 
 pub value-fits : (lens : List ℕ) (e : E) → ValueNamedIn lens e → PicksFit e

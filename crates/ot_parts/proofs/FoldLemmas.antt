@@ -1,6 +1,6 @@
 -- The test whether two operations are one.
 use Rattle.std.proofs.Common.{◌≡◌, Bool, true, false, true≢false, sym, ◌∙◌, refl}
-use Rattle.ot_model.specs.Uses.{same_fold}
+use Rattle.ot_model.specs.Cells.{same_fold}
 use Rattle.ot_model.specs.declared.fold.Fold.{Fold}
 use Rattle.ot_model.proofs.EqualLemmas.{fold-decides}
 

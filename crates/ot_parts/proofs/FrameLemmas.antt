@@ -8,9 +8,8 @@ use Rattle.std.proofs.lemmas.List.{drop_all, drop_more}
 use Rattle.std.proofs.lemmas.Option.{get_or_from_slice_get, slice_get_within}
 use Rattle.ot_model.specs.Tree.{S, Set, Fold, If, Task, Wait, Group, Body, End, Next, append}
 use Rattle.ot_model.proofs.TreeLemmas as tree
-use Rattle.ot_parts.specs.Leading.{leading, behind, test_of}
+use Rattle.ot_parts.specs.Parts.{leading, behind, test_of, Meaning, IsPart, alone, is_control, condition_of, part_of, parts_of}
 use Rattle.ot_parts.specs.Left.{frame_parts, outer_parts, parts_left, next_at, rest_left, comes, frame_steps, outer_steps, steps_left}
-use Rattle.ot_parts.specs.Parts.{Meaning, IsPart, alone, is_control, condition_of, part_of, parts_of}
 use Rattle.ot_parts.specs.declared.frames.Frame.{Frame}
 use Rattle.ot_parts.specs.declared.frames.Frames.{Frames}
 use Rattle.ot_parts.specs.declared.part.Part.{Part}

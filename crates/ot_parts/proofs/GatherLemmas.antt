@@ -5,9 +5,8 @@ use Rattle.std.proofs.lemmas.List.{drop_more}
 use Rattle.ot_model.specs.Tree.{S, Body, Next, append}
 use Rattle.ot_model.proofs.TreeLemmas as tree
 use Rattle.ot_parts.specs.Assigns.{assign_of, assigns_of}
-use Rattle.ot_parts.specs.Leading.{leading, behind, test_of}
+use Rattle.ot_parts.specs.Parts.{leading, behind, test_of, Meaning, IsPart, alone, is_control, condition_of, part_of, parts_of}
 use Rattle.ot_parts.specs.Left.{PassesAll, StopsAt}
-use Rattle.ot_parts.specs.Parts.{Meaning, IsPart, alone, is_control, condition_of, part_of, parts_of}
 use Rattle.ot_parts.specs.declared.assign.Assign.{Assign}
 use Rattle.ot_parts.specs.declared.part.Part.{Part}
 use Rattle.ot_parts.proofs.FrameLemmas.{behind-first, control-first, leading-first, parts-append}

@@ -2,16 +2,14 @@
 use Rattle.std.proofs.Common.{◌≡◌, Bool, true, false, List, [], ◌∷◌, map, refl, sym, ap, ◌∙◌}
 use Rattle.std.specs.Prelude.{Option, Some, None, option_map, if◌then◌else◌}
 use Rattle.std.specs.List.{fold}
-use Rattle.ot_model.specs.Cells.{same_cell}
-use Rattle.ot_model.specs.Uses.{AreInOrder, mode_in, same_fold}
+use Rattle.ot_model.specs.Cells.{same_cell, AreInOrder, mode_in, same_fold}
 use Rattle.ot_model.proofs.EqualLemmas.{cell-decides, fold-decides}
 use Rattle.ot_model.specs.declared.expr.Cell.{Cell}
 use Rattle.ot_model.specs.declared.fold.Fold.{Fold as Operation}
 use Rattle.ot_model.specs.declared.stmt.Mode.{Mode}
 use Rattle.ot_model.specs.declared.stmt.Mode.TheVariants.{Reads, Writes, Folds}
 use Rattle.ot_model.specs.declared.stmt.Use.{Use}
-use Rattle.ot_parts.specs.Modes.{Declared, folds_to, held_as, mode_held, held, noted, stronger, with_mode}
-use Rattle.ot_parts.specs.Held.{added, strongest}
+use Rattle.ot_parts.specs.Modes.{Declared, folds_to, held_as, mode_held, held, noted, stronger, with_mode, added, strongest}
 use Rattle.ot_parts.proofs.FoldLemmas.{same_self}
 
 -- ---- use by use

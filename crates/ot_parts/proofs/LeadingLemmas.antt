@@ -5,7 +5,7 @@ use Rattle.std.proofs.lemmas.Grind.{common_steps}
 use Rattle.ot_model.specs.View.{expr_of}
 use Rattle.ot_model.specs.Tree.{Set, Fold, If, Task, Wait, Group, Body, End, Next, append}
 use Rattle.ot_parts.specs.Assigns.{assign_of, assigns_of}
-use Rattle.ot_parts.specs.Leading.{leading, behind, leading_len}
+use Rattle.ot_parts.specs.Parts.{leading, behind, leading_len}
 use Rattle.ot_parts.specs.declared.assign.Assign.{Assign}
 use Rattle.ot_parts.specs.declared.assign.Assign.TheVariants as v
 

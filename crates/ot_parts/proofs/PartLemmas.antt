@@ -8,7 +8,7 @@ use Rattle.ot_model.specs.declared.expr.Cell.{Cell}
 use Rattle.ot_model.specs.declared.fold.Fold.{Fold as Operation}
 use Rattle.ot_model.specs.declared.stmt.Use.{Use}
 use Rattle.ot_parts.specs.Parts.{body_in, part_of}
-use Rattle.ot_parts.specs.Runs.{Plain, Asked}
+use Rattle.ot_parts.specs.Assigns.{Plain, Asked}
 use Rattle.ot_parts.specs.declared.part.Part.{Part, the_lemmas}
 use Rattle.ot_parts.specs.declared.part.Part.TheVariants as v
 

@@ -6,9 +6,8 @@ use Rattle.std.proofs.lemmas.List.{drop_all}
 use Rattle.std.proofs.lemmas.Option.{same_Some, slice_get_cases}
 use Rattle.ot_model.specs.Tree.{S, Set, Fold, If, Task, Wait, Group, Body, End, Next, append}
 use Rattle.ot_model.proofs.TreeLemmas as tree
-use Rattle.ot_parts.specs.Leading.{leading, behind, test_of, control_next, past_control, branched}
+use Rattle.ot_parts.specs.Parts.{leading, behind, test_of, control_next, past_control, branched, Meaning, IsPart, alone, branch_of, condition_at, condition_of, is_control, part_of, parts_of}
 use Rattle.ot_parts.specs.Left.{IsHidden, IsShown, IsTrim, comes, next_at, outer_parts, parts_left, rest_left, shows}
-use Rattle.ot_parts.specs.Parts.{Meaning, IsPart, alone, branch_of, condition_at, condition_of, is_control, part_of, parts_of}
 use Rattle.ot_parts.specs.declared.frames.Frames.{Frames}
 use Rattle.ot_parts.specs.declared.part.Part.{Part}
 use Rattle.ot_parts.proofs.FrameLemmas.{behind-first, control-first, leading-first, next-drop, not-none, parts-append}

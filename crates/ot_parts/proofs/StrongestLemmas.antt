@@ -6,8 +6,7 @@ use Rattle.std.specs.List.Sorted.{IsPermutation}
 use Rattle.std.proofs.lemmas.List.Sums.{fold-append}
 use Rattle.std.proofs.lemmas.Option.{same_Some}
 use Rattle.std.proofs.lemmas.List.Sorted.{list_any-IsPermutation}
-use Rattle.ot_model.specs.Cells.{same_cell}
-use Rattle.ot_model.specs.Uses.{AreInOrder, mode_in, is_fold, same_fold, same_mode}
+use Rattle.ot_model.specs.Cells.{same_cell, AreInOrder, mode_in, is_fold, same_fold, same_mode}
 use Rattle.ot_model.proofs.OrderLemmas.{precedes_apart, rest_in_order, each_precedes}
 use Rattle.ot_model.proofs.DeclaredLemmas.{mode_in-none}
 use Rattle.ot_model.proofs.EqualLemmas.{fold-decides}
@@ -17,8 +16,7 @@ use Rattle.ot_model.specs.declared.fold.Fold.TheVariants.{Plus}
 use Rattle.ot_model.specs.declared.stmt.Mode.{Mode}
 use Rattle.ot_model.specs.declared.stmt.Mode.TheVariants.{Reads, Writes, Folds}
 use Rattle.ot_model.specs.declared.stmt.Use.{Use}
-use Rattle.ot_parts.specs.Modes.{stronger, with_mode}
-use Rattle.ot_parts.specs.Held.{added, strongest}
+use Rattle.ot_parts.specs.Modes.{stronger, with_mode, added, strongest}
 use Rattle.ot_parts.proofs.FoldLemmas.{same_self, same_other}
 use Rattle.ot_parts.proofs.UseLemmas.{added-one}
 

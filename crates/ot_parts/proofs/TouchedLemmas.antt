@@ -5,9 +5,8 @@ use Rattle.ot_model.specs.declared.expr.Cell.{Cell}
 use Rattle.ot_model.specs.declared.expr.Section.{Section}
 use Rattle.ot_model.specs.declared.stmt.Mode.TheVariants.{Reads}
 use Rattle.ot_model.specs.declared.stmt.Use.{Use}
-use Rattle.ot_model.specs.Value.{cell_at}
-use Rattle.ot_parts.specs.Touched.{use_as}
-use Rattle.ot_parts.specs.Held.{added, strongest}
+use Rattle.ot_model.specs.Tree.{cell_at}
+use Rattle.ot_parts.specs.Modes.{use_as, added, strongest}
 
 -- one cell of a section more
 pub section-one : (s : Section) (i : ℕ) (es fs : List Use) → i < s.len → ((c : Cell) → strongest fs c ≡ added c (strongest es c) (use_as Reads (cell_at s i)))

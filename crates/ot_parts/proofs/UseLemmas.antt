@@ -5,16 +5,14 @@ use Rattle.std.specs.List.{insert, slice_get, AllWithin}
 use Rattle.std.specs.List.Sorted.{IsPartitionedBy}
 use Rattle.std.proofs.lemmas.Bool.{cases_lt}
 use Rattle.std.proofs.lemmas.Option.{get_or_from_slice_get}
-use Rattle.ot_model.specs.Uses.{Precedes, AreInOrder, mode_in}
+use Rattle.ot_model.specs.Cells.{Precedes, AreInOrder, mode_in, same_cell, is_before}
 use Rattle.ot_model.specs.declared.expr.Cell.{Cell}
 use Rattle.ot_model.specs.declared.stmt.Mode.{Mode}
 use Rattle.ot_model.specs.declared.stmt.Use.{Use}
-use Rattle.ot_model.specs.Cells.{same_cell, is_before}
 use Rattle.ot_model.proofs.EqualLemmas.{cell-decides}
 use Rattle.ot_model.proofs.OrderLemmas.{precedes_trans, precedes_apart, before_from_precedes, precedes_from_before, rest_in_order, each_precedes}
 use Rattle.ot_model.proofs.DeclaredLemmas.{after_more, neither_before}
-use Rattle.ot_parts.specs.Modes.{with_mode}
-use Rattle.ot_parts.specs.Held.{added}
+use Rattle.ot_parts.specs.Modes.{with_mode, added}
 
 -- ---- the place of a cell
 

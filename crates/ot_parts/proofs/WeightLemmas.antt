@@ -3,10 +3,8 @@ use Rattle.std.proofs.Common.{◌≡◌, ◌<◌, ◌++◌, ℕ, ◌+◌, List, 
 use Rattle.std.specs.Prelude.{Bool, true, false, Option, None, Some, is_some}
 use Rattle.std.proofs.lemmas.List.{drop_more}
 use Rattle.ot_model.specs.Tree.{S, Set, Fold, If, Task, Wait, Group, Body, End, Next, append}
-use Rattle.ot_parts.specs.Leading.{leading, behind}
+use Rattle.ot_parts.specs.Parts.{leading, behind, Meaning, IsPart, alone, whole, part_of, parts_of, weight, weight_one}
 use Rattle.ot_parts.specs.Left.{rest_left, frame_parts, outer_parts}
-use Rattle.ot_parts.specs.Parts.{Meaning, IsPart, alone, whole, part_of, parts_of}
-use Rattle.ot_parts.specs.Weighing.{weight, weight_one}
 use Rattle.ot_parts.specs.declared.frames.Frame.{Frame}
 use Rattle.ot_parts.specs.declared.part.Part.{Part}
 use Rattle.ot_parts.proofs.FrameLemmas.{parts-append}

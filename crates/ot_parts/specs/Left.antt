@@ -2,8 +2,7 @@
 use Rattle.std.specs.Prelude.{◌≡◌, ℕ, ◌+◌, ◌-◌, ◌++◌, ◌&&◌, ◌||◌, Bool, true, false, not, List, [], ◌∷◌, drop, length, slice_get, is_some, Option, Some, MatchOption}
 use Rattle.std.specs.Arc.{arc_value}
 use Rattle.ot_model.specs.Tree.{Body, End, Next, append}
-use Rattle.ot_parts.specs.Leading.{leading, behind, test_of}
-use Rattle.ot_parts.specs.Parts.{Meaning, IsPart, part_of, parts_of, condition_of}
+use Rattle.ot_parts.specs.Parts.{leading, behind, test_of, Meaning, IsPart, part_of, parts_of, condition_of}
 use Rattle.ot_parts.specs.declared.frames.Frame.{Frame}
 use Rattle.ot_parts.specs.declared.frames.Frames.{Frames}
 use Rattle.ot_parts.specs.declared.part.Part.{Part}

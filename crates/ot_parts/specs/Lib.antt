@@ -1,11 +1,6 @@
 -- what callers read
-pub mod Leading
-pub mod Assigns
-pub mod Touched
-pub mod Modes
-pub mod Held
-pub mod Runs
 pub mod Parts
-pub mod Weighing
+pub mod Assigns
+pub mod Modes
 -- what only this crate knows
 pub mod Left

@@ -1,14 +1,14 @@
 -- In which mode a piece holds each cell that it touches, touch by touch.
-use Rattle.std.specs.Prelude.{◌+◌, ◌≤◌, ◌^◌, ◌&&◌, Bool, false, if◌then◌else◌, List, Option, Some, None}
+use Rattle.std.specs.Prelude.{◌+◌, ◌≤◌, ◌^◌, ◌&&◌, Bool, false, if◌then◌else◌, List, Option, Some, None, ◌≡◌, ℕ, true, length, [], ◌∷◌, ◌++◌, map}
 use Rattle.std.specs.List.{fold, list_any}
-use Rattle.ot_model.specs.Tree.{E, Literal, CellAt, Apply, PickFrom, Set, Fold, Body, Next}
-use Rattle.ot_model.specs.Cells.{same_cell}
-use Rattle.ot_model.specs.Uses.{same_fold}
+use Rattle.ot_model.specs.Tree.{E, Literal, CellAt, Apply, PickFrom, Set, Fold, Body, Next, S, If, End, cells_named}
+use Rattle.ot_model.specs.Cells.{same_cell, same_fold, is_before}
 use Rattle.ot_model.specs.declared.expr.Cell.{Cell}
 use Rattle.ot_model.specs.declared.fold.Fold.{Fold as Operation}
 use Rattle.ot_model.specs.declared.stmt.Mode.{Mode}
 use Rattle.ot_model.specs.declared.stmt.Mode.TheVariants.{Reads, Writes, Folds}
 use Rattle.ot_model.specs.declared.stmt.Use.{Use}
+use Rattle.std.specs.List.Sorted.{IsPartitionPoint}
 
 -- what a body declares: the root's has no list and every cell as Writes
 abbrev pub Declared : Type 0
@@ -64,3 +64,45 @@ abbrev pub AssignsFit : Body → Type 0
 AssignsFit (Next (Set c e) rest) = PicksFit e × AssignsFit rest
 AssignsFit (Next (Fold o c e) rest) = PicksFit e × AssignsFit rest
 AssignsFit b = Unit {0}
+
+-- Uses of cells, as they are collected for what a piece holds.
+
+-- one use more, as this cell sees it
+abbrev pub added : Cell → Option Mode → Use → Option Mode
+added c earlier u = if same_cell u.cell c then Some (with_mode earlier u.mode) else earlier
+
+-- the strongest mode in which these uses have the cell, if one of them is of it
+abbrev pub strongest : List Use → Cell → Option Mode
+strongest us c = fold (added c) None us
+
+-- all uses up to this place are of cells that come before this one, and no later ones are
+abbrev pub IsPlaceOf : List Use → Cell → ℕ → Type 0
+IsPlaceOf us c place =
+    (place ≤ length us) × IsPartitionPoint (λ (u : Use). is_before u.cell c ≡ true) (λ (u : Use). is_before u.cell c ≡ false) us place
+
+-- What statements and pieces touch.
+
+-- the cell, used in this mode
+abbrev pub use_as : Mode → Cell → Use
+use_as mode cell = record { cell = cell; mode = mode }
+
+-- what a statement itself does with cells
+abbrev pub touches : S → List Use
+touches (Set c e) = map (use_as Reads) (cells_named e) ++ use_as Writes c ∷ []
+touches (Fold o c e) = map (use_as Reads) (cells_named e) ++ use_as (Folds o) c ∷ []
+touches (If e a b) = map (use_as Reads) (cells_named e)
+touches _ = []
+
+-- the touches of assignments, in their order
+abbrev pub assign_touches : Body → List Use
+assign_touches End = []
+assign_touches (Next x rest) = touches x ++ assign_touches rest
+
+-- the touches of a condition
+abbrev pub test_touches : Option E → List Use
+test_touches None = []
+test_touches (Some e) = map (use_as Reads) (cells_named e)
+
+-- the touches of a piece
+abbrev pub piece_touches : Body → Option E → List Use
+piece_touches assigns test = assign_touches assigns ++ test_touches test

@@ -30,7 +30,7 @@ impl Model for Assigns {
 
 impl Assigns {
     ghost use Rattle.ot_model.specs.Tree.{End};
-    ghost use Rattle.ot_parts.specs.Leading.{leading, leading_len};
+    ghost use Rattle.ot_parts.specs.Parts.{leading, leading_len};
 
     /// None. It takes no memory.
     pub(crate) fn none() -> Assigns

@@ -53,9 +53,7 @@ pub(crate) struct Frames {
 impl Frames {
     ghost use Rattle.ot_model.specs.Tree.{append};
     ghost use Rattle.ot_parts.specs.Assigns.{assigns_of};
-    ghost use Rattle.ot_parts.specs.Leading.{leading, behind, test_of};
-    ghost use Rattle.ot_parts.specs.Parts.{part_of, parts_of, condition_of, IsPart};
-    ghost use Rattle.ot_parts.specs.Weighing.{weight};
+    ghost use Rattle.ot_parts.specs.Parts.{leading, behind, test_of, part_of, parts_of, condition_of, IsPart, weight};
     ghost use Rattle.ot_parts.specs.declared.part.Part.{Part};
 
     /// At the beginning of a body. It takes no memory.

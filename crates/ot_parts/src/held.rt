@@ -1,11 +1,9 @@
 ghost use Rattle.std.specs.Prelude.{◌≡◌, ◌++◌, [], IsTrue, IfOk, OnOk, length, true};
 ghost use Rattle.std.specs.List.{AllWithin};
-ghost use Rattle.ot_model.specs.Cells.{is_before};
-ghost use Rattle.ot_model.specs.Uses.{AreInOrder, mode_in};
+ghost use Rattle.ot_model.specs.Cells.{is_before, AreInOrder, mode_in};
 ghost use Rattle.ot_model.specs.declared.expr.Cell.{Cell};
 ghost use Rattle.ot_model.specs.declared.stmt.Mode.TheVariants.{Folds};
-ghost use Rattle.ot_parts.specs.Modes.{stronger};
-ghost use Rattle.ot_parts.specs.Held.{added, strongest, IsPlaceOf};
+ghost use Rattle.ot_parts.specs.Modes.{stronger, added, strongest, IsPlaceOf};
 
 use ot_model::{Cell, Fold, Mode, Use};
 use std::alloc::{AllocError, Global};
@@ -26,7 +24,7 @@ pub(crate) struct Held {
 impl Model for Held {
     ghost use Rattle.std.specs.Prelude.{List, ◌++◌};
     ghost use Rattle.ot_model.specs.declared.stmt.Use.{Use};
-    ghost use Rattle.ot_model.specs.Uses.{AreInOrder};
+    ghost use Rattle.ot_model.specs.Cells.{AreInOrder};
 
     ghost Value = { List Use };
 

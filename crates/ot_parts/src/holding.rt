@@ -1,5 +1,5 @@
 ghost use Rattle.std.specs.Prelude.{◌≡◌, IfOk, Some, option_map};
-ghost use Rattle.ot_model.specs.Uses.{AreInOrder, mode_in};
+ghost use Rattle.ot_model.specs.Cells.{AreInOrder, mode_in};
 ghost use Rattle.ot_model.specs.declared.expr.Cell.{Cell};
 ghost use Rattle.ot_model.specs.declared.stmt.Mode.TheVariants.{Folds};
 ghost use Rattle.ot_parts.specs.Modes.{folds_by, folds_to, held_as, mode_held};

@@ -20,10 +20,9 @@ pub struct Leading {
 }
 
 impl Leading {
-    ghost use Rattle.ot_model.specs.Uses.{AreInOrder};
-    ghost use Rattle.ot_parts.specs.Assigns.{assigns_of};
+    ghost use Rattle.ot_model.specs.Cells.{AreInOrder};
+    ghost use Rattle.ot_parts.specs.Assigns.{assigns_of, AreHeldBy};
     ghost use Rattle.ot_parts.specs.Modes.{AssignsFit, PicksFit};
-    ghost use Rattle.ot_parts.specs.Runs.{AreHeldBy};
 
     /// A part's run and condition, where a body declares this.
     pub(crate) fn of_part(

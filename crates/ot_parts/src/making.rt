@@ -4,9 +4,8 @@ ghost use Rattle.ot_model.specs.Names.{OneNamedIn, NamedIn};
 ghost use Rattle.ot_model.specs.Tree.{Next, End, append};
 ghost use Rattle.ot_model.specs.View.{stmt_of, stmts_of};
 ghost use Rattle.ot_parts.specs.Assigns.{assign_of, assigns_of};
-ghost use Rattle.ot_parts.specs.Leading.{leading};
+ghost use Rattle.ot_parts.specs.Parts.{leading, part_of, parts_of};
 ghost use Rattle.ot_parts.specs.Modes.{AssignsFit};
-ghost use Rattle.ot_parts.specs.Parts.{part_of, parts_of};
 
 use crate::assign::Assign;
 use crate::part::Part;

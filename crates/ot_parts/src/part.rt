@@ -21,7 +21,7 @@ impl Part {
     ghost use Rattle.ot_model.specs.View.{expr_of};
     ghost use Rattle.ot_parts.specs.Left.{comes, shows};
     ghost use Rattle.ot_parts.specs.Parts.{part_of, condition_of, branch_of, body_in, IsPart};
-    ghost use Rattle.ot_parts.specs.Runs.{AreTouched};
+    ghost use Rattle.ot_parts.specs.Assigns.{AreTouched};
 
     /// Its sets and folds.
     pub fn assigns(&self) -> &Assigns

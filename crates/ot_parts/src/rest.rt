@@ -37,13 +37,10 @@ impl Rest {
     ghost use Rattle.std.specs.Arc.{arc_value};
     ghost use Rattle.ot_model.specs.Names.{NamedIn};
     ghost use Rattle.ot_model.specs.Tree.{End, S};
-    ghost use Rattle.ot_model.specs.Uses.{AreInOrder};
+    ghost use Rattle.ot_model.specs.Cells.{AreInOrder};
     ghost use Rattle.ot_model.specs.View.{expr_of};
-    ghost use Rattle.ot_parts.specs.Assigns.{assigns_of};
-    ghost use Rattle.ot_parts.specs.Leading.{leading, behind, test_of, control_next, past_control, branched};
-    ghost use Rattle.ot_parts.specs.Parts.{part_of, parts_of, condition_of};
-    ghost use Rattle.ot_parts.specs.Runs.{AreHeldBy};
-    ghost use Rattle.ot_parts.specs.Weighing.{weight};
+    ghost use Rattle.ot_parts.specs.Assigns.{assigns_of, AreHeldBy};
+    ghost use Rattle.ot_parts.specs.Parts.{leading, behind, test_of, control_next, past_control, branched, part_of, parts_of, condition_of, weight};
 
     /// The whole body. It takes no memory.
     pub fn new(alloc: Global, body: Arc<Vec<Part>>) -> Rest

@@ -1,7 +1,6 @@
 ghost use Rattle.std.specs.Prelude.{◌≡◌, IfOk, None, Some};
-ghost use Rattle.ot_parts.specs.Assigns.{assigns_of};
+ghost use Rattle.ot_parts.specs.Assigns.{assigns_of, AreTouched};
 ghost use Rattle.ot_parts.specs.Modes.{AssignsFit, PicksFit};
-ghost use Rattle.ot_parts.specs.Runs.{AreTouched};
 
 use crate::assign::Assign;
 use crate::assigns::Assigns;
@@ -21,14 +20,14 @@ pub struct Run {
 impl Model for Run {
     ghost use Rattle.std.specs.Coded.{codes};
     ghost use Rattle.ot_model.specs.Code.{body_code};
-    ghost use Rattle.ot_parts.specs.Runs.{Plain};
+    ghost use Rattle.ot_parts.specs.Assigns.{Plain};
 
     ghost Value = { Plain };
 
     ghost coded = { Prim.hlevel (codes, body_code) };
 
     ghost use Rattle.std.specs.Prelude.{None};
-    ghost use Rattle.ot_parts.specs.Runs.{AreTouched};
+    ghost use Rattle.ot_parts.specs.Assigns.{AreTouched};
 
     ghost view = { λ r. record { assigns = r.assigns; uses = r.uses } };
 
@@ -46,7 +45,7 @@ pub struct Tested {
 impl Model for Tested {
     ghost use Rattle.std.specs.Coded.{codes};
     ghost use Rattle.ot_model.specs.Code.{body_code, value_code};
-    ghost use Rattle.ot_parts.specs.Runs.{Asked};
+    ghost use Rattle.ot_parts.specs.Assigns.{Asked};
 
     ghost Value = { Asked };
 
@@ -54,7 +53,7 @@ impl Model for Tested {
 
     ghost use Rattle.std.specs.Prelude.{Some};
     ghost use Rattle.ot_model.specs.View.{expr_of};
-    ghost use Rattle.ot_parts.specs.Runs.{AreTouched};
+    ghost use Rattle.ot_parts.specs.Assigns.{AreTouched};
 
     ghost view = { λ r. record { assigns = r.assigns; test = expr_of r.test; uses = r.uses } };
 

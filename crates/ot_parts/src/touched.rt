@@ -1,14 +1,12 @@
 ghost use Rattle.std.specs.Prelude.{◌≡◌, ◌+◌, ◌∷◌, [], ◌≤◌, ◌^◌, OnOk, IfOk, IfSome, map, option_map};
 ghost use Rattle.std.specs.List.{fold, range_with_len};
-ghost use Rattle.ot_model.specs.Uses.{AreInOrder, mode_in};
-ghost use Rattle.ot_model.specs.Value.{cell_at, cells_named};
+ghost use Rattle.ot_model.specs.Cells.{AreInOrder, mode_in};
+ghost use Rattle.ot_model.specs.Tree.{cell_at, cells_named};
 ghost use Rattle.ot_model.specs.View.{expr_of};
 ghost use Rattle.ot_model.specs.declared.expr.Cell.{Cell};
 ghost use Rattle.ot_model.specs.declared.stmt.Mode.TheVariants.{Reads};
 ghost use Rattle.ot_parts.specs.Assigns.{assign_of, assigns_of};
-ghost use Rattle.ot_parts.specs.Held.{added, strongest};
-ghost use Rattle.ot_parts.specs.Modes.{PicksFit, AssignsFit};
-ghost use Rattle.ot_parts.specs.Touched.{use_as, touches, test_touches, piece_touches};
+ghost use Rattle.ot_parts.specs.Modes.{added, strongest, PicksFit, AssignsFit, use_as, touches, test_touches, piece_touches};
 
 use crate::assign::Assign;
 use crate::held::Held;

@@ -1,6 +1,5 @@
 ghost use Rattle.std.specs.Prelude.{◌≡◌, ◌<◌, ◌^◌, drop};
-ghost use Rattle.ot_parts.specs.Parts.{part_of, parts_of, whole};
-ghost use Rattle.ot_parts.specs.Weighing.{weight};
+ghost use Rattle.ot_parts.specs.Parts.{part_of, parts_of, whole, weight};
 
 use crate::part::Part;
 

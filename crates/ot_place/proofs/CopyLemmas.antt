@@ -4,9 +4,7 @@ use Rattle.serde_json.specs.Data.{Data, array, no_items, item, depth, items_dept
 use Rattle.serde_json.specs.View.{view, items_view}
 use Rattle.serde_json.specs.declared.value.Value.{Value, Array, the_lemmas}
 use Rattle.ot_program.specs.Copies.{Text, SetText, AddText, FoldText, IfText, ForText, TaskText, WaitText, WaitForText, GroupText, GroupByText, NoForm, Copy, copies, copies_of, copy, at, Done, Then}
-use Rattle.ot_program.specs.Meanings.{Bindings}
-use Rattle.ot_program.specs.Names.{is_word}
-use Rattle.ot_program.specs.Profiles.{is_one, is_two}
+use Rattle.ot_program.specs.Meanings.{Bindings, is_word, is_one, is_two}
 use Rattle.ot_place.specs.Texts.{Profile, of_one, of_two, of_three, of_four, of_five, text_at, copy_by}
 
 copy_if : (profile : Profile) (level : ℕ) (variables : Bindings) (b : Bool) (x y : Copy) (t u : Text)

@@ -5,8 +5,7 @@ use Rattle.serde_json.specs.Data.{Num, number, string, array}
 use Rattle.serde_json.specs.View.{view, items_view, number_view}
 use Rattle.serde_json.specs.declared.value.Value.{Value, the_lemmas, Number as JsonNumber, String as JsonString, Array as JsonArray}
 use Rattle.serde_json.specs.declared.number.Number.{Number}
-use Rattle.ot_program.specs.Meanings.{Bindings, bound, exact, sign_of, size}
-use Rattle.ot_program.specs.Names.{whole_number}
+use Rattle.ot_program.specs.Meanings.{Bindings, bound, exact, sign_of, size, whole_number}
 
 pub view-Number : (n : Number) → view (JsonNumber n) ≡ number (number_view n)
 view-Number n = search (rules, the_lemmas)

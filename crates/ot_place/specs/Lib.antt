@@ -1,3 +1,2 @@
 pub mod Spots
 pub mod Texts
-pub mod Seeking

@@ -3,9 +3,7 @@ use Rattle.std.specs.Prelude.{◌≡◌, ℕ, max, Bool, true, false, ◌+◌, �
 use Rattle.serde_json.specs.Data.{Data, array, no_items, item, depth}
 use Rattle.serde_json.specs.View.{view}
 use Rattle.ot_program.specs.Copies.{Text, SetText, AddText, FoldText, IfText, ForText, Turn, TaskText, WaitText, WaitForText, GroupText, GroupByText, ProgramText, NoForm, Copy, Copies, Done, at, turns, copies}
-use Rattle.ot_program.specs.Meanings.{letters, Bindings, size}
-use Rattle.ot_program.specs.Names.{is_word}
-use Rattle.ot_program.specs.Profiles.{is_one, is_two}
+use Rattle.ot_program.specs.Meanings.{letters, Bindings, size, is_word, is_one, is_two}
 use Rattle.ot_place.specs.declared.text.Text.{Text as CodeText}
 use Rattle.ot_place.specs.declared.text.Text.TheVariants as t
 use Rattle.ot_place.specs.declared.text.Profile.{Profile as CodeProfile}

@@ -3,7 +3,7 @@ ghost use Rattle.std.specs.Prelude.{◌≡◌, ◌+◌, ◌-◌, ◌*◌, unwrap
 ghost use Rattle.serde_json.specs.Data.{string, array};
 ghost use Rattle.serde_json.specs.View.{view, items_view};
 ghost use Rattle.ot_program.specs.Meanings.{sign_of, exact, size};
-ghost use Rattle.ot_place.specs.Seeking.{bindings_of};
+ghost use Rattle.ot_place.specs.Spots.{bindings_of};
 
 use crate::trail::Trail;
 use ot_model::Op;

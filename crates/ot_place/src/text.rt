@@ -2,7 +2,7 @@
 ghost use Rattle.std.specs.Prelude.{◌≡◌, ◌≤◌, ◌&&◌, max, Some, None, MatchOption};
 ghost use Rattle.serde_json.specs.Data.{array, depth, items_depth};
 ghost use Rattle.serde_json.specs.View.{view, items_view};
-ghost use Rattle.ot_program.specs.Profiles.{profile_of, is_one, is_two};
+ghost use Rattle.ot_program.specs.Meanings.{profile_of, is_one, is_two, is_word};
 ghost use Rattle.ot_place.specs.Texts.{Profile as Defined, Stands, text_by, depth_of, text_at, of_one, of_two, of_three, of_four, of_five};
 
 use ot_program::is_word;
@@ -18,8 +18,6 @@ pub enum Profile {
 }
 
 impl Profile {
-    ghost use Rattle.ot_program.specs.Names.{is_word};
-
     /// Whether a value is a word that profile 1 alone has for its form, in that profile.
     fn one_has(self, value: &Value, word: &str) -> bool
         ensures { (defined : Defined) → Stands self defined → result ≡ is_one defined && is_word (view value.now) word.now }

@@ -1,7 +1,7 @@
 //! Where a walk stands in a text.
 ghost use Rattle.std.specs.Prelude.{◌≡◌, ◌++◌, map, IfOk, OnOk};
 ghost use Rattle.ot_program.specs.Meanings.{bound};
-ghost use Rattle.ot_place.specs.Seeking.{path_of, bindings_of, turn_by, place_by};
+ghost use Rattle.ot_place.specs.Spots.{path_of, bindings_of, turn_by, place_by};
 
 use std::alloc::{AllocError, Global};
 

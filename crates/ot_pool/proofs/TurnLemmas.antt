@@ -3,13 +3,11 @@ use Rattle.std.proofs.Common.{◌≡◌, inl, ℕ, sym, subst, false}
 use Rattle.std.specs.Prelude.{Option, Some, None, Ok, Err}
 use Rattle.ot_check.specs.Jobs.{Spec, IsMeaning}
 use Rattle.ot_check.specs.declared.job.Outcome.{Outcome}
-use Rattle.ot_job.specs.Live.{Live}
-use Rattle.ot_job.specs.Dealings.{IsOf, NoneOut, state_of}
+use Rattle.ot_job.specs.Dealings.{Live, IsOf, NoneOut, state_of}
 use Rattle.ot_job.specs.declared.state.State.TheVariants.{Ended, Failed}
 use Rattle.ot_job.specs.Taken.{Came as Done}
 use Rattle.ot_job.specs.declared.piece.Refused.{Refused}
-use Rattle.ot_core.specs.Index.{job_of}
-use Rattle.ot_core.specs.Floors.{Floor, IsWorking, RefusesIn, FailsIn}
+use Rattle.ot_core.specs.Floors.{job_of, Floor, IsWorking, RefusesIn, FailsIn}
 use Rattle.ot_core.specs.Turns.{RunsShort}
 use Rattle.ot_core.specs.declared.hall.SubmitFault.TheVariants.{Memory}
 use Rattle.ot_book.specs.declared.executor.NotDone.TheVariants as refused

@@ -2,17 +2,15 @@
 use Rattle.std.specs.Prelude.{◌≡◌, ◌+◌, ◌<◌, ◌^◌, ◌↔◌, ◌⊎◌, ◌&&◌, ℕ, length, Bool, true, false, not, Option, Some, None, option_map, Result, Ok, Err}
 use Rattle.ot_check.specs.Jobs.{Spec}
 use Rattle.ot_check.specs.declared.job.Outcome.{Outcome}
-use Rattle.ot_job.specs.Live.{Live}
-use Rattle.ot_job.specs.Dealings.{state_of}
+use Rattle.ot_job.specs.Dealings.{Live, state_of}
 use Rattle.ot_job.specs.declared.state.State.{State}
 use Rattle.ot_job.specs.declared.state.State.TheVariants.{Working, Failing}
 use Rattle.ot_job.specs.Taken.{Came as Done}
 use Rattle.ot_job.specs.declared.piece.Refused.{Refused}
 use Rattle.ot_book.specs.declared.executor.NotDone.{NotDone}
 use Rattle.ot_book.specs.declared.executor.NotDone.TheVariants.{Memory, Closed, Stranger}
-use Rattle.ot_core.specs.Index.{job_of}
+use Rattle.ot_core.specs.Floors.{job_of, Floor, new_floor, total_of, IsFree, IsWorking, NothingAt, RefusesIn, FailsIn, AbortsJob}
 use Rattle.ot_core.specs.Floors as floors
-use Rattle.ot_core.specs.Floors.{Floor, new_floor, total_of, IsFree, IsWorking, NothingAt, RefusesIn, FailsIn, AbortsJob}
 use Rattle.ot_core.specs.Turns.{ClaimsSome, NothingAnywhere}
 use Rattle.ot_core.specs.declared.hall.Collected.TheVariants as collected
 use Rattle.ot_pool.specs.declared.hub.Claimed.{Claimed}

@@ -63,7 +63,6 @@ impl<L: Ledger> Model for Hub<L> {
 }
 
 impl<L: Ledger> Hub<L> {
-    ghost use Rattle.ot_job.specs.States.{Starts};
     ghost use Rattle.ot_core.specs.Turns.{NothingAnywhere};
 
     /// Nobody has a job, nothing was settled, and the mark isn't set.
@@ -266,7 +265,7 @@ impl<L: Ledger> Hub<L> {
 }
 
 ghost use Rattle.ot_check.specs.Jobs.{IsMeaning, Spec};
-ghost use Rattle.ot_job.specs.Dealings.{IsOf, IsOver, state_of};
+ghost use Rattle.ot_job.specs.Dealings.{Starts, IsOf, IsOver, state_of};
 ghost use Rattle.ot_book.specs.declared.executor.NotDone.TheVariants.{Stranger};
 ghost use Rattle.ot_pool.specs.Shared.{is_aborted, new_shared, Submits, Enters, RefusesSpec, ClaimsAny, ReturnsPiece, Collects, Leaves, is_pending, Shared, HasRoomForUnits};
 

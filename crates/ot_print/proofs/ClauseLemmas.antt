@@ -10,12 +10,11 @@ use Rattle.ot_model.specs.declared.fold.Fold.TheVariants as f
 use Rattle.ot_model.specs.declared.stmt.Mode.{Mode}
 use Rattle.ot_model.specs.declared.stmt.Mode.TheVariants as m
 use Rattle.ot_model.specs.declared.stmt.Use.{Use}
-use Rattle.ot_model.specs.Uses.{AreInOrder, Precedes, same_mode}
+use Rattle.ot_model.specs.Cells.{AreInOrder, Precedes, same_mode}
 use Rattle.ot_model.proofs.EqualLemmas.{mode-decides}
 use Rattle.ot_model.proofs.OrderLemmas.{precedes_trans, precedes_apart, rest_in_order}
-use Rattle.ot_print.specs.Shown.{Text, sections, clause, declared, folded, task}
+use Rattle.ot_print.specs.Shown.{Text, sections, clause, declared, folded, task, cells_in, sections_of, cells_of}
 use Rattle.ot_model.specs.Signs.{identifier}
-use Rattle.ot_print.specs.Sections.{cells_in, sections_of, cells_of}
 use Rattle.ot_print.specs.Laws.{AreNames, AllFit, CellsFit, UsesFit, TaskIsDetermined}
 use Rattle.ot_print.proofs.WordLemmas.{head_of, tail_of}
 use Rattle.ot_print.proofs.SectionLemmas.{come_back, same_sections, all_fit}

@@ -6,9 +6,8 @@ use Rattle.ot_model.specs.declared.expr.Cell.{Cell}
 use Rattle.ot_model.specs.declared.expr.Section.{Section}
 use Rattle.ot_model.specs.declared.fold.Fold.{Fold as Operation}
 use Rattle.ot_model.specs.declared.fold.Fold.TheVariants as f
-use Rattle.ot_print.specs.Shown.{Text, sections, clause}
+use Rattle.ot_print.specs.Shown.{Text, sections, clause, sections_of, cells_of}
 use Rattle.ot_model.specs.Signs.{identifier}
-use Rattle.ot_print.specs.Sections.{sections_of, cells_of}
 use Rattle.ot_print.specs.Laws.{AreNames, AllFit, GroupIsDetermined}
 use Rattle.ot_print.proofs.WordLemmas.{head_of, tail_of}
 use Rattle.ot_print.proofs.SectionLemmas.{come_back, same_sections, all_fit}

@@ -5,8 +5,7 @@ use Rattle.std.proofs.lemmas.Bool.Decides.{nat_tests}
 use Rattle.std.proofs.lemmas.Fmt.{decimal_injective}
 use Rattle.ot_model.specs.declared.expr.Cell.{Cell}
 use Rattle.ot_model.specs.declared.expr.Section.{Section}
-use Rattle.ot_print.specs.Shown.{Text, name, length_of, section, further, sections}
-use Rattle.ot_print.specs.Sections.{alone, longer, goes_on, behind, sections_of, row, cells_of}
+use Rattle.ot_print.specs.Shown.{Text, name, length_of, section, further, sections, alone, longer, goes_on, behind, sections_of, row, cells_of}
 use Rattle.ot_print.specs.Laws.{AreNames, FitsSection, AllFit, CellsFit, CellsComeBack, SectionsAreDetermined, CellsAreDetermined}
 use Rattle.ot_print.proofs.WordLemmas.{and_true, head_of, tail_of, starts, split, digits_are}
 use Rattle.ot_print.proofs.ValueLemmas.{opened, same_cell, same_section}

@@ -11,8 +11,7 @@ use Rattle.ot_model.specs.declared.fold.Fold.TheVariants as f
 use Rattle.ot_model.specs.declared.stmt.Use.{Use}
 use Rattle.ot_model.specs.Tree.{E, CellAt, Apply, S, Set, Fold, If, Task, Wait, Group, Body, End}
 use Rattle.ot_model.specs.Signs.{identifier}
-use Rattle.ot_print.specs.Shown.{Text, name, cell, value, clause, condition, group, statement}
-use Rattle.ot_print.specs.Sections.{cells_in, sections_of}
+use Rattle.ot_print.specs.Shown.{Text, name, cell, value, clause, condition, group, statement, cells_in, sections_of}
 use Rattle.ot_print.specs.Laws.{all_word, AreNames, Fits, CellsFit, FitsStatement, write_sign, HasSign, as_shown, group_as_shown, StatementIsShownSo, StatementIsDetermined}
 use Rattle.ot_print.proofs.WordLemmas.{head_of, starts, split}
 use Rattle.ot_print.proofs.ValueLemmas.{determined, name_word}

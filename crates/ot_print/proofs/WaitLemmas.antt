@@ -7,9 +7,8 @@ use Rattle.ot_model.specs.declared.fold.Fold.{Fold as Operation}
 use Rattle.ot_model.specs.declared.stmt.Mode.{Mode}
 use Rattle.ot_model.specs.declared.stmt.Mode.TheVariants as m
 use Rattle.ot_model.specs.declared.stmt.Use.{Use}
-use Rattle.ot_model.specs.Uses.{is_fold, same_mode}
-use Rattle.ot_print.specs.Shown.{Text, name, section, sections, further, clause, declared, dependences, waited}
-use Rattle.ot_print.specs.Sections.{cells_in, sections_of}
+use Rattle.ot_model.specs.Cells.{is_fold, same_mode}
+use Rattle.ot_print.specs.Shown.{Text, name, section, sections, further, clause, declared, dependences, waited, cells_in, sections_of}
 use Rattle.ot_print.specs.Laws.{in_word, all_word, is_digit, is_name, AreNames, AllFit, UsesFit, OnlyDepends, WaitFits, WaitIsDetermined}
 use Rattle.ot_print.proofs.WordLemmas.{and_true, head_of, tail_of}
 use Rattle.ot_print.proofs.SectionLemmas.{section_shown, all_fit, behind_start}

@@ -1,18 +1,15 @@
 -- What is shown determines what was shown, where names are names and differ.
-use Rattle.std.specs.Prelude.{◌≡◌, ℕ, ◌<◌, ◌^◌, ◌==◌, nat_le, Bool, true, false, not, ◌&&◌, ◌||◌, List, [], ◌∷◌, length}
-use Rattle.ot_model.specs.Tree.{E, Literal, CellAt, Apply, PickFrom}
+use Rattle.std.specs.Prelude.{◌≡◌, ℕ, ◌<◌, ◌^◌, ◌==◌, nat_le, Bool, true, false, not, ◌&&◌, ◌||◌, List, [], ◌∷◌, length, ◌++◌, codes, Option, Some, None}
+use Rattle.ot_model.specs.Tree.{E, Literal, CellAt, Apply, PickFrom, S, Set, Fold, If, Task, Wait, Group, End}
 use Rattle.ot_model.specs.declared.expr.Cell.{Cell}
 use Rattle.ot_model.specs.declared.expr.Section.{Section}
 use Rattle.ot_model.specs.declared.stmt.Use.{Use}
-use Rattle.ot_model.specs.Uses.{AreInOrder, is_fold}
+use Rattle.ot_model.specs.Cells.{AreInOrder, is_fold}
 use Rattle.ot_model.specs.declared.fold.Fold.{Fold as Operation}
-use Rattle.std.specs.Prelude.{◌++◌, codes, Option, Some, None}
 use Rattle.ot_model.specs.declared.expr.Op.TheVariants as o
 use Rattle.ot_model.specs.declared.fold.Fold.TheVariants as f
-use Rattle.ot_model.specs.Tree.{S, Set, Fold, If, Task, Wait, Group, End}
-use Rattle.ot_print.specs.Shown.{Text, name, cell, value, sections, task, wait, group, statement}
+use Rattle.ot_print.specs.Shown.{Text, name, cell, value, sections, task, wait, group, statement, sections_of, cells_of}
 use Rattle.ot_model.specs.Signs.{fold_sign, is_called}
-use Rattle.ot_print.specs.Sections.{sections_of, cells_of}
 
 abbrev pub is_digit : ℕ → Bool
 is_digit b = nat_le 48 b && nat_le b 57

@@ -2,7 +2,7 @@
 ghost use Rattle.std.specs.Prelude.{◌≡◌, ◌++◌, OnOk, Some, None, [], string_bytes};
 ghost use Rattle.std.specs.Fmt.{decimal};
 ghost use Rattle.ot_print.specs.Shown as shown;
-ghost use Rattle.ot_print.specs.Sections as rows;
+ghost use Rattle.ot_print.specs.Shown as rows;
 ghost use Rattle.ot_model.specs.Signs.{identifier};
 ghost use Rattle.ot_model.specs.View.{expr_of, stmt_of};
 

@@ -1,7 +1,7 @@
 //! Cells in a row as sections.
 ghost use Rattle.std.specs.Prelude.{◌≡◌, IfOk, Some};
-ghost use Rattle.ot_print.specs.Sections as rows;
-ghost use Rattle.ot_model.specs.Uses.{same_mode};
+ghost use Rattle.ot_print.specs.Shown as rows;
+ghost use Rattle.ot_model.specs.Cells.{same_mode};
 
 use ot_model::{Cell, Decl, Mode, Section, Use};
 use std::alloc::{AllocError, Global};

@@ -3,25 +3,20 @@ use Rattle.std.proofs.Common.{◌≡◌, ℕ, zero, suc, ◌+◌, ◌++◌, Bool
 use Rattle.std.specs.Prelude.{if◌then◌else◌, drop, Option, Some, None}
 use Rattle.std.specs.List.{list_any}
 use Rattle.std.proofs.lemmas.List.{map-append}
-use Rattle.ot_model.specs.Cells.{same_cell}
-use Rattle.ot_model.specs.Value.{cells_named}
-use Rattle.ot_model.specs.Uses.{conflicts, is_fold, same_fold}
+use Rattle.ot_model.specs.Cells.{same_cell, conflicts, is_fold, same_fold}
+use Rattle.ot_model.specs.Tree.{cells_named}
 use Rattle.ot_model.specs.declared.expr.Cell.{Cell}
 use Rattle.ot_model.specs.declared.fold.Fold.{Fold as Operation}
 use Rattle.ot_model.specs.declared.fold.Fold.TheVariants.{Plus, Times, And, Or, Xor, Min, Max}
 use Rattle.ot_model.specs.declared.stmt.Mode.TheVariants.{Writes, Folds}
 use Rattle.ot_model.specs.declared.stmt.Use.{Use}
-use Rattle.ot_profile1.specs.Uses.{Mode1, Reads1, Writes1, Adds1, Use1, conflicts1, is_adds1}
-use Rattle.ot_profile1.specs.Tree.{S1, Set1, Add1, If1, Task1, Wait1, Group1, Body1, End1, Next1, size1, size_one1}
-use Rattle.ot_profile1.specs.Upward.{up_mode, up_use, up_uses, up_one, up}
+use Rattle.ot_profile1.specs.Tree.{Mode1, Reads1, Writes1, Adds1, Use1, conflicts1, is_adds1, S1, Set1, Add1, If1, Task1, Wait1, Group1, Body1, End1, Next1, size1, size_one1}
+use Rattle.ot_profile1.specs.Upward.{up_mode, up_use, up_uses, up_one, up, up_mark, up_step, up_path}
 use Rattle.ot_profile1.proofs.SerialLemmas.{any-map, any-same, size-up, size_one-up}
-use Rattle.ot_check.specs.Paths.{Mark, Touch, Enter, Leave, Step, At, use_as, touches, touched, PassesOne, Passes}
-use Rattle.ot_check.specs.Offences.{has_cell, covers, folds_by, Declared, allows, folds_to, exceeds, opened_by_any, misfits_as, misfits, clashes, stays_within, is_awaited, unawaited, is_open, breaks, OnPath, CanEndWithChildren, InTasksOfOne, InTasks, Offends, IsFirstOf}
+use Rattle.ot_check.specs.Offences.{Mark, Touch, Enter, Leave, Step, At, use_as, touches, touched, PassesOne, Passes, has_cell, covers, folds_by, Declared, allows, folds_to, exceeds, opened_by_any, misfits_as, misfits, clashes, stays_within, is_awaited, unawaited, is_open, breaks, OnPath, CanEndWithChildren, InTasksOfOne, InTasks, Offends, IsFirstOf}
 use Rattle.ot_check.specs.declared.fault.Offence.{Offence}
 use Rattle.ot_check.specs.declared.fault.Offence.TheVariants.{NotDeclared, ChildBeyond, ReductionMisuse, ConflictsWithChild, EndsWithChildren}
-use Rattle.ot_profile1.specs.Paths.{Mark1, Touch1, Create1, Await1, Enter1, Leave1, Step1, At1, use_as1, touches1, touched1, PassesOne1, Passes1}
-use Rattle.ot_profile1.specs.Offences.{covers1, Declared1, allows1, adds_to1, exceeds1, misfits1, clashes1, stays_within1, has_wait1, unawaited1, is_open1, breaks1, OnPath1, CanEndWithChildren1, InTasksOfOne1, InTasks1, Offends1}
-use Rattle.ot_profile1.specs.OffencesKept.{up_mark, up_step, up_path}
+use Rattle.ot_profile1.specs.Offences.{Mark1, Touch1, Create1, Await1, Enter1, Leave1, Step1, At1, use_as1, touches1, touched1, PassesOne1, Passes1, covers1, Declared1, allows1, adds_to1, exceeds1, misfits1, clashes1, stays_within1, has_wait1, unawaited1, is_open1, breaks1, OnPath1, CanEndWithChildren1, InTasksOfOne1, InTasks1, Offends1}
 
 -- ---- lists and tests
 

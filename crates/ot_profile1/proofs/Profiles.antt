@@ -3,7 +3,7 @@
 use Rattle.std.proofs.Common.{◌≡◌, Bool, true, Option, Some, None, codes, refl, true≢false, sym}
 use Rattle.std.specs.Prelude.{is_some}
 use Rattle.serde_json.specs.Data.{string}
-use Rattle.ot_program.specs.Profiles.{is_one, profile_of}
+use Rattle.ot_program.specs.Meanings.{is_one, profile_of}
 
 abbrev taken : (A : Type 0) → (A → Bool) → Type 0
 taken A test = A

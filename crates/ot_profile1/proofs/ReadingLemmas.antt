@@ -6,35 +6,27 @@ use Rattle.std.specs.Option.{option_or}
 use Rattle.std.proofs.lemmas.List.{map-append}
 use Rattle.std.proofs.lemmas.Slice.Eq.{bytes_eq-Decides}
 use Rattle.serde_json.specs.Data.{Data, string, array, Items, no_items, item}
-use Rattle.ot_model.specs.Cells.{same_cell}
-use Rattle.ot_model.specs.Counts.{size, tasks_in}
-use Rattle.ot_model.specs.Shapes.{Arrays}
-use Rattle.ot_model.specs.Tree.{Next, If, Task, Group, body_of}
-use Rattle.ot_model.specs.Uses.{is_fold, same_mode}
-use Rattle.ot_model.specs.Value.{cells_of}
+use Rattle.ot_model.specs.Cells.{same_cell, is_fold, same_mode}
+use Rattle.ot_model.specs.Tree.{size, tasks_in, Next, If, Task, Group, body_of, cells_of}
+use Rattle.ot_model.specs.Programs.{Arrays}
 use Rattle.ot_model.specs.declared.expr.Cell.{Cell}
 use Rattle.ot_model.specs.declared.expr.Section.{Section}
 use Rattle.ot_model.specs.declared.fold.Fold.{Fold}
 use Rattle.ot_model.specs.declared.fold.Fold.TheVariants.{Plus}
 use Rattle.ot_model.specs.declared.stmt.Mode.TheVariants.{Reads, Writes, Folds}
-use Rattle.ot_profile1.specs.Uses.{Mode1, Reads1, Writes1, Adds1, same_mode1}
-use Rattle.ot_profile1.specs.Tree.{S1, body_of1, size1, Expanded1}
-use Rattle.ot_profile1.specs.Upward.{up_mode, up_use, up_uses, up_one, up, up_program}
+use Rattle.ot_profile1.specs.Tree.{Mode1, Reads1, Writes1, Adds1, same_mode1, S1, body_of1, size1, Expanded1}
+use Rattle.ot_profile1.specs.Upward.{up_mode, up_use, up_uses, up_one, up, up_program, up_read, ReadingIsKept, FirstIsNotSecond}
 use Rattle.ot_profile1.proofs.SerialLemmas.{any-map, any-same, size-up, tasks_in-up}
 use Rattle.ot_program.specs.Copies.{Text, SetText, AddText, IfText, ForText, Turn, TaskText, WaitText, GroupText, ProgramText, NoForm, Placed, Copy, Copies, At, Done, Then, at, turns, copies, copies_of, copy, in_copy, in_order, statement, statement_of, statements_of}
-use Rattle.ot_program.specs.Declarations.{names, named_cells, named_as, operation_in, first_fold, mode_among, named_otherwise, is_mixed, uses, placed}
+use Rattle.ot_program.specs.Meanings.{names, named_cells, named_as, operation_in, first_fold, mode_among, named_otherwise, is_mixed, uses, placed, items, letters, Bindings, size as size_of, section, value, mode_of, Clause, clause, is_word}
 use Rattle.ot_program.specs.Faults.{unless, no_list, list_faults, clause_faults, section_faults, mixed, nested, text_faults, past_limits}
 use Rattle.ot_program.specs.Limits.{cells_in, tally, plus, own_tally, total}
-use Rattle.ot_program.specs.Meanings.{items, letters, Bindings, size as size_of, section, value, mode_of, Clause, clause}
-use Rattle.ot_program.specs.Names.{is_word}
 use Rattle.ot_program.specs.Programs.{foremost, told_or, faults_behind, told, expansion, program_copy, program_in}
 use Rattle.ot_program.specs.declared.fault.Refusal.{Refusal}
 use Rattle.ot_program.specs.declared.fault.Refusal.TheVariants.{Form, MixedReduction}
 use Rattle.ot_profile1.proofs.Profiles.{One, Two}
-use Rattle.ot_profile1.specs.Copies.{Text1, SetText1, AddText1, IfText1, ForText1, Turn1, TaskText1, WaitText1, GroupText1, ProgramText1, NoForm1, Placed1, Copy1, Copies1, At1, Done1, Then1, at1, turns1, copies1, copies_of1, copy1, in_copy1, in_order1, statement1, statement_of1, statements_of1}
-use Rattle.ot_profile1.specs.Declarations.{mode_of1, Clause1, clause1, named_cells1, named_as1, mode_among1, is_mixed1, uses1}
+use Rattle.ot_profile1.specs.Copies.{Text1, SetText1, AddText1, IfText1, ForText1, Turn1, TaskText1, WaitText1, GroupText1, ProgramText1, NoForm1, Placed1, Copy1, Copies1, At1, Done1, Then1, at1, turns1, copies1, copies_of1, copy1, in_copy1, in_order1, statement1, statement_of1, statements_of1, mode_of1, Clause1, clause1, named_cells1, named_as1, mode_among1, is_mixed1, uses1}
 use Rattle.ot_profile1.specs.Programs.{clause_faults1, mixed1, text_faults1, own_faults1, own_tally1, total1, faults_behind1, told1, expansion1, program_copy1}
-use Rattle.ot_profile1.specs.ReadingKept.{up_read, ReadingIsKept, FirstIsNotSecond}
 
 -- ---- lists and tests
 

@@ -2,8 +2,7 @@
 use Rattle.std.proofs.Common.{◌≡◌, ◌+◌, Bool, ◌||◌, List, [], ◌∷◌, map, refl, ap, ◌∙◌}
 use Rattle.std.specs.List.{list_any}
 use Rattle.ot_model.specs.Cells.{cell_of}
-use Rattle.ot_model.specs.Value.{val}
-use Rattle.ot_model.specs.Counts.{size, size_one, tasks_in, tasks_in_one}
+use Rattle.ot_model.specs.Tree.{val, size, size_one, tasks_in, tasks_in_one}
 use Rattle.ot_model.specs.Serial.{State, bump, either, serial, serial_one}
 use Rattle.ot_profile1.specs.Tree.{S1, Set1, Add1, If1, Task1, Wait1, Group1, Body1, End1, Next1, size1, size_one1, tasks_in1, tasks_in_one1}
 use Rattle.ot_profile1.specs.Serial.{serial1, serial_one1}

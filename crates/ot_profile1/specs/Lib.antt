@@ -1,11 +1,6 @@
-pub mod Uses
 pub mod Tree
 pub mod Serial
 pub mod Upward
-pub mod Paths
 pub mod Offences
-pub mod OffencesKept
-pub mod Declarations
 pub mod Copies
 pub mod Programs
-pub mod ReadingKept

@@ -3,18 +3,16 @@ use Rattle.std.specs.Prelude.{ℕ, not, List, [], ◌∷◌, ◌++◌, map, is_s
 use Rattle.std.specs.List.{list_any}
 use Rattle.std.specs.Option.{option_or}
 use Rattle.serde_json.specs.Data.{Data, array, no_items, item}
-use Rattle.ot_model.specs.Shapes.{Arrays}
+use Rattle.ot_model.specs.Programs.{Arrays}
 use Rattle.ot_model.specs.declared.expr.Section.{Section}
 use Rattle.ot_profile1.specs.Tree.{S1, body_of1, size1, tasks_in1, Expanded1}
 use Rattle.ot_program.specs.Faults.{unless, no_list, list_faults, deep, name_faults, size_faults, cell_faults, section_faults, expression_faults, nested, past_limits}
 use Rattle.ot_program.specs.Limits.{size_depth, cells_in, Tally, tally, plus, with_value}
-use Rattle.ot_program.specs.Meanings.{items, Bindings, section, value}
-use Rattle.ot_program.specs.Names.{is_word}
+use Rattle.ot_program.specs.Meanings.{items, Bindings, section, value, is_word}
 use Rattle.ot_program.specs.Programs.{foremost, told_or}
 use Rattle.ot_program.specs.declared.fault.Refusal.{Refusal}
 use Rattle.ot_program.specs.declared.fault.Refusal.TheVariants.{Form, MixedReduction}
-use Rattle.ot_profile1.specs.Copies.{Text1, SetText1, AddText1, IfText1, ForText1, Turn1, TaskText1, WaitText1, GroupText1, ProgramText1, NoForm1, Placed1, Copy1, Done1, at1, copies1, in_copy1, statement_of1}
-use Rattle.ot_profile1.specs.Declarations.{mode_of1, Clause1, clause1, named_cells1, is_mixed1}
+use Rattle.ot_profile1.specs.Copies.{Text1, SetText1, AddText1, IfText1, ForText1, Turn1, TaskText1, WaitText1, GroupText1, ProgramText1, NoForm1, Placed1, Copy1, Done1, at1, copies1, in_copy1, statement_of1, mode_of1, Clause1, clause1, named_cells1, is_mixed1}
 
 -- ---- faults
 

@@ -1,7 +1,7 @@
 -- The serial meaning of a body, each task executed where it is created: the definition as it was before the second profile.
 use Rattle.std.specs.Prelude.{◌+◌, ◌%◌, ◌^◌}
 use Rattle.ot_model.specs.Cells.{cell_of}
-use Rattle.ot_model.specs.Value.{val}
+use Rattle.ot_model.specs.Tree.{val}
 use Rattle.ot_model.specs.Serial.{State, bump, change, either}
 use Rattle.ot_profile1.specs.Tree.{S1, Set1, Add1, If1, Task1, Wait1, Group1, Body1, End1, Next1}
 

@@ -1,8 +1,6 @@
 //! Laws of programs of the first profile. Each is the contract of a function that does nothing: a
 //! caller that needs the law calls it.
-ghost use Rattle.ot_profile1.specs.OffencesKept.{FirstOffenceIsKept, OffencesAreKept};
-ghost use Rattle.ot_profile1.specs.ReadingKept.{FirstIsNotSecond, ReadingIsKept};
-ghost use Rattle.ot_profile1.specs.Upward.{CountsAreKept, SerialIsKept};
+ghost use Rattle.ot_profile1.specs.Upward.{FirstOffenceIsKept, OffencesAreKept, FirstIsNotSecond, ReadingIsKept, CountsAreKept, SerialIsKept};
 
 use ot_check::laws::first_offence_is_first;
 

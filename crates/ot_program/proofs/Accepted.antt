@@ -3,16 +3,14 @@ use Rattle.std.proofs.Common.{◌≡◌, List, [], ◌++◌, map, Option, Some, 
 use Rattle.std.proofs.lemmas.List.Elements.{All-from_recursion}
 use Rattle.serde_json.specs.Data.{Data, array, no_items, item}
 use Rattle.ot_model.specs.Names.{FitsShape}
-use Rattle.ot_model.specs.Programs.{Expanded, IsNamedIn}
-use Rattle.ot_model.specs.Shapes.{Arrays, AreShort, array_lengths}
+use Rattle.ot_model.specs.Programs.{Expanded, IsNamedIn, Arrays, AreShort, array_lengths}
 use Rattle.ot_program.specs.declared.fault.Refusal.{Refusal}
 use Rattle.ot_program.specs.declared.profile.Profile.{Profile}
 use Rattle.ot_program.specs.Accepted.{IsSmall}
 use Rattle.ot_program.specs.Copies.{Placed, copies, in_copy, in_order, statement_of}
 use Rattle.ot_program.specs.Faults.{no_list, list_faults, section_faults, nested}
 use Rattle.ot_program.specs.Limits.{cells_in, tally, plus, total}
-use Rattle.ot_program.specs.Meanings.{items, section}
-use Rattle.ot_program.specs.Profiles.{profile_of}
+use Rattle.ot_program.specs.Meanings.{items, section, profile_of}
 use Rattle.ot_program.specs.Programs.{told, told_or, expansion, program_copy, program_in, program_of}
 use Rattle.ot_program.proofs.Named.{sections_named, copies_named}
 use Rattle.ot_program.proofs.CellCounts.{sections_long}

@@ -11,11 +11,10 @@ use Rattle.ot_model.specs.declared.expr.Cell.{Cell}
 use Rattle.ot_model.specs.declared.fold.Fold.{Fold}
 use Rattle.ot_model.specs.declared.stmt.Mode.{Mode}
 use Rattle.ot_model.specs.declared.stmt.Mode.TheVariants.{Reads, Writes, Folds}
-use Rattle.ot_model.specs.Uses.{same_fold}
-use Rattle.ot_model.specs.Value.{cells_of}
+use Rattle.ot_model.specs.Cells.{same_fold}
+use Rattle.ot_model.specs.Tree.{cells_of}
 use Rattle.ot_model.proofs.EqualLemmas.{fold-decides}
-use Rattle.ot_program.specs.Declarations.{names}
-use Rattle.ot_program.specs.Meanings.{Clause}
+use Rattle.ot_program.specs.Meanings.{names, Clause}
 use Rattle.ot_program.specs.declared.clause.Clause.{Clause as CodeClause}
 use Rattle.ot_program.specs.walk.Namings.{cell_order, Named, together, with_mode, name_clause}
 use Rattle.ot_program.proofs.CellLists.{cell_of_key}

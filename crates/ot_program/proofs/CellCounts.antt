@@ -5,15 +5,13 @@ use Rattle.std.proofs.lemmas.List.{length-map}
 use Rattle.std.proofs.lemmas.List.FromFn.{length-map-range_with_len}
 use Rattle.std.proofs.lemmas.List.Sums.{sum_by-cons}
 use Rattle.ot_model.specs.Cells.{same_cell, is_before}
-use Rattle.ot_model.specs.Tree.{S, body_of}
-use Rattle.ot_model.specs.Value.{cell_at, cells_of}
+use Rattle.ot_model.specs.Tree.{S, body_of, cell_at, cells_of}
 use Rattle.ot_model.specs.declared.expr.Cell.{Cell}
 use Rattle.ot_model.specs.declared.expr.Section.{Section}
 use Rattle.ot_model.specs.declared.stmt.Use.{Use}
 use Rattle.ot_program.specs.Accepted.{named_in}
-use Rattle.ot_program.specs.Declarations.{placed, named_cells, mode_among, uses}
+use Rattle.ot_program.specs.Meanings.{placed, named_cells, mode_among, uses, Clause}
 use Rattle.ot_program.specs.Limits.{cells_in}
-use Rattle.ot_program.specs.Meanings.{Clause}
 
 pub named-append : (ss ts : List S) → named_in (body_of (ss ++ ts)) ≡ named_in (body_of ss) + named_in (body_of ts)
 named-append [] ts = omega arith

@@ -9,8 +9,8 @@ use Rattle.std.specs.Cmp.{nat_cmp_is}
 use Rattle.std.specs.declared.cmp.Ordering.{Ordering}
 use Rattle.std.specs.declared.cmp.Ordering.TheVariants.{Less, Equal, Greater}
 use Rattle.std.proofs.lemmas.Bool.{cases_lt}
-use Rattle.ot_model.specs.Uses.{Precedes, AreInOrder}
-use Rattle.ot_model.specs.Value.{cell_at}
+use Rattle.ot_model.specs.Cells.{Precedes, AreInOrder}
+use Rattle.ot_model.specs.Tree.{cell_at}
 use Rattle.ot_model.specs.declared.expr.Cell.{Cell}
 use Rattle.ot_model.specs.declared.expr.Section.{Section}
 use Rattle.ot_model.specs.declared.stmt.Mode.{Mode}
@@ -18,7 +18,7 @@ use Rattle.ot_model.specs.declared.stmt.Use.{Use}
 use Rattle.ot_program.specs.declared.fault.Refusal.{Refusal}
 use Rattle.ot_program.specs.walk.Reading.{◌>>=◌}
 use Rattle.ot_program.specs.walk.Namings.{cell_order, Named}
-use Rattle.ot_program.specs.walk.Clauses.{use_of, uses_of}
+use Rattle.ot_program.specs.walk.Parts.{use_of, uses_of}
 use Rattle.ot_program.proofs.Readings.{ok_then, ok_any}
 
 -- the cells of a section from a place on

@@ -1,5 +1,5 @@
 -- What the definition speaks of, in the types of the code.
-use Rattle.ot_model.specs.Shapes.{Arrays}
+use Rattle.ot_model.specs.Programs.{Arrays}
 use Rattle.ot_model.specs.declared.expr.Op.{Op}
 use Rattle.ot_model.specs.declared.expr.Op.TheVariants as op
 use Rattle.serde_json.specs.Data.{Data}

@@ -4,15 +4,14 @@ use Rattle.std.specs.Prelude.{⊤, IsErrAnd}
 use Rattle.serde_json.specs.Data.{Data, string, array}
 use Rattle.serde_json.specs.View.{view, items_view}
 use Rattle.serde_json.specs.declared.value.Value.{Value}
-use Rattle.ot_model.specs.Shapes.{Arrays}
+use Rattle.ot_model.specs.Programs.{Arrays}
 use Rattle.ot_model.specs.Tree.{E, S, If, Body, body_of}
 use Rattle.ot_program.specs.declared.counts.Counts.{Counts}
 use Rattle.ot_program.specs.declared.fault.Refusal.{Refusal}
 use Rattle.ot_program.specs.declared.fault.ProgramFault.{ProgramFault}
 use Rattle.ot_program.specs.declared.fault.ProgramFault.TheVariants.{Refused}
 use Rattle.ot_program.specs.declared.profile.Profile.{Profile}
-use Rattle.ot_program.specs.Names.{is_name, is_word}
-use Rattle.ot_program.specs.Meanings.{Bindings}
+use Rattle.ot_program.specs.Meanings.{is_name, is_word, Bindings}
 use Rattle.ot_program.specs.walk.Reading.{◌>>=◌, both_of}
 use Rattle.ot_program.specs.walk.Counting.{deeper}
 use Rattle.ot_program.specs.walk.Sizes.{size_of, shallow}

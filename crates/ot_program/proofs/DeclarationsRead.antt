@@ -10,12 +10,11 @@ use Rattle.ot_model.specs.declared.expr.Cell.{Cell}
 use Rattle.ot_model.specs.declared.stmt.Mode.{Mode}
 use Rattle.ot_model.specs.declared.stmt.Use.{Use}
 use Rattle.ot_model.specs.Cells.{same_cell, is_before}
-use Rattle.ot_model.specs.Value.{cells_of}
+use Rattle.ot_model.specs.Tree.{cells_of}
 use Rattle.ot_program.specs.declared.fault.Refusal.TheVariants.{MixedReduction}
-use Rattle.ot_program.specs.Declarations.{placed, named_cells, mode_among, is_mixed, uses}
+use Rattle.ot_program.specs.Meanings.{placed, named_cells, mode_among, is_mixed, uses, Clause}
 use Rattle.ot_program.specs.Faults.{unless, mixed}
-use Rattle.ot_program.specs.Meanings.{Clause}
-use Rattle.ot_program.specs.walk.Clauses.{uses_of, declaration}
+use Rattle.ot_program.specs.walk.Parts.{uses_of, declaration}
 use Rattle.ot_program.specs.walk.Namings.{cell_order, Named, name_cell, name_clause}
 use Rattle.ot_program.proofs.CellLists.{cell_of_key}
 use Rattle.ot_program.proofs.Coded.{code_clause}

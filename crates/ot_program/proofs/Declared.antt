@@ -16,12 +16,10 @@ use Rattle.ot_model.specs.declared.fold.Fold.{Fold}
 use Rattle.ot_model.specs.declared.fold.Fold.TheVariants.{Plus}
 use Rattle.ot_model.specs.declared.stmt.Mode.{Mode}
 use Rattle.ot_model.specs.declared.stmt.Mode.TheVariants.{Reads, Writes, Folds}
-use Rattle.ot_model.specs.Cells.{same_cell}
-use Rattle.ot_model.specs.Uses.{is_fold, same_fold, same_mode}
-use Rattle.ot_model.specs.Value.{cells_of}
+use Rattle.ot_model.specs.Cells.{same_cell, is_fold, same_fold, same_mode}
+use Rattle.ot_model.specs.Tree.{cells_of}
 use Rattle.ot_model.proofs.EqualLemmas.{fold-decides}
-use Rattle.ot_program.specs.Declarations.{names, named_as, operation_in, first_fold, mode_among, named_otherwise, is_mixed}
-use Rattle.ot_program.specs.Meanings.{Clause}
+use Rattle.ot_program.specs.Meanings.{names, named_as, operation_in, first_fold, mode_among, named_otherwise, is_mixed, Clause}
 use Rattle.ot_program.specs.walk.Namings.{cell_order, Named, together, with_mode, name_cell, name_clause}
 use Rattle.ot_program.proofs.Coded.{code_clause}
 

@@ -5,10 +5,9 @@ use Rattle.std.proofs.lemmas.Bool.{cases_lt}
 use Rattle.serde_json.specs.Data.{Data, Items, no_items, item}
 use Rattle.ot_program.specs.declared.fault.Refusal.{Refusal}
 use Rattle.ot_program.specs.declared.fault.Refusal.TheVariants.{Form}
-use Rattle.ot_program.specs.Refusals.{rank, least}
+use Rattle.ot_program.specs.Faults.{rank, least, unless}
 use Rattle.ot_program.specs.walk.Reading.{◌>>=◌, both_of, each_of}
 use Rattle.ot_program.specs.Meanings.{each}
-use Rattle.ot_program.specs.Faults.{unless}
 use Rattle.ot_program.specs.Programs.{foremost, told_or}
 use Rattle.ot_program.proofs.Lists.{least-lt, least-le, least-least}
 

@@ -3,13 +3,12 @@ use Rattle.std.proofs.Common.{◌≡◌, ◌<◌, ◌≤◌, List, [], ◌∷◌
 use Rattle.serde_json.specs.Data.{array}
 use Rattle.serde_json.specs.View.{view, items_view}
 use Rattle.serde_json.specs.declared.value.Value.{Value}
-use Rattle.ot_model.specs.Shapes.{Arrays}
+use Rattle.ot_model.specs.Programs.{Arrays}
 use Rattle.ot_program.specs.declared.fault.Refusal.TheVariants.{Form}
 use Rattle.ot_program.specs.declared.profile.Profile.{Profile}
 use Rattle.ot_program.specs.declared.profile.Profile.TheVariants.{Two}
 use Rattle.ot_program.specs.Meanings.{Bindings, mode_of}
-use Rattle.ot_program.specs.walk.Parts.{cell_of, section_of}
-use Rattle.ot_program.specs.walk.Clauses.{folded_of, clause_at, clause_of, wait_clause_of}
+use Rattle.ot_program.specs.walk.Parts.{cell_of, section_of, folded_of, clause_at, clause_of, wait_clause_of}
 
 pub no_cell_short : (shape : Arrays) (variables : Bindings) (vs : List Value) → length vs < 3
     → cell_of shape variables (array (items_view vs)) ≡ Err Form

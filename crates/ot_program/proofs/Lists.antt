@@ -6,7 +6,7 @@ use Rattle.serde_json.specs.Data.{Data}
 use Rattle.serde_json.specs.View.{view, items_view}
 use Rattle.serde_json.specs.declared.value.Value.{Value}
 use Rattle.ot_program.specs.declared.fault.Refusal.{Refusal}
-use Rattle.ot_program.specs.Refusals.{rank, least}
+use Rattle.ot_program.specs.Faults.{rank, least}
 use Rattle.ot_program.specs.walk.Reading.{◌>>=◌, both_of, each_of}
 use Rattle.ot_program.specs.walk.Together.{with_part}
 

@@ -9,9 +9,8 @@ use Rattle.std.proofs.lemmas.Option.{slice_get-map}
 use Rattle.serde_json.specs.Data.{Data, number, string, array, Items, no_items, item}
 use Rattle.ot_model.specs.Cells.{same_cell, is_before}
 use Rattle.ot_model.specs.Names.{IsInShape, FitsShape, AreInShape, AreDeclaredIn, ValueNamedIn, NamedIn}
-use Rattle.ot_model.specs.Shapes.{Arrays, AreShort, array_lengths}
-use Rattle.ot_model.specs.Tree.{CellAt, Apply, PickFrom, S, body_of}
-use Rattle.ot_model.specs.Value.{cell_at, cells_of}
+use Rattle.ot_model.specs.Programs.{Arrays, AreShort, array_lengths}
+use Rattle.ot_model.specs.Tree.{CellAt, Apply, PickFrom, S, body_of, cell_at, cells_of}
 use Rattle.ot_model.specs.declared.expr.Cell.{Cell}
 use Rattle.ot_model.specs.declared.expr.Op.TheVariants.{Plus}
 use Rattle.ot_model.specs.declared.expr.Section.{Section}
@@ -21,11 +20,9 @@ use Rattle.ot_program.specs.declared.fault.Refusal.TheVariants.{Form, UnknownArr
 use Rattle.ot_program.specs.declared.profile.Profile.{Profile}
 use Rattle.ot_program.specs.declared.profile.Profile.TheVariants.{One, Two}
 use Rattle.ot_program.specs.Copies.{Text, SetText, AddText, FoldText, IfText, ForText, Turn, TaskText, WaitText, WaitForText, GroupText, GroupByText, ProgramText, NoForm, Copy, At, Copies, Done, Then, in_copy, in_order, statement, statement_of, statements_of}
-use Rattle.ot_program.specs.Declarations.{placed, named_cells, mode_among, uses}
+use Rattle.ot_program.specs.Meanings.{placed, named_cells, mode_among, uses, each, items, Bindings, size, op_of, mode_of, red_by, is_called, position_of, length_of, Clause, indexed, cell, section, value, clause, wait_clause, is_word}
 use Rattle.ot_program.specs.Faults.{unless, no_list, list_faults, deep, name_faults, size_faults, array_faults, indexed_faults, cell_faults, section_faults, value_faults, expression_faults, clause_faults, wait_clause_faults, fold_faults, nested, text_faults}
 use Rattle.ot_program.specs.Limits.{size_depth, depth_of}
-use Rattle.ot_program.specs.Meanings.{each, items, Bindings, size, op_of, mode_of, red_by, is_called, position_of, length_of, Clause, indexed, cell, section, value, clause, wait_clause}
-use Rattle.ot_program.specs.Names.{is_word}
 use Rattle.ot_program.proofs.Tallies.{append-none, unless-none, AreClean, clean-append}
 
 -- ---- arrays

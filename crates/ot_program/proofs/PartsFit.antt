@@ -4,7 +4,7 @@ use Rattle.std.specs.List.{AllByRecursion}
 use Rattle.std.proofs.lemmas.List.Elements.{All-from_recursion}
 use Rattle.serde_json.specs.Data.{Data}
 use Rattle.ot_model.specs.Names.{FitsShape}
-use Rattle.ot_model.specs.Shapes.{Arrays, AreShort, array_lengths}
+use Rattle.ot_model.specs.Programs.{Arrays, AreShort, array_lengths}
 use Rattle.ot_model.specs.declared.expr.Section.{Section}
 use Rattle.ot_program.specs.declared.clause.Clause.{Clause as CodeClause}
 use Rattle.ot_program.specs.declared.fault.Refusal.{Refusal}
@@ -12,9 +12,8 @@ use Rattle.ot_program.specs.declared.profile.Profile.{Profile}
 use Rattle.ot_program.specs.Faults.{list_faults, section_faults, clause_faults, wait_clause_faults}
 use Rattle.ot_program.specs.Meanings.{items, Bindings, Clause, section, clause, wait_clause}
 use Rattle.ot_program.specs.Programs.{told_or}
-use Rattle.ot_program.specs.walk.Clauses.{clauses_of, wait_clauses_of}
+use Rattle.ot_program.specs.walk.Parts.{clauses_of, wait_clauses_of, sections_of}
 use Rattle.ot_program.specs.walk.Namings.{fits}
-use Rattle.ot_program.specs.walk.Parts.{sections_of}
 use Rattle.ot_program.proofs.Coded.{code_clause}
 use Rattle.ot_program.proofs.Firsts.{first_of, Reads}
 use Rattle.ot_program.proofs.Named.{sections_named, clauses_named, wait_clauses_named}

@@ -3,7 +3,7 @@ use Rattle.std.proofs.Common.{◌≡◌, ℕ, suc, ◌+◌, ◌-◌, ◌*◌, �
 use Rattle.std.specs.Prelude.{is_some, not, unwrap_or, option_map, find}
 use Rattle.std.specs.List.{list_any, position_or_len}
 use Rattle.serde_json.specs.Data.{Data, number, string, array, no_items, item}
-use Rattle.ot_model.specs.Shapes.{Arrays}
+use Rattle.ot_model.specs.Programs.{Arrays}
 use Rattle.ot_model.specs.Tree.{E, Literal, CellAt, Apply, PickFrom}
 use Rattle.ot_model.specs.declared.expr.Op.{Op}
 use Rattle.ot_model.specs.declared.expr.Op.TheVariants as op
@@ -18,16 +18,12 @@ use Rattle.ot_program.specs.declared.fault.Refusal.TheVariants.{Form, Size, Unkn
 use Rattle.ot_program.specs.declared.profile.Profile.{Profile}
 use Rattle.ot_program.specs.declared.profile.Profile.TheVariants.{One, Two}
 use Rattle.ot_program.specs.Limits.{max_depth, size_depth, depth_of}
-use Rattle.ot_program.specs.Meanings.{each, items, Bindings, bound, sign_of, op_of, mode_of, red_by, in_range, exact, size, is_called, position_of, indexed, cell, section, value, clause}
-use Rattle.ot_program.specs.Names.{whole_number, is_name, is_word}
+use Rattle.ot_program.specs.Meanings.{each, items, Bindings, bound, sign_of, op_of, mode_of, red_by, in_range, exact, size, is_called, position_of, indexed, cell, section, value, clause, whole_number, is_name, is_word}
 use Rattle.ot_program.specs.Faults.{unless, list_faults, deep, variable_faults, size_faults, array_faults, indexed_faults, cell_faults, section_faults, value_faults, expression_faults, clause_faults}
 use Rattle.ot_program.specs.walk.Reading.{◌>>=◌, both_of}
-use Rattle.ot_program.specs.walk.Variables.{known_number, variable_of}
-use Rattle.ot_program.specs.walk.Sizes.{number_size, size_operation, size_of, shallow}
+use Rattle.ot_program.specs.walk.Sizes.{known_number, variable_of, number_size, size_operation, size_of, shallow}
 use Rattle.ot_program.specs.walk.Sizes as sizes
-use Rattle.ot_program.specs.walk.Parts.{known_from, known_of, array_of, cell_in, cell_at, cell_of, section_in, section_at, section_of, sections_of}
-use Rattle.ot_program.specs.walk.Values.{literal_of, cell_value, operation, pick_of, value_of, not_too_deep, expression_of}
-use Rattle.ot_program.specs.walk.Clauses.{clause_at, clause_of, clauses_of}
+use Rattle.ot_program.specs.walk.Parts.{known_from, known_of, array_of, cell_in, cell_at, cell_of, section_in, section_at, section_of, sections_of, literal_of, cell_value, operation, pick_of, value_of, not_too_deep, expression_of, clause_at, clause_of, clauses_of}
 use Rattle.ot_program.proofs.Coded.{op_of_sign, known_array, code_clause}
 use Rattle.ot_program.proofs.Firsts.{AreFrom, Reads, reads_both, reads_later, reads_then, reads_made, reads_test, reads_right, reads_no_form, reads_form_first, reads_if, reads_word, reads_each, reads_guard, unless-from, append-from}
 

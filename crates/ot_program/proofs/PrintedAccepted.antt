@@ -6,10 +6,9 @@ use Rattle.std.proofs.lemmas.Bool.{lt-ltb}
 use Rattle.std.proofs.lemmas.List.Elements.{recursion_from_All}
 use Rattle.std.proofs.lemmas.List.Sums.{sum_by-cons}
 use Rattle.serde_json.specs.Data.{array}
-use Rattle.ot_model.specs.Counts.{size, tasks_in}
+use Rattle.ot_model.specs.Tree.{size, tasks_in, S, Set, Fold, If, Task, Wait, Group, Body, End, Next, body_of}
 use Rattle.ot_model.specs.Names.{IsInShape, FitsShape, OneNamedIn, NamedIn}
-use Rattle.ot_model.specs.Shapes.{Arrays, array_lengths}
-use Rattle.ot_model.specs.Tree.{S, Set, Fold, If, Task, Wait, Group, Body, End, Next, body_of}
+use Rattle.ot_model.specs.Programs.{Arrays, array_lengths}
 use Rattle.ot_model.specs.declared.expr.Cell.{Cell}
 use Rattle.ot_model.specs.declared.expr.Section.{Section}
 use Rattle.ot_model.specs.declared.stmt.Use.{Use}

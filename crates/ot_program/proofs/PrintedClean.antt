@@ -7,12 +7,11 @@ use Rattle.std.proofs.lemmas.List.Elements.{recursion_from_All}
 use Rattle.std.proofs.lemmas.List.Folds.{find_at}
 use Rattle.std.proofs.lemmas.Option.{slice_get-map}
 use Rattle.serde_json.specs.Data.{string}
-use Rattle.ot_model.specs.Cells.{same_cell}
+use Rattle.ot_model.specs.Cells.{same_cell, is_fold, same_mode}
 use Rattle.ot_model.specs.Names.{IsInShape, FitsShape, ValueNamedIn}
-use Rattle.ot_model.specs.Shapes.{Arrays, array_lengths}
+use Rattle.ot_model.specs.Programs.{Arrays, array_lengths}
 use Rattle.ot_model.specs.Signs.{identifier}
 use Rattle.ot_model.specs.Tree.{E, Literal, CellAt, Apply, PickFrom}
-use Rattle.ot_model.specs.Uses.{is_fold, same_mode}
 use Rattle.ot_model.specs.declared.expr.Cell.{Cell}
 use Rattle.ot_model.specs.declared.expr.Op.TheVariants.{Plus, Minus, Times, And, Or, Xor, Less, Equal, Min, Max}
 use Rattle.ot_model.specs.declared.expr.Section.{Section}
@@ -23,11 +22,9 @@ use Rattle.ot_model.specs.declared.stmt.Use.{Use}
 use Rattle.ot_model.proofs.EqualLemmas.{cell-decides, mode-decides}
 use Rattle.ot_program.specs.declared.profile.Profile.{Profile}
 use Rattle.ot_program.specs.declared.profile.Profile.TheVariants.{One, Two}
-use Rattle.ot_program.specs.Declarations.{named_cells, names, mode_among, named_otherwise, is_mixed, uses}
+use Rattle.ot_program.specs.Meanings.{named_cells, names, mode_among, named_otherwise, is_mixed, uses, each, Bindings, is_called, length_of, Clause, is_name}
 use Rattle.ot_program.specs.Faults.{array_faults, size_faults, section_faults, cell_faults, value_faults, expression_faults, clause_faults, wait_clause_faults, fold_faults, mixed}
 use Rattle.ot_program.specs.Limits.{max_depth, size_depth, depth_of}
-use Rattle.ot_program.specs.Meanings.{each, Bindings, is_called, length_of, Clause}
-use Rattle.ot_program.specs.Names.{is_name}
 use Rattle.ot_program.specs.Printed.{IsFound, AreNamed, num, name_at, cell_text, section_text, value_text, alone, cells_text, sections_text, clause_text, uses_text, as_clause, IsCell, IsValue, AreCells, IsModeOf, AreUsesOf, IsWaitMode, AreWaitUses}
 use Rattle.ot_program.proofs.PrintedBack.{size_back, value_back, fold_back}
 

@@ -5,7 +5,7 @@ use Rattle.std.proofs.lemmas.Bool.{cases_lt, lt-leb}
 use Rattle.serde_json.specs.Data.{Data, array}
 use Rattle.serde_json.specs.View.{view, items_view}
 use Rattle.serde_json.specs.declared.value.Value.{Value}
-use Rattle.ot_model.specs.Shapes.{Arrays}
+use Rattle.ot_model.specs.Programs.{Arrays}
 use Rattle.ot_model.specs.Tree.{S}
 use Rattle.ot_model.specs.declared.expr.Section.{Section}
 use Rattle.ot_program.specs.declared.counts.Counts.{Counts}
@@ -14,13 +14,12 @@ use Rattle.ot_program.specs.declared.fault.Refusal.{Refusal}
 use Rattle.ot_program.specs.declared.fault.Refusal.TheVariants.{Form, TooLarge}
 use Rattle.ot_program.specs.declared.profile.Profile.{Profile}
 use Rattle.ot_program.specs.Limits.{max_statements, max_nodes, max_cells, cells_in}
-use Rattle.ot_program.specs.Profiles.{profile_of}
+use Rattle.ot_program.specs.Meanings.{profile_of}
 use Rattle.ot_program.specs.Returned.{Fails}
 use Rattle.ot_program.specs.walk.Reading.{both_of}
 use Rattle.ot_program.specs.walk.Counting.{no_counts, counted, within_limits}
 use Rattle.ot_program.specs.walk.Parts.{sections_of}
-use Rattle.ot_program.specs.walk.Statements.{list_of, body_in}
-use Rattle.ot_program.specs.walk.Programs.{expanded, first_level, program_at, walk_in, walk_of}
+use Rattle.ot_program.specs.walk.Statements.{list_of, body_in, expanded, first_level, program_at, walk_in, walk_of}
 use Rattle.ot_program.proofs.Joins.{Fails-then}
 
 pub no_program_but_three : (shape : Arrays) (vs : List Value) → length vs ≢ 3

@@ -3,10 +3,8 @@ use Rattle.std.proofs.Common.{◌≡◌, ℕ, ◌+◌, ◌≤◌, true, List, []
 use Rattle.std.specs.Prelude.{⊤}
 use Rattle.std.proofs.lemmas.Bool.{le-leb}
 use Rattle.serde_json.specs.Data.{Data, array, no_items, item}
-use Rattle.ot_model.specs.Counts.{size, tasks_in}
-use Rattle.ot_model.specs.Programs.{Expanded}
-use Rattle.ot_model.specs.Shapes.{Arrays}
-use Rattle.ot_model.specs.Tree.{S, body_of}
+use Rattle.ot_model.specs.Tree.{size, tasks_in, S, body_of}
+use Rattle.ot_model.specs.Programs.{Expanded, Arrays}
 use Rattle.ot_model.specs.declared.expr.Section.{Section}
 use Rattle.ot_program.specs.declared.counts.Counts.{Counts}
 use Rattle.ot_program.specs.declared.fault.ProgramFault.{ProgramFault}
@@ -16,15 +14,13 @@ use Rattle.ot_program.specs.declared.profile.Profile.{Profile}
 use Rattle.ot_program.specs.Copies.{ProgramText, Placed, copies, in_copy, in_order, statement_of, statements_of}
 use Rattle.ot_program.specs.Faults.{unless, no_list, list_faults, section_faults, nested, past_limits}
 use Rattle.ot_program.specs.Limits.{max_statements, max_cells, cells_in, Tally, tally, plus}
-use Rattle.ot_program.specs.Meanings.{items, section}
-use Rattle.ot_program.specs.Profiles.{profile_of}
+use Rattle.ot_program.specs.Meanings.{items, section, profile_of}
 use Rattle.ot_program.specs.Programs.{told, told_or, expansion, program_copy, program_in, program_of}
 use Rattle.ot_program.specs.Returned.{Gives}
 use Rattle.ot_program.specs.walk.Reading.{◌>>=◌, both_of}
 use Rattle.ot_program.specs.walk.Counting.{no_counts, counted, within_limits}
 use Rattle.ot_program.specs.walk.Parts.{sections_of}
-use Rattle.ot_program.specs.walk.Statements.{list_of, body_in}
-use Rattle.ot_program.specs.walk.Programs.{shows_of, expanded, first_level, program_at, walk_in, walk_of}
+use Rattle.ot_program.specs.walk.Statements.{list_of, body_in, shows_of, expanded, first_level, program_at, walk_in, walk_of}
 use Rattle.ot_program.specs.walk.Returned.{Added}
 use Rattle.ot_program.proofs.Coded.{code_counts}
 use Rattle.ot_program.proofs.Firsts.{first_of, Reads, reads_both, reads_then, reads_made, reads_test}

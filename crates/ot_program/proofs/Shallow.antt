@@ -2,15 +2,13 @@
 use Rattle.std.proofs.Common.{◌≡◌, ℕ, zero, suc, ◌+◌, ◌-◌, ◌<◌, ◌≤◌, max, Bool, true, false, cond, ◌&&◌, List, [], ◌∷◌, ◌++◌, map, nat_le, nat_lt, codes, refl, arith}
 use Rattle.std.proofs.lemmas.Bool.{leb-true, ltb-true}
 use Rattle.serde_json.specs.Data.{Data, array, Items, no_items, item}
-use Rattle.ot_model.specs.Shapes.{Arrays}
+use Rattle.ot_model.specs.Programs.{Arrays}
 use Rattle.ot_model.specs.Tree.{E, S, If, body_of}
 use Rattle.ot_program.specs.Accepted.{deepest, nesting}
 use Rattle.ot_program.specs.Copies.{SetText, AddText, FoldText, IfText, ForText, Turn, TaskText, WaitText, WaitForText, GroupText, GroupByText, NoForm, Copy, Copies, Done, at, turns, copies, copies_of, copy, in_copy, in_order, statement_of, statements_of}
 use Rattle.ot_program.specs.Faults.{no_list, list_faults, deep, name_faults, size_faults, cell_faults, section_faults, value_faults, expression_faults, clause_faults, fold_faults, mixed, nested}
 use Rattle.ot_program.specs.Limits.{max_nesting, max_depth, size_depth, depth_of}
-use Rattle.ot_program.specs.Meanings.{items, letters, Bindings, size as size_text, value, clause}
-use Rattle.ot_program.specs.Names.{is_word}
-use Rattle.ot_program.specs.Profiles.{is_one, is_two}
+use Rattle.ot_program.specs.Meanings.{items, letters, Bindings, size as size_text, value, clause, is_word, is_one, is_two}
 use Rattle.ot_program.specs.declared.fault.Refusal.TheVariants.{TooLarge}
 use Rattle.ot_program.specs.declared.profile.Profile.{Profile}
 use Rattle.ot_program.proofs.Tallies.{append-none, unless-none, AreClean, clean-append}

@@ -3,16 +3,12 @@ use Rattle.std.proofs.Common.{◌≡◌, ℕ, zero, suc, ◌+◌, ◌-◌, ◌�
 use Rattle.std.specs.Prelude.{flat_map}
 use Rattle.std.proofs.lemmas.List.FromFn.{length-map-range_with_len}
 use Rattle.serde_json.specs.Data.{Data, array, Items, no_items, item}
-use Rattle.ot_model.specs.Counts.{size, tasks_in}
-use Rattle.ot_model.specs.Shapes.{Arrays}
-use Rattle.ot_model.specs.Tree.{E, Literal, CellAt, Apply, PickFrom, S, If, body_of}
-use Rattle.ot_model.specs.Value.{cell_at, cells_of}
+use Rattle.ot_model.specs.Tree.{size, tasks_in, E, Literal, CellAt, Apply, PickFrom, S, If, body_of, cell_at, cells_of}
+use Rattle.ot_model.specs.Programs.{Arrays}
 use Rattle.ot_program.specs.Accepted.{parts, choices, sum_in, named_in}
 use Rattle.ot_program.specs.Copies.{SetText, AddText, FoldText, IfText, ForText, Turn, TaskText, WaitText, WaitForText, GroupText, GroupByText, NoForm, Copy, Copies, Done, at, turns, copies, copies_of, copy, in_copy, in_order, statement_of, statements_of}
 use Rattle.ot_program.specs.Limits.{Tally, tally, plus, nodes_of, picked_of, with_value, total}
-use Rattle.ot_program.specs.Meanings.{items, letters, Bindings, size as size_text, section, value, clause, wait_clause}
-use Rattle.ot_program.specs.Names.{is_word}
-use Rattle.ot_program.specs.Profiles.{is_one, is_two}
+use Rattle.ot_program.specs.Meanings.{items, letters, Bindings, size as size_text, section, value, clause, wait_clause, is_word, is_one, is_two}
 use Rattle.ot_program.specs.declared.profile.Profile.{Profile}
 use Rattle.ot_program.proofs.CellCounts.{named-append, sections_long, uses_few}
 use Rattle.ot_program.proofs.Tallies.{nothing, total-append}

@@ -4,15 +4,13 @@ use Rattle.std.specs.Prelude.{◌≢◌}
 use Rattle.serde_json.specs.Data.{array}
 use Rattle.serde_json.specs.View.{view, items_view}
 use Rattle.serde_json.specs.declared.value.Value.{Value, Array, the_lemmas}
-use Rattle.ot_model.specs.Shapes.{Arrays}
+use Rattle.ot_model.specs.Programs.{Arrays}
 use Rattle.ot_model.specs.Tree.{Task}
 use Rattle.ot_model.specs.declared.fold.Fold.TheVariants.{Plus}
 use Rattle.ot_program.specs.declared.counts.Counts.{Counts}
 use Rattle.ot_program.specs.declared.fault.Refusal.TheVariants.{Form}
 use Rattle.ot_program.specs.declared.profile.Profile.{Profile}
-use Rattle.ot_program.specs.Names.{is_word}
-use Rattle.ot_program.specs.Meanings.{Bindings, fold_of}
-use Rattle.ot_program.specs.Profiles.{is_one, is_two}
+use Rattle.ot_program.specs.Meanings.{is_word, Bindings, fold_of, is_one, is_two}
 use Rattle.ot_program.specs.walk.Statements.{set_in, by_operation, fold_in, wait_form, wait_for_form, if_in, for_in, with_body, group_in, condition_of, declared_of, range_of, body_in, one_in}
 
 -- ---- what is no list

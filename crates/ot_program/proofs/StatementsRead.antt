@@ -3,9 +3,8 @@ use Rattle.std.proofs.Common.{◌≡◌, ℕ, ◌+◌, ◌≤◌, Bool, true, fa
 use Rattle.std.specs.Prelude.{⊤, flat_map}
 use Rattle.std.proofs.lemmas.Bool.{cases_lt, lt-ltb, le-ltb, le-leb, lt-leb}
 use Rattle.serde_json.specs.Data.{Data, string, array}
-use Rattle.ot_model.specs.Shapes.{Arrays}
-use Rattle.ot_model.specs.Tree.{E}
-use Rattle.ot_model.specs.Value.{cells_of}
+use Rattle.ot_model.specs.Programs.{Arrays}
+use Rattle.ot_model.specs.Tree.{E, cells_of}
 use Rattle.ot_model.specs.declared.expr.Cell.{Cell}
 use Rattle.ot_model.specs.declared.expr.Section.{Section}
 use Rattle.ot_model.specs.declared.stmt.Use.{Use}
@@ -14,18 +13,13 @@ use Rattle.ot_program.specs.declared.counts.Counts.{Counts}
 use Rattle.ot_program.specs.declared.fault.Refusal.{Refusal}
 use Rattle.ot_program.specs.declared.fault.Refusal.TheVariants.{Form, Size, UnknownArray, OutOfRange, EmptySection, TooLarge, TooManyTasks, MixedReduction}
 use Rattle.ot_program.specs.declared.profile.Profile.{Profile}
-use Rattle.ot_program.specs.Declarations.{uses}
-use Rattle.ot_program.specs.Faults.{unless, no_list, list_faults, deep, name_faults, size_faults, cell_faults, section_faults, expression_faults, clause_faults, wait_clause_faults, mixed, nested, past_limits}
+use Rattle.ot_program.specs.Meanings.{uses, items, letters, Bindings, size, Clause, cell, section, value, clause, wait_clause, is_name}
+use Rattle.ot_program.specs.Faults.{unless, no_list, list_faults, deep, name_faults, size_faults, cell_faults, section_faults, expression_faults, clause_faults, wait_clause_faults, mixed, nested, past_limits, rank, least}
 use Rattle.ot_program.specs.Limits.{max_nesting, max_statements, max_turns, max_nodes, max_cells, size_depth, nodes_of, picked_of, cells_in, Tally, tally, plus}
-use Rattle.ot_program.specs.Meanings.{items, letters, Bindings, size, Clause, cell, section, value, clause, wait_clause}
-use Rattle.ot_program.specs.Names.{is_name}
-use Rattle.ot_program.specs.Refusals.{rank, least}
 use Rattle.ot_program.specs.walk.Reading.{◌>>=◌, both_of}
 use Rattle.ot_program.specs.walk.Sizes.{size_of, shallow}
 use Rattle.ot_program.specs.walk.Counting.{counted, within_limits, with_expression, one_turn, one_task, deeper}
-use Rattle.ot_program.specs.walk.Parts.{cell_of, sections_of}
-use Rattle.ot_program.specs.walk.Values.{expression_of}
-use Rattle.ot_program.specs.walk.Clauses.{clauses_of, wait_clauses_of, declaration}
+use Rattle.ot_program.specs.walk.Parts.{cell_of, sections_of, expression_of, clauses_of, wait_clauses_of, declaration}
 use Rattle.ot_program.specs.walk.Statements.{Range, list_of, name_of, target_of, condition_of, declared_of, waited_of, grouped_of, range_of}
 use Rattle.ot_program.proofs.Coded.{code_clause, code_counts}
 use Rattle.ot_program.proofs.Lists.{least-lt, least-le}

@@ -4,13 +4,11 @@ use Rattle.std.specs.Prelude.{◌≢◌}
 use Rattle.serde_json.specs.Data.{array}
 use Rattle.serde_json.specs.View.{view, items_view}
 use Rattle.serde_json.specs.declared.value.Value.{Value}
-use Rattle.ot_model.specs.Shapes.{Arrays}
+use Rattle.ot_model.specs.Programs.{Arrays}
 use Rattle.ot_model.specs.declared.expr.Op.{Op}
 use Rattle.ot_program.specs.declared.fault.Refusal.TheVariants.{Form}
-use Rattle.ot_program.specs.Names.{is_word}
-use Rattle.ot_program.specs.Meanings.{Bindings, op_of}
-use Rattle.ot_program.specs.walk.Parts.{cell_at, section_of}
-use Rattle.ot_program.specs.walk.Values.{cell_value, operation, pick_of, value_of}
+use Rattle.ot_program.specs.Meanings.{is_word, Bindings, op_of}
+use Rattle.ot_program.specs.walk.Parts.{cell_at, section_of, cell_value, operation, pick_of, value_of}
 
 pub no_value_but_three : (shape : Arrays) (variables : Bindings) (vs : List Value) → length vs ≢ 3
     → value_of shape variables (array (items_view vs)) ≡ Err Form

@@ -3,18 +3,15 @@ use Rattle.std.proofs.Common.{◌≡◌, Bool, true, false, cond, ◌&&◌, ◌|
 use Rattle.std.specs.Prelude.{not, unwrap_or}
 use Rattle.std.specs.List.{list_any}
 use Rattle.serde_json.specs.Data.{Data, array, no_items, item}
-use Rattle.ot_model.specs.Shapes.{Arrays}
-use Rattle.ot_model.specs.Uses.{is_fold}
+use Rattle.ot_model.specs.Programs.{Arrays}
+use Rattle.ot_model.specs.Cells.{is_fold}
 use Rattle.ot_model.specs.declared.expr.Cell.{Cell}
 use Rattle.ot_model.specs.declared.stmt.Mode.TheVariants.{Reads as AsRead, Writes}
 use Rattle.ot_program.specs.declared.fault.Refusal.TheVariants.{MixedReduction}
 use Rattle.ot_program.specs.declared.profile.Profile.TheVariants.{Two}
-use Rattle.ot_program.specs.Declarations.{names, named_cells, named_otherwise, is_mixed}
+use Rattle.ot_program.specs.Meanings.{names, named_cells, named_otherwise, is_mixed, each, items, Bindings, mode_of, Clause, section, wait_clause, is_word}
 use Rattle.ot_program.specs.Faults.{unless, list_faults, section_faults, wait_clause_faults, mixed}
-use Rattle.ot_program.specs.Meanings.{each, items, Bindings, mode_of, Clause, section, wait_clause}
-use Rattle.ot_program.specs.Names.{is_word}
-use Rattle.ot_program.specs.walk.Clauses.{wait_clause_of, wait_clauses_of}
-use Rattle.ot_program.specs.walk.Parts.{section_of}
+use Rattle.ot_program.specs.walk.Parts.{wait_clause_of, wait_clauses_of, section_of}
 use Rattle.ot_program.proofs.Coded.{code_clause}
 use Rattle.ot_program.proofs.Firsts.{Reads, reads_no_form, reads_each}
 use Rattle.ot_program.proofs.PartsRead.{clause_at-reads, section_reads, map_map}

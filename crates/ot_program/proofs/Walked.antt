@@ -3,9 +3,8 @@ use Rattle.std.proofs.Common.{◌≡◌, ℕ, zero, suc, ◌+◌, ◌-◌, Bool,
 use Rattle.std.specs.Prelude.{flat_map, is_some, unwrap_or}
 use Rattle.std.specs.Option.{option_or}
 use Rattle.serde_json.specs.Data.{Data, array, Items, no_items, item}
-use Rattle.ot_model.specs.Shapes.{Arrays}
-use Rattle.ot_model.specs.Tree.{E, S, Set, Fold, If, Task, Wait, Group, Body, body_of}
-use Rattle.ot_model.specs.Value.{cells_of}
+use Rattle.ot_model.specs.Programs.{Arrays}
+use Rattle.ot_model.specs.Tree.{E, S, Set, Fold, If, Task, Wait, Group, Body, body_of, cells_of}
 use Rattle.ot_model.specs.declared.fold.Fold.{Fold as Operation}
 use Rattle.ot_model.specs.declared.fold.Fold.TheVariants.{Plus}
 use Rattle.ot_model.specs.declared.stmt.Use.{Use}
@@ -14,12 +13,9 @@ use Rattle.ot_program.specs.declared.fault.Refusal.{Refusal}
 use Rattle.ot_program.specs.declared.fault.Refusal.TheVariants.{Form}
 use Rattle.ot_program.specs.declared.profile.Profile.{Profile}
 use Rattle.ot_program.specs.Copies.{SetText, AddText, FoldText, IfText, ForText, Turn, TaskText, WaitText, WaitForText, GroupText, GroupByText, NoForm, Placed, Copy, Copies, Done, at, turns, copies, copies_of, copy, in_copy, in_order, statement_of, statements_of}
-use Rattle.ot_program.specs.Declarations.{uses}
+use Rattle.ot_program.specs.Meanings.{uses, items, letters, fold_of, Bindings, size, cell, section, value, clause, wait_clause, is_word, is_one, is_two}
 use Rattle.ot_program.specs.Faults.{unless, no_list, list_faults, cell_faults, section_faults, expression_faults, clause_faults, mixed, nested, own_faults, past_limits}
 use Rattle.ot_program.specs.Limits.{cells_in, Tally, tally, plus, with_value}
-use Rattle.ot_program.specs.Meanings.{items, letters, fold_of, Bindings, size, cell, section, value, clause, wait_clause}
-use Rattle.ot_program.specs.Names.{is_word}
-use Rattle.ot_program.specs.Profiles.{is_one, is_two}
 use Rattle.ot_program.specs.Programs.{told_or}
 use Rattle.ot_program.specs.walk.Reading.{◌>>=◌}
 use Rattle.ot_program.specs.walk.Counting.{counted, within_limits, one_turn}

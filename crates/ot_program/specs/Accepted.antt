@@ -1,10 +1,8 @@
 -- What holds of each program that is accepted: its tree, measured by itself, is within the limits.
 use Rattle.std.specs.Prelude.{ℕ, ◌+◌, ◌≤◌, max, List, [], ◌∷◌, ◌++◌, length, flat_map, Some, None, IfOk}
 use Rattle.serde_json.specs.Data.{Data}
-use Rattle.ot_model.specs.Counts.{size, tasks_in}
-use Rattle.ot_model.specs.Shapes.{Arrays}
-use Rattle.ot_model.specs.Tree.{E, Literal, CellAt, Apply, PickFrom, S, Set, Fold, If, Task, Wait, Group, Body, End, Next}
-use Rattle.ot_model.specs.Value.{cells_of}
+use Rattle.ot_model.specs.Tree.{size, tasks_in, E, Literal, CellAt, Apply, PickFrom, S, Set, Fold, If, Task, Wait, Group, Body, End, Next, cells_of}
+use Rattle.ot_model.specs.Programs.{Arrays}
 use Rattle.ot_model.specs.declared.expr.Cell.{Cell}
 use Rattle.ot_model.specs.declared.expr.Section.{Section}
 use Rattle.ot_program.specs.Limits.{max_nesting, max_depth, max_statements, max_nodes, max_cells, depth_of}

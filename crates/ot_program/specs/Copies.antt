@@ -2,14 +2,10 @@
 -- are (docs/LANGUAGE.md, "Forms", on statements and loops).
 use Rattle.std.specs.Prelude.{ℕ, zero, suc, ◌+◌, ◌-◌, List, [], ◌∷◌, ◌++◌, map, flat_map, ◌&&◌, if◌then◌else◌, Some, None, codes}
 use Rattle.serde_json.specs.Data.{Data, array, Items, no_items, item}
-use Rattle.ot_model.specs.Shapes.{Arrays}
-use Rattle.ot_model.specs.Tree.{S, Set, Fold, If, Task, Wait, Group, body_of}
+use Rattle.ot_model.specs.Programs.{Arrays}
+use Rattle.ot_model.specs.Tree.{S, Set, Fold, If, Task, Wait, Group, body_of, cells_of}
 use Rattle.ot_model.specs.declared.fold.Fold.TheVariants.{Plus}
-use Rattle.ot_model.specs.Value.{cells_of}
-use Rattle.ot_program.specs.Declarations.{uses}
-use Rattle.ot_program.specs.Meanings.{items, letters, operation, Bindings, size, cell, section, value, clause, wait_clause}
-use Rattle.ot_program.specs.Names.{is_word}
-use Rattle.ot_program.specs.Profiles.{is_one, is_two}
+use Rattle.ot_program.specs.Meanings.{uses, items, letters, operation, Bindings, size, cell, section, value, clause, wait_clause, is_word, is_one, is_two}
 use Rattle.ot_program.specs.declared.profile.Profile.{Profile}
 
 -- a statement's own parts as they stand in the text, its bodies among them, and of a `task` the profile by which its clauses

@@ -4,12 +4,10 @@
 use Rattle.std.specs.Prelude.{ℕ, ◌+◌, ◌==◌, nat_lt, nat_le, Bool, true, false, not, if◌then◌else◌, List, [], ◌∷◌, ◌++◌, map, flat_map, is_some, unwrap_or, codes}
 use Rattle.std.specs.List.{list_any}
 use Rattle.serde_json.specs.Data.{Data, number, string, array, no_items, item}
-use Rattle.ot_model.specs.Shapes.{Arrays}
+use Rattle.ot_model.specs.Programs.{Arrays}
 use Rattle.ot_program.specs.Copies.{Text, SetText, AddText, FoldText, IfText, ForText, Turn, TaskText, WaitText, WaitForText, GroupText, GroupByText, ProgramText, NoForm, Placed}
-use Rattle.ot_program.specs.Declarations.{named_cells, is_mixed}
+use Rattle.ot_program.specs.Meanings.{named_cells, is_mixed, items, Bindings, bound, sign_of, in_range, exact, size, is_called, length_of, op_of, fold_of, value, mode_of, red_by, Clause, clause, whole_number, is_name, is_word}
 use Rattle.ot_program.specs.Limits.{max_nesting, max_depth, max_statements, max_turns, max_nodes, max_cells, size_depth, depth_of, Tally}
-use Rattle.ot_program.specs.Meanings.{items, Bindings, bound, sign_of, in_range, exact, size, is_called, length_of, op_of, fold_of, value, mode_of, red_by, Clause, clause}
-use Rattle.ot_program.specs.Names.{whole_number, is_name, is_word}
 use Rattle.ot_program.specs.declared.fault.Refusal.{Refusal}
 use Rattle.ot_program.specs.declared.fault.Refusal.TheVariants.{Form, Size, UnknownArray, OutOfRange, EmptySection, TooLarge, TooManyTasks, MixedReduction}
 use Rattle.ot_program.specs.declared.profile.Profile.{Profile}
@@ -147,3 +145,32 @@ past_limits tasks n =
     unless (nat_le n.statements max_statements) TooLarge ++ (unless (nat_le n.turns max_turns) TooLarge
     ++ (unless (nat_le n.nodes max_nodes) TooLarge ++ (unless (nat_le n.cells max_cells) TooLarge
     ++ unless (nat_le n.tasks tasks) TooManyTasks)))
+
+-- Why a program is refused: the order in which the faults of one statement are told, and the codes
+-- (docs/LANGUAGE.md, "Refusals", the codes).
+
+-- the place in the order in which the faults of one statement are told
+abbrev pub rank : Refusal → ℕ
+rank Form = 0
+rank Size = 1
+rank UnknownArray = 2
+rank OutOfRange = 3
+rank EmptySection = 4
+rank TooLarge = 5
+rank TooManyTasks = 6
+rank MixedReduction = 7
+
+-- the number that a client is told
+abbrev pub code_of : Refusal → ℕ
+code_of Form = 420
+code_of Size = 421
+code_of UnknownArray = 412
+code_of OutOfRange = 414
+code_of EmptySection = 424
+code_of TooLarge = 422
+code_of TooManyTasks = 423
+code_of MixedReduction = 429
+
+-- of two faults, the one that comes first in the order
+abbrev pub least : Refusal → Refusal → Refusal
+least c d = if nat_lt (rank d) (rank c) then d else c

@@ -1,12 +1,8 @@
-pub mod Names
-pub mod Profiles
 pub mod Meanings
-pub mod Declarations
 pub mod Copies
 pub mod Limits
-pub mod Refusals
 pub mod Faults
-pub mod Programs
+pub mod Statements
 pub mod Returned
 pub mod Accepted
 pub mod Printed

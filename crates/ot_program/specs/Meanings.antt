@@ -1,11 +1,10 @@
--- What texts denote: variables, sizes, cells, sections, values and clauses (docs/LANGUAGE.md, "Forms"). Each
--- text denotes something: where a part has a fault, what is said of the whole means nothing, and the fault is told.
-use Rattle.std.specs.Prelude.{ℕ, Bool, bytes_eq, nat_lt, nat_le, ◌+◌, ◌-◌, ◌*◌, ◌^◌, List, [], ◌∷◌, find, Option, Some, None, option_map, unwrap_or, if◌then◌else◌, codes}
-use Rattle.std.specs.List.{position_or_len}
-use Rattle.serde_json.specs.Data.{Data, number, string, array, Items, no_items, item}
-use Rattle.ot_model.specs.Shapes.{Arrays}
+-- Numbers, names and words of programs (docs/LANGUAGE.md, "JSON").
+use Rattle.std.specs.Prelude.{ℕ, Bool, bytes_eq, nat_lt, nat_le, ◌+◌, ◌-◌, ◌*◌, ◌^◌, List, [], ◌∷◌, find, Option, Some, None, option_map, unwrap_or, if◌then◌else◌, codes, false, ◌==◌, ◌&&◌, ◌||◌, length, slice_index, true, not, map, flat_map, fold}
+use Rattle.std.specs.List.{position_or_len, list_all, list_any}
+use Rattle.serde_json.specs.Data.{Data, number, string, array, Items, no_items, item, Num, unsigned, negative, float}
+use Rattle.ot_model.specs.Programs.{Arrays}
 use Rattle.ot_model.specs.Signs.{word, operations, identifier, folds}
-use Rattle.ot_model.specs.Tree.{E, Literal, CellAt, Apply, PickFrom}
+use Rattle.ot_model.specs.Tree.{E, Literal, CellAt, Apply, PickFrom, cells_of}
 use Rattle.ot_model.specs.declared.expr.Cell.{Cell}
 use Rattle.ot_model.specs.declared.expr.Op.{Op}
 use Rattle.ot_model.specs.declared.expr.Op.TheVariants.{Plus, Minus, Times}
@@ -14,9 +13,42 @@ use Rattle.ot_model.specs.declared.fold.Fold.{Fold}
 use Rattle.ot_model.specs.declared.fold.Fold.TheVariants as by
 use Rattle.ot_model.specs.declared.stmt.Mode.{Mode}
 use Rattle.ot_model.specs.declared.stmt.Mode.TheVariants.{Reads, Writes, Folds}
-use Rattle.ot_program.specs.Names.{whole_number, is_word}
 use Rattle.ot_program.specs.declared.profile.Profile.{Profile}
 use Rattle.ot_program.specs.declared.profile.Profile.TheVariants.{One, Two}
+use Rattle.std.specs.Option.{option_or}
+use Rattle.ot_model.specs.Cells.{same_cell, is_before, is_fold, same_mode}
+use Rattle.ot_model.specs.declared.stmt.Use.{Use}
+
+-- A whole number from 0 to 2^64 - 1. What is written with a point or an exponent is none, and `-0`
+-- isn't either.
+abbrev pub whole_number : Num → Option ℕ
+whole_number (unsigned n) = if nat_lt n (2 ^ 64) then Some n else None
+whole_number (negative z) = None
+whole_number (float x) = None
+
+-- a to z
+abbrev pub is_letter : ℕ → Bool
+is_letter b = nat_le 97 b && nat_le b 122
+
+-- 0 to 9
+abbrev pub is_digit : ℕ → Bool
+is_digit b = nat_le 48 b && nat_le b 57
+
+-- a letter, a digit or `_`
+abbrev pub is_name_byte : ℕ → Bool
+is_name_byte b = is_letter b || is_digit b || b == 95
+
+-- 1 to 16 bytes: a letter, then letters, digits and `_`
+abbrev pub is_name : List ℕ → Bool
+is_name bytes = nat_lt 0 (length bytes) && nat_le (length bytes) 16 && is_letter (slice_index bytes 0) && list_all is_name_byte bytes
+
+-- the string that is this word
+abbrev pub is_word : Data → List ℕ → Bool
+is_word (string s) word = bytes_eq s word
+is_word _ word = false
+
+-- What texts denote: variables, sizes, cells, sections, values and clauses (docs/LANGUAGE.md, "Forms"). Each
+-- text denotes something: where a part has a fault, what is said of the whole means nothing, and the fault is told.
 
 -- the items of a list
 abbrev pub each : Items → List Data
@@ -153,3 +185,70 @@ abbrev pub wait_clause : Arrays → Bindings → Data → Clause
 wait_clause shape variables (array (item t (item a no_items))) =
     record { mode = unwrap_or (mode_of Two t) Reads; section = section shape variables a }
 wait_clause shape variables d = record { mode = Reads; section = section shape variables d }
+
+-- The profiles: each has forms that the other one hasn't (docs/LANGUAGE.md, "Forms").
+
+abbrev pub is_one : Profile → Bool
+is_one One = true
+is_one Two = false
+
+abbrev pub is_two : Profile → Bool
+is_two One = false
+is_two Two = true
+
+-- the profile that a program's first word names
+abbrev pub profile_of : Data → Option Profile
+profile_of t =
+    if is_word t (codes "program") then Some One else
+    (if is_word t (codes "program2") then Some Two else None)
+
+-- What the clauses of a task declare: cells in order, each once, with one mode (docs/LANGUAGE.md, "Forms", on
+-- declarations).
+
+-- ---- the cells, by array and then by index
+
+-- one more in its place, unless it is there
+abbrev pub placed : List Cell → Cell → List Cell
+placed [] c = c ∷ []
+placed (d ∷ ds) c = if is_before c d then c ∷ d ∷ ds else (if same_cell c d then d ∷ ds else d ∷ placed ds c)
+
+-- the cells that clauses name, each once
+abbrev pub named_cells : List Clause → List Cell
+named_cells clauses = fold placed [] (flat_map (λ clause. cells_of clause.section) clauses)
+
+-- ---- the modes
+
+-- whether a clause names the cell
+abbrev pub names : Cell → Clause → Bool
+names c clause = list_any (same_cell c) (cells_of clause.section)
+
+-- whether a clause of this mode names the cell
+abbrev pub named_as : Mode → List Clause → Cell → Bool
+named_as mode clauses c = list_any (λ clause. names c clause && same_mode mode clause.mode) clauses
+
+abbrev pub operation_in : Mode → Option Fold
+operation_in (Folds op) = Some op
+operation_in mode = None
+
+-- what the first clause that folds the cell folds it by
+abbrev pub first_fold : List Clause → Cell → Option Fold
+first_fold [] c = None
+first_fold (clause ∷ rest) c = if names c clause then option_or (operation_in clause.mode) (first_fold rest c) else first_fold rest c
+
+-- Writes where some clause writes, else Reads where some clause reads, else the fold of the first
+abbrev pub mode_among : List Clause → Cell → Mode
+mode_among clauses c =
+    if named_as Writes clauses c then Writes else
+    (if named_as Reads clauses c then Reads else Folds (unwrap_or (first_fold clauses c) by.Plus))
+
+-- a clause names the cell in another mode than this one
+abbrev pub named_otherwise : Mode → List Clause → Cell → Bool
+named_otherwise mode clauses c = list_any (λ clause. names c clause && not (same_mode mode clause.mode)) clauses
+
+-- a clause folds the cell, and another names it in another mode: so it is under `red` and another kind, or under `red` with
+-- two operations
+abbrev pub is_mixed : List Clause → Cell → Bool
+is_mixed clauses c = list_any (λ clause. names c clause && (is_fold clause.mode && named_otherwise clause.mode clauses c)) clauses
+
+abbrev pub uses : List Clause → List Use
+uses clauses = map (λ c. record { cell = c; mode = mode_among clauses c }) (named_cells clauses)

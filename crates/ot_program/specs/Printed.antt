@@ -1,11 +1,10 @@
 -- A tree as a text: what is printed of a tree denotes the tree.
 use Rattle.std.specs.Prelude.{◌≡◌, ℕ, ◌<◌, ◌^◌, true, List, [], ◌∷◌, map, slice_get, All, Option, option_map, unwrap_or, Some, None, Ok, codes}
 use Rattle.serde_json.specs.Data.{Data, number, string, array, Items, no_items, item, unsigned}
-use Rattle.ot_model.specs.Counts.{size, tasks_in}
+use Rattle.ot_model.specs.Tree.{size, tasks_in, E, Literal, CellAt, Apply, PickFrom, S, Set, Fold, If, Task, Wait, Group, Body, End, Next, body_of}
 use Rattle.ot_model.specs.Names.{FitsShape, NamedIn}
-use Rattle.ot_model.specs.Shapes.{Arrays, AreShort, array_lengths}
+use Rattle.ot_model.specs.Programs.{Arrays, AreShort, array_lengths}
 use Rattle.ot_model.specs.Signs.{word, identifier}
-use Rattle.ot_model.specs.Tree.{E, Literal, CellAt, Apply, PickFrom, S, Set, Fold, If, Task, Wait, Group, Body, End, Next, body_of}
 use Rattle.ot_model.specs.declared.expr.Cell.{Cell}
 use Rattle.ot_model.specs.declared.expr.Section.{Section}
 use Rattle.ot_model.specs.declared.fold.Fold.{Fold as Operation}
@@ -15,9 +14,7 @@ use Rattle.ot_model.specs.declared.stmt.Mode.TheVariants.{Reads, Writes, Folds}
 use Rattle.ot_model.specs.declared.stmt.Use.{Use}
 use Rattle.ot_program.specs.Accepted.{IsSmall}
 use Rattle.ot_program.specs.Copies.{copies, statements_of}
-use Rattle.ot_program.specs.Declarations.{uses}
-use Rattle.ot_program.specs.Meanings.{Bindings, position_of, Clause}
-use Rattle.ot_program.specs.Names.{is_name}
+use Rattle.ot_program.specs.Meanings.{uses, Bindings, position_of, Clause, is_name}
 use Rattle.ot_program.specs.Programs.{program_of}
 use Rattle.ot_program.specs.declared.profile.Profile.{Profile}
 use Rattle.ot_program.specs.declared.profile.Profile.TheVariants.{One, Two}

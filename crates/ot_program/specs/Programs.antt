@@ -3,17 +3,13 @@
 use Rattle.std.specs.Prelude.{List, [], ◌∷◌, ◌++◌, map, fold, Option, Some, None, Result, Ok, Err}
 use Rattle.std.specs.Option.{option_or}
 use Rattle.serde_json.specs.Data.{Data, array, no_items, item}
-use Rattle.ot_model.specs.Counts.{size, tasks_in}
-use Rattle.ot_model.specs.Programs.{Expanded}
-use Rattle.ot_model.specs.Shapes.{Arrays}
-use Rattle.ot_model.specs.Tree.{S, body_of}
+use Rattle.ot_model.specs.Tree.{size, tasks_in, S, body_of}
+use Rattle.ot_model.specs.Programs.{Expanded, Arrays}
 use Rattle.ot_model.specs.declared.expr.Section.{Section}
 use Rattle.ot_program.specs.Copies.{ProgramText, Placed, Copy, Done, at, copies, in_copy, statement_of}
-use Rattle.ot_program.specs.Faults.{own_faults, past_limits}
+use Rattle.ot_program.specs.Faults.{own_faults, past_limits, least}
 use Rattle.ot_program.specs.Limits.{total}
-use Rattle.ot_program.specs.Meanings.{items, section}
-use Rattle.ot_program.specs.Profiles.{profile_of}
-use Rattle.ot_program.specs.Refusals.{least}
+use Rattle.ot_program.specs.Meanings.{items, section, profile_of}
 use Rattle.ot_program.specs.declared.fault.Refusal.{Refusal}
 use Rattle.ot_program.specs.declared.fault.Refusal.TheVariants.{Form}
 use Rattle.ot_program.specs.declared.profile.Profile.{Profile}

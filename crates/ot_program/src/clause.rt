@@ -3,10 +3,9 @@ ghost use Rattle.serde_json.specs.Data.{string, array};
 ghost use Rattle.serde_json.specs.View.{view, items_view};
 ghost use Rattle.ot_program.specs.walk.Reading.{each_of};
 ghost use Rattle.ot_program.specs.Returned.{Gives};
-ghost use Rattle.ot_program.specs.walk.Variables.{bindings_of};
+ghost use Rattle.ot_program.specs.walk.Sizes.{bindings_of};
 ghost use Rattle.ot_program.specs.Meanings.{red_of, mode_of};
-ghost use Rattle.ot_program.specs.walk.Parts.{section_of};
-ghost use Rattle.ot_program.specs.walk.Clauses.{folded_of, clause_at, clause_of, clauses_of};
+ghost use Rattle.ot_program.specs.walk.Parts.{section_of, folded_of, clause_at, clause_of, clauses_of};
 
 use crate::fault::{ProgramFault, Refusal};
 use crate::operation::read_operation;

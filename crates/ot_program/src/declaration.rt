@@ -1,12 +1,12 @@
 ghost use Rattle.std.specs.Prelude.{◌≡◌, ◌++◌, ◌≤◌, length, All, OnOk, IfOk, Some, None, if◌then◌else◌, flat_map};
 ghost use Rattle.std.specs.Map.{keys_of};
 ghost use Rattle.std.specs.List.Sorted.{IsStrictlySortedBy};
-ghost use Rattle.ot_model.specs.Uses.{AreInOrder, same_fold};
-ghost use Rattle.ot_model.specs.Value.{cells_of};
+ghost use Rattle.ot_model.specs.Cells.{AreInOrder, same_fold};
+ghost use Rattle.ot_model.specs.Tree.{cells_of};
 ghost use Rattle.ot_model.specs.declared.stmt.Mode.TheVariants.{Folds};
 ghost use Rattle.ot_program.specs.Returned.{Gives};
 ghost use Rattle.ot_program.specs.walk.Namings.{fits, together, cell_order, before, name_cell, name_clause};
-ghost use Rattle.ot_program.specs.walk.Clauses.{uses_of, declaration};
+ghost use Rattle.ot_program.specs.walk.Parts.{uses_of, declaration};
 
 use crate::clause::Clause;
 use crate::fault::{ProgramFault, Refusal};

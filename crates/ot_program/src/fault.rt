@@ -25,7 +25,7 @@ pub enum Refusal {
 }
 
 impl Refusal {
-    ghost use Rattle.ot_program.specs.Refusals.{rank, code_of, least};
+    ghost use Rattle.ot_program.specs.Faults.{rank, code_of, least};
 
     /// The number that a client is told.
     pub fn code(self) -> u32

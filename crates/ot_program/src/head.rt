@@ -6,7 +6,7 @@ ghost use Rattle.ot_model.specs.View.{expr_of};
 ghost use Rattle.ot_program.specs.Limits.{max_nesting};
 ghost use Rattle.ot_program.specs.Returned.{Gives};
 ghost use Rattle.ot_program.specs.walk.Returned.{range_view};
-ghost use Rattle.ot_program.specs.walk.Variables.{bindings_of};
+ghost use Rattle.ot_program.specs.walk.Sizes.{bindings_of};
 ghost use Rattle.ot_program.specs.walk.Counting.{deeper};
 ghost use Rattle.ot_program.specs.walk.Statements.{list_of, target_of, condition_of, declared_of, waited_of, grouped_of, range_of};
 

@@ -1,7 +1,7 @@
 ghost use Rattle.std.specs.Prelude.{◌≡◌};
 ghost use Rattle.std.specs.List.{list_all};
 ghost use Rattle.serde_json.specs.View.{view};
-ghost use Rattle.ot_program.specs.Names.{is_name, is_name_byte, is_letter, is_word};
+ghost use Rattle.ot_program.specs.Meanings.{is_name, is_name_byte, is_letter, is_word};
 
 use serde_json::Value;
 

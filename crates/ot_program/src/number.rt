@@ -1,6 +1,6 @@
 ghost use Rattle.std.specs.Prelude.{◌≡◌};
 ghost use Rattle.serde_json.specs.View.{number_view};
-ghost use Rattle.ot_program.specs.Names.{whole_number};
+ghost use Rattle.ot_program.specs.Meanings.{whole_number};
 
 use serde_json::Number;
 

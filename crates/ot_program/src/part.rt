@@ -1,8 +1,8 @@
 ghost use Rattle.std.specs.Prelude.{◌≡◌, ◌<◌, ◌^◌, length};
 ghost use Rattle.serde_json.specs.Data.{array};
 ghost use Rattle.serde_json.specs.View.{view, items_view};
-ghost use Rattle.ot_model.specs.ShapeView.{arrays_of};
-ghost use Rattle.ot_program.specs.walk.Variables.{bindings_of};
+ghost use Rattle.ot_model.specs.Programs.{arrays_of};
+ghost use Rattle.ot_program.specs.walk.Sizes.{bindings_of};
 ghost use Rattle.ot_program.specs.walk.Parts.{known_from, array_of, cell_in, cell_at, cell_of, section_in, section_of, section_at};
 
 use crate::both::both;

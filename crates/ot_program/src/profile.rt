@@ -1,6 +1,6 @@
 ghost use Rattle.std.specs.Prelude.{◌≡◌, ◌&&◌};
 ghost use Rattle.serde_json.specs.View.{view};
-ghost use Rattle.ot_program.specs.Profiles.{profile_of, is_one, is_two};
+ghost use Rattle.ot_program.specs.Meanings.{profile_of, is_one, is_two, is_word};
 
 use crate::name::is_word;
 use serde_json::Value;
@@ -15,8 +15,6 @@ pub(crate) enum Profile {
 }
 
 impl Profile {
-    ghost use Rattle.ot_program.specs.Names.{is_word};
-
     /// Whether a value is a word that profile 1 alone has for its form, in that profile.
     pub(crate) fn one_has(self, value: &Value, word: &str) -> bool
         ensures { result ≡ is_one self && is_word (view value.now) word.now }

@@ -1,11 +1,10 @@
 ghost use Rattle.std.specs.Prelude.{IfOk};
 ghost use Rattle.serde_json.specs.Data.{array};
 ghost use Rattle.serde_json.specs.View.{view, items_view};
-ghost use Rattle.ot_model.specs.Shapes.{array_lengths};
-ghost use Rattle.ot_model.specs.Programs.{expanded_of, IsNamedIn};
+ghost use Rattle.ot_model.specs.Programs.{array_lengths, expanded_of, IsNamedIn};
 ghost use Rattle.ot_program.specs.Returned.{Gives};
 ghost use Rattle.ot_program.specs.Programs.{program_of};
-ghost use Rattle.ot_program.specs.walk.Programs.{walk_of, walk_in, program_at};
+ghost use Rattle.ot_program.specs.walk.Statements.{walk_of, walk_in, program_at};
 
 use crate::both::join;
 use crate::counts::{Counts, cells};

@@ -1,5 +1,5 @@
 ghost use Rattle.std.specs.Prelude.{◌≡◌};
-ghost use Rattle.ot_program.specs.walk.Variables.{bindings_of, variable_of};
+ghost use Rattle.ot_program.specs.walk.Sizes.{bindings_of, variable_of};
 
 use crate::fault::Refusal;
 use crate::name::is_name;

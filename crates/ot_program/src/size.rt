@@ -1,9 +1,8 @@
 ghost use Rattle.std.specs.Prelude.{◌≡◌, ◌-◌, ◌^◌, min, Some};
 ghost use Rattle.serde_json.specs.Data.{array};
 ghost use Rattle.serde_json.specs.View.{view, items_view};
-ghost use Rattle.ot_program.specs.walk.Variables.{bindings_of};
+ghost use Rattle.ot_program.specs.walk.Sizes.{bindings_of, sign_named, sign_of, exact, size_of, shallow, size_operation};
 ghost use Rattle.ot_program.specs.Limits.{size_depth};
-ghost use Rattle.ot_program.specs.walk.Sizes.{sign_named, sign_of, exact, size_of, shallow, size_operation};
 
 use crate::both::both;
 use crate::fault::Refusal;

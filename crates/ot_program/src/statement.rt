@@ -5,7 +5,7 @@ ghost use Rattle.ot_model.specs.Tree.{Task};
 ghost use Rattle.ot_model.specs.View.{stmt_of};
 ghost use Rattle.ot_program.specs.Limits.{max_nesting};
 ghost use Rattle.ot_program.specs.Meanings.{fold_of};
-ghost use Rattle.ot_program.specs.walk.Variables.{bindings_of};
+ghost use Rattle.ot_program.specs.walk.Sizes.{bindings_of};
 ghost use Rattle.ot_program.specs.walk.Statements.{body_in, all_in, one_in, by_operation, set_in, fold_in, wait_form, wait_for_form, with_body, group_in, declared_of, turn, turns};
 ghost use Rattle.ot_program.specs.Returned.{Gives};
 ghost use Rattle.ot_program.specs.walk.Returned.{Adds};

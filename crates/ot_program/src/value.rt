@@ -6,9 +6,9 @@ ghost use Rattle.ot_model.specs.View.{expr_of};
 ghost use Rattle.ot_model.specs.declared.expr.Section.{Section};
 ghost use Rattle.ot_program.specs.declared.fault.Refusal.{Refusal};
 ghost use Rattle.ot_program.specs.Returned.{Gives};
-ghost use Rattle.ot_program.specs.walk.Variables.{bindings_of};
+ghost use Rattle.ot_program.specs.walk.Sizes.{bindings_of};
 ghost use Rattle.ot_program.specs.Meanings.{op_of};
-ghost use Rattle.ot_program.specs.walk.Values.{operation, pick_of, value_of, expression_of};
+ghost use Rattle.ot_program.specs.walk.Parts.{operation, pick_of, value_of, expression_of};
 ghost use Rattle.ot_program.specs.Limits.{depth_of, nodes_of, picked_of};
 ghost use Rattle.ot_program.specs.walk.Counting.{with_expression};
 
@@ -43,7 +43,7 @@ pub(crate) fn read_expression(
 }
 
 #[cycle(value)]
-#[tactic(auto, unfolding(crate::specs::walk::Values::value_of))]
+#[tactic(auto, unfolding(crate::specs::walk::Parts::value_of))]
 fn read_value(alloc: Global, scope: &Scope, value: &Value) -> Result<Expr, ProgramFault>
     ensures { Gives expr_of result (value_of scope.now.shape.now
         (bindings_of scope.now.variables.now) (view value.now)) }
@@ -64,7 +64,7 @@ fn read_value(alloc: Global, scope: &Scope, value: &Value) -> Result<Expr, Progr
 
 // `["c", name, size]`, `["pick", section, value]`, `[op, value, value]`
 #[cycle(value)]
-#[tactic(auto, using(crate::proofs::ValueForms::no_value_but_three), unfolding(crate::specs::walk::Values::value_of))]
+#[tactic(auto, using(crate::proofs::ValueForms::no_value_but_three), unfolding(crate::specs::walk::Parts::value_of))]
 fn value_form(alloc: Global, scope: &Scope, items: &[Value]) -> Result<Expr, ProgramFault>
     ensures { Gives expr_of result (value_of scope.now.shape.now
         (bindings_of scope.now.variables.now) (array (items_view items.now))) }

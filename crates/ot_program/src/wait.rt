@@ -4,8 +4,8 @@ ghost use Rattle.serde_json.specs.Data.{array};
 ghost use Rattle.serde_json.specs.View.{view, items_view};
 ghost use Rattle.ot_program.specs.walk.Reading.{each_of};
 ghost use Rattle.ot_program.specs.Returned.{Gives};
-ghost use Rattle.ot_program.specs.walk.Variables.{bindings_of};
-ghost use Rattle.ot_program.specs.walk.Clauses.{wait_clause_of, wait_clauses_of};
+ghost use Rattle.ot_program.specs.walk.Sizes.{bindings_of};
+ghost use Rattle.ot_program.specs.walk.Parts.{wait_clause_of, wait_clauses_of};
 
 use crate::clause::{Clause, clause_at, read_mode};
 use crate::fault::{ProgramFault, Refusal};

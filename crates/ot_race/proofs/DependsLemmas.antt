@@ -6,8 +6,7 @@ use Rattle.std.proofs.lemmas.Bool.Decides.{nat_tests}
 use Rattle.std.proofs.lemmas.List.Folds.{Any-from_list_any, list_any-from_Any}
 use Rattle.ot_check.proofs.Cited.{and_left, and_right, and_true}
 use Rattle.ot_model.proofs.CellsLemmas as cells
-use Rattle.ot_model.specs.Cells.{same_cell}
-use Rattle.ot_model.specs.Uses.{DependsOn, depends_on, one_writes}
+use Rattle.ot_model.specs.Cells.{same_cell, DependsOn, depends_on, one_writes}
 use Rattle.ot_model.specs.declared.expr.Cell.{Cell}
 use Rattle.ot_model.specs.declared.stmt.Use.{Use}
 

@@ -1,15 +1,12 @@
 -- Events of bodies in parts.
 use Rattle.std.proofs.Common.{◌≡◌, ◌+◌, ℕ, List, [], ◌∷◌, ◌++◌, map, refl, sym, ap, ◌∙◌}
 use Rattle.std.specs.Prelude.{◌≢◌, if◌then◌else◌}
-use Rattle.ot_model.specs.Tree.{E, S, If, Body, Next}
+use Rattle.ot_model.specs.Tree.{E, S, If, Body, Next, size, size_one, val}
 use Rattle.ot_model.specs.Cells.{cell_of}
-use Rattle.ot_model.specs.Counts.{size, size_one}
-use Rattle.ot_model.specs.Value.{val}
 use Rattle.ot_model.specs.Serial.{State, bump, either, serial_one}
 use Rattle.ot_model.specs.declared.stmt.Mode.TheVariants.{Reads}
 use Rattle.ot_model.specs.declared.stmt.Use.{Use}
-use Rattle.ot_check.specs.Paths.{use_as}
-use Rattle.ot_check.specs.Offences.{Declared}
+use Rattle.ot_check.specs.Offences.{use_as, Declared}
 use Rattle.ot_race.specs.Events.{Event, event, Touches, reads_now, this_way, events, events_one}
 use Rattle.ot_check.proofs.Cited.{eq_apart}
 use Rattle.ot_race.proofs.SerialLemmas.{after_one-this}

@@ -3,12 +3,12 @@ use Rattle.std.proofs.Common.{◌≡◌, ◌≢◌, ℕ, ◌+◌, Bool, true, fa
 use Rattle.std.specs.Prelude.{◌⊎◌, ◌↔◌, All, Contains, Some, None, slice_get, if◌then◌else◌}
 use Rattle.std.proofs.lemmas.Bool.{cases_eq}
 use Rattle.std.proofs.lemmas.List.Elements.{All-contains, Contains-append_left, Contains-push, Contains-push_cases}
-use Rattle.ot_model.specs.Uses.{conflicts, same_fold}
+use Rattle.ot_model.specs.Cells.{conflicts, same_fold}
 use Rattle.ot_model.specs.declared.expr.Cell.{Cell}
 use Rattle.ot_model.specs.declared.stmt.Mode.{Mode}
 use Rattle.ot_model.specs.declared.stmt.Mode.TheVariants.{Reads, Writes, Folds}
 use Rattle.ot_model.specs.declared.stmt.Use.{Use}
-use Rattle.ot_check.specs.Paths.{use_as}
+use Rattle.ot_check.specs.Offences.{use_as}
 use Rattle.ot_model.proofs.EqualLemmas.{fold-decides}
 use Rattle.ot_check.proofs.Cited.{not_false, cells_equal}
 use Rattle.ot_race.specs.Events.{Event}

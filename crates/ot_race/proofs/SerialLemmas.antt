@@ -1,8 +1,7 @@
 -- The way of a run is that of the serial meaning.
 use Rattle.std.proofs.Common.{◌≡◌, refl, ap, ◌∙◌}
-use Rattle.ot_model.specs.Tree.{S, Set, Fold, If, Task, Wait, Group, Body, End, Next}
+use Rattle.ot_model.specs.Tree.{S, Set, Fold, If, Task, Wait, Group, Body, End, Next, val}
 use Rattle.ot_model.specs.Cells.{cell_of}
-use Rattle.ot_model.specs.Value.{val}
 use Rattle.ot_model.specs.Serial.{State, bump, either, serial, serial_one}
 use Rattle.ot_race.specs.Events.{this_way, after, after_one}
 

@@ -1,9 +1,7 @@
 -- What happens when a program goes one way: its events, in the order of the serial run, each task where it is created.
 use Rattle.std.specs.Prelude.{ℕ, ◌+◌, ◌%◌, ◌++◌, length, if◌then◌else◌, List, [], ◌∷◌, map, Option, Some, None}
-use Rattle.ot_model.specs.Tree.{E, Literal, CellAt, Apply, PickFrom, S, Set, Fold, If, Task, Wait, Group, Body, End, Next}
-use Rattle.ot_model.specs.Value.{val, cell_at}
+use Rattle.ot_model.specs.Tree.{E, Literal, CellAt, Apply, PickFrom, S, Set, Fold, If, Task, Wait, Group, Body, End, Next, size, size_one, val, cell_at}
 use Rattle.ot_model.specs.Cells.{cell_of}
-use Rattle.ot_model.specs.Counts.{size, size_one}
 use Rattle.ot_model.specs.Joining.{join_by}
 use Rattle.ot_model.specs.Serial.{State, bump, change, either}
 use Rattle.ot_model.specs.declared.expr.Cell.{Cell}
@@ -11,8 +9,7 @@ use Rattle.ot_model.specs.declared.fold.Fold.{Fold as Operation}
 use Rattle.ot_model.specs.declared.stmt.Mode.{Mode}
 use Rattle.ot_model.specs.declared.stmt.Mode.TheVariants.{Reads, Writes, Folds}
 use Rattle.ot_model.specs.declared.stmt.Use.{Use}
-use Rattle.ot_check.specs.Paths.{use_as}
-use Rattle.ot_check.specs.Offences.{Declared, folds_to}
+use Rattle.ot_check.specs.Offences.{use_as, Declared, folds_to}
 
 -- ---- events
 

@@ -1,11 +1,11 @@
 -- What a judge keeps of cells while it goes along a list of events.
 use Rattle.std.specs.Prelude.{◌≡◌, ◌<◌, ◌⊎◌, ℕ, true, List, [], ◌∷◌, ◌++◌, map, get_or, Contains, Option, Some, None, if◌then◌else◌}
-use Rattle.ot_model.specs.Uses.{conflicts}
+use Rattle.ot_model.specs.Cells.{conflicts}
 use Rattle.ot_model.specs.declared.expr.Cell.{Cell}
 use Rattle.ot_model.specs.declared.stmt.Mode.{Mode}
 use Rattle.ot_model.specs.declared.stmt.Mode.TheVariants.{Reads}
 use Rattle.ot_model.specs.declared.stmt.Use.{Use}
-use Rattle.ot_check.specs.Paths.{use_as}
+use Rattle.ot_check.specs.Offences.{use_as}
 use Rattle.ot_race.specs.Events.{Event}
 use Rattle.ot_race.specs.Races.{IsUsed, IsRace}
 use Rattle.ot_sets.specs.Sets.{has}

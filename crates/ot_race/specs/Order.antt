@@ -1,6 +1,6 @@
 -- Which event of a run comes before which, however its tasks are scheduled. Events are told by their places in the list.
 use Rattle.std.specs.Prelude.{◌≡◌, ◌<◌, ◌≤◌, ◌+◌, ℕ, true, List, Option, Some, slice_get}
-use Rattle.ot_model.specs.Uses.{depends_on}
+use Rattle.ot_model.specs.Cells.{depends_on}
 use Rattle.ot_model.specs.declared.stmt.Use.{Use}
 use Rattle.ot_check.specs.Offences.{awaits}
 use Rattle.ot_race.specs.Events.{Deed, Begins, Awaits, Leaves, Event}

@@ -1,9 +1,9 @@
 -- What a race is.
 use Rattle.std.specs.Prelude.{◌≡◌, ◌<◌, ◌≤◌, ℕ, true, List, Option, Some, None, slice_get, Contains}
-use Rattle.ot_model.specs.Uses.{conflicts}
+use Rattle.ot_model.specs.Cells.{conflicts}
 use Rattle.ot_model.specs.declared.expr.Cell.{Cell}
 use Rattle.ot_model.specs.declared.stmt.Mode.{Mode}
-use Rattle.ot_check.specs.Paths.{use_as}
+use Rattle.ot_check.specs.Offences.{use_as}
 use Rattle.ot_race.specs.Events.{Event}
 use Rattle.ot_race.specs.Order.{IsBefore}
 use Rattle.ot_race.specs.declared.race.Race.{Race}

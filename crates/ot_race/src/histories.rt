@@ -1,8 +1,8 @@
 //! The histories of all cells that were touched.
-ghost use Rattle.std.specs.Prelude.{◌≡◌, ◌≢◌, ◌<◌, OnOk, length, get_or, [], map};
+ghost use Rattle.std.specs.Prelude.{◌≡◌, ◌≢◌, ◌<◌, OnOk, length, get_or, [], map, ℕ};
 ghost use Rattle.ot_model.specs.declared.expr.Cell.{Cell};
 ghost use Rattle.ot_race.specs.Missing.{IsMissing};
-ghost use Rattle.ot_race.specs.Histories.{row_of, phases_at, behind_of, touched_by};
+ghost use Rattle.ot_race.specs.Histories.{row_of, phases_at, behind_of, touched_by, untouched};
 
 use crate::history::History;
 use ot_model::{Cell, Mode};
@@ -70,9 +70,6 @@ impl Histories {
 }
 
 impl Row {
-    ghost use Rattle.std.specs.Prelude.{ℕ};
-    ghost use Rattle.ot_race.specs.Histories.{untouched};
-
     fn add(&mut self, alloc: Global, index: u32, mode: Mode, event: u32) -> Result<(), AllocError>
         ensures there { OnOk result (get_or (row_of self.new) index untouched ≡ touched_by (get_or (row_of self.old) index untouched) mode event) }
         ensures others { OnOk result ((i : ℕ) → i ≢ index → get_or (row_of self.new) i untouched ≡ get_or (row_of self.old) i untouched) }

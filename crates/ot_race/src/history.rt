@@ -1,13 +1,13 @@
 //! What a judge keeps of a cell: the last two phases of its touches.
 ghost use Rattle.std.specs.Prelude.{◌≡◌, ◌↔◌, ◌++◌, ℕ, OnOk, false, true, List, [], ◌∷◌, Some, None};
 ghost use Rattle.ot_model.specs.declared.stmt.Use.{Use};
-ghost use Rattle.ot_check.specs.Paths.{use_as};
+ghost use Rattle.ot_check.specs.Offences.{use_as};
 ghost use Rattle.ot_model.specs.declared.expr.Cell.{Cell};
 ghost use Rattle.ot_race.specs.Events.{Event};
 ghost use Rattle.ot_sets.specs.Sets.{has};
 ghost use Rattle.ot_race.specs.Missing.{IsMissing};
 ghost use Rattle.ot_race.specs.Standings.{IsUpTo};
-ghost use Rattle.ot_race.specs.Histories.{phases_of, untouched, IsHistory, TouchedAgainst};
+ghost use Rattle.ot_race.specs.Histories.{phases_of, untouched, IsHistory, TouchedAgainst, behind_of, touched_by};
 
 use ot_model::Mode;
 use ot_sets::Numbers;
@@ -63,8 +63,6 @@ impl History {
         Ok(())
     }
 }
-
-ghost use Rattle.ot_race.specs.Histories.{behind_of, touched_by};
 
 /// The first of these events that isn't in the set.
 fn missing(events: &[u32], known: &Numbers) -> Option<u32>

@@ -1,9 +1,9 @@
 //! Rows of children, by cell and by parent.
-ghost use Rattle.std.specs.Prelude.{◌≡◌, ◌≢◌, ◌==◌, ◌++◌, [], ℕ, OnOk, false};
+ghost use Rattle.std.specs.Prelude.{◌≡◌, ◌≢◌, ◌==◌, ◌++◌, [], ℕ, OnOk, false, ◌<◌, ◌⊎◌, IfOk, length, nat_lt};
 ghost use Rattle.std.specs.BTreeMap.{get};
 ghost use Rattle.std.specs.Ordering.{nat_cmp};
 ghost use Rattle.ot_model.specs.declared.stmt.Mode.{Mode};
-ghost use Rattle.ot_race.specs.Siblings.{seen_in, seen_of, seen_lane};
+ghost use Rattle.ot_race.specs.Siblings.{seen_in, seen_of, seen_lane, seen_at};
 
 use crate::siblings::Row;
 use ot_model::Mode;
@@ -117,9 +117,6 @@ impl Lane {
 }
 
 impl Shelf {
-    ghost use Rattle.std.specs.Prelude.{◌<◌, ◌⊎◌, IfOk, length, nat_lt};
-    ghost use Rattle.ot_race.specs.Siblings.{seen_at};
-
     /// No lane. It takes no memory.
     pub(crate) fn new(alloc: Global) -> Shelf
         ensures { (i p : ℕ) (m : Mode) → seen_at result i p m ≡ [] }

@@ -1,13 +1,12 @@
 //! A run that notes its events, each task executed where it is created.
-ghost use Rattle.std.specs.Prelude.{◌≡◌, ◌+◌, ◌++◌, ◌≤◌, ◌<◌, ◌^◌, OnOk, length, option_map};
-ghost use Rattle.ot_model.specs.View.{stmt_of, stmts_of};
-ghost use Rattle.ot_model.specs.Cells.{lengths};
-ghost use Rattle.ot_model.specs.Counts.{size, size_one, tasks_in, tasks_in_one};
-ghost use Rattle.ot_model.specs.Names.{NamedIn, OneNamedIn};
-ghost use Rattle.ot_model.specs.Runs.{state_of};
-ghost use Rattle.ot_model.specs.Serial.{serial, serial_one};
-ghost use Rattle.ot_race.specs.Events.{this_way, events, events_one};
-ghost use Rattle.ot_race.specs.View.{events_in};
+ghost use Rattle.std.specs.Prelude.{◌≡◌, ◌+◌, ◌++◌, ◌≤◌, ◌<◌, ◌^◌, OnOk, length, option_map, [], ◌∷◌};
+ghost use Rattle.ot_model.specs.View.{stmt_of, stmts_of, expr_of};
+ghost use Rattle.ot_model.specs.Cells.{lengths, cell_of, with_cell};
+ghost use Rattle.ot_model.specs.Tree.{size, size_one, tasks_in, tasks_in_one, val};
+ghost use Rattle.ot_model.specs.Names.{NamedIn, OneNamedIn, IsInShape, ValueNamedIn};
+ghost use Rattle.ot_model.specs.Serial.{state_of, serial, serial_one};
+ghost use Rattle.ot_race.specs.Events.{this_way, events, events_one, event};
+ghost use Rattle.ot_race.specs.View.{events_in, deed_of};
 
 use crate::count::{count_all, count_one};
 use crate::event::{Deed, Event};
@@ -129,10 +128,6 @@ fn run_one<'a>(
     }
 }
 
-ghost use Rattle.std.specs.Prelude.{[], ◌∷◌};
-ghost use Rattle.ot_race.specs.Events.{event};
-ghost use Rattle.ot_race.specs.View.{deed_of};
-
 /// Notes an event.
 fn put<'a>(
     run: &mut Run<'a>,
@@ -155,11 +150,7 @@ fn put<'a>(
     Ok(())
 }
 
-ghost use Rattle.ot_model.specs.Cells.{cell_of, with_cell};
-ghost use Rattle.ot_model.specs.View.{expr_of};
-ghost use Rattle.ot_model.specs.Value.{val};
 ghost use Rattle.ot_model.specs.Joining.{join_by};
-ghost use Rattle.ot_model.specs.Names.{IsInShape, ValueNamedIn};
 
 /// Joins a cell with a value.
 fn fold_into(cells: &mut Cells, op: Fold, cell: Cell, expr: &Expr)

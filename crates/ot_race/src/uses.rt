@@ -1,10 +1,10 @@
 //! What statements do with cells.
-ghost use Rattle.std.specs.Prelude.{◌≡◌, ◌++◌, map, OnOk, option_map};
+ghost use Rattle.std.specs.Prelude.{◌≡◌, ◌++◌, map, OnOk, option_map, [], ◌∷◌, Some};
 ghost use Rattle.ot_model.specs.View.{expr_of};
-ghost use Rattle.ot_model.specs.Value.{HasAll};
+ghost use Rattle.ot_model.specs.Tree.{HasAll};
 ghost use Rattle.ot_model.specs.Cells.{cell_of};
-ghost use Rattle.ot_model.specs.declared.stmt.Mode.TheVariants.{Reads};
-ghost use Rattle.ot_check.specs.Paths.{use_as};
+ghost use Rattle.ot_model.specs.declared.stmt.Mode.TheVariants.{Reads, Writes};
+ghost use Rattle.ot_check.specs.Offences.{use_as, folds_to, folds_by};
 ghost use Rattle.ot_race.specs.Events.{reads_now, fold_as};
 
 use ot_model::{Cell, Cells, Decl, Expr, Fold, Mode, Use, value};
@@ -34,8 +34,6 @@ pub(crate) fn note_reads(expr: &Expr, cells: &Cells, uses: &mut Vec<Use>) -> Res
     }
 }
 
-ghost use Rattle.std.specs.Prelude.{[], ◌∷◌};
-
 /// Notes one use.
 pub fn note(cell: Cell, mode: Mode, uses: &mut Vec<Use>) -> Result<(), AllocError>
     ensures { OnOk result (uses.new.items ≡ uses.old.items ++ use_as mode cell ∷ []) }
@@ -43,8 +41,6 @@ pub fn note(cell: Cell, mode: Mode, uses: &mut Vec<Use>) -> Result<(), AllocErro
     uses.push(Use { cell, mode })?;
     Ok(())
 }
-
-ghost use Rattle.ot_model.specs.declared.stmt.Mode.TheVariants.{Writes};
 
 /// Notes that these cells are written.
 pub fn note_writes(cells: &[Cell], uses: &mut Vec<Use>) -> Result<(), AllocError>
@@ -71,9 +67,6 @@ pub fn fold_as(own: Option<&Decl>, op: Fold, cell: Cell) -> Mode
         None => Mode::Writes,
     }
 }
-
-ghost use Rattle.std.specs.Prelude.{Some};
-ghost use Rattle.ot_check.specs.Offences.{folds_to, folds_by};
 
 /// Whether the cell is declared as `red` by the operation.
 fn folds_to(decl: &Decl, op: Fold, cell: Cell) -> bool

@@ -2,8 +2,7 @@
 use Rattle.std.proofs.Common.{◌≡◌, Bool, true, false, not, ◌&&◌, ◌||◌, List, [], ◌∷◌, refl, sym, ap, subst, ◌∙◌, ◌⊎◌, inl, inr, true≢false}
 use Rattle.std.specs.Prelude.{if◌then◌else◌, Some, None}
 use Rattle.std.specs.List.{list_any}
-use Rattle.ot_model.specs.Cells.{same_cell}
-use Rattle.ot_model.specs.Uses.{conflicts, depends_on, one_writes, same_fold}
+use Rattle.ot_model.specs.Cells.{same_cell, conflicts, depends_on, one_writes, same_fold}
 use Rattle.ot_model.specs.declared.expr.Cell.{Cell}
 use Rattle.ot_model.specs.declared.fold.Fold.{Fold as Operation}
 use Rattle.ot_model.specs.declared.fold.Fold.TheVariants.{Plus, Times, And, Or, Xor, Min, Max}
@@ -11,8 +10,7 @@ use Rattle.ot_model.specs.declared.stmt.Mode.{Mode}
 use Rattle.ot_model.specs.declared.stmt.Mode.TheVariants.{Reads, Writes, Folds}
 use Rattle.ot_model.specs.declared.stmt.Use.{Use}
 use Rattle.ot_model.proofs.EqualLemmas.{fold-decides}
-use Rattle.ot_check.specs.Paths.{use_as}
-use Rattle.ot_check.specs.Offences.{Declared, Openings, allows, covers, clashes, exceeds, misfits, misfits_as, folds_by, folds_to, has_cell, opened_by_any}
+use Rattle.ot_check.specs.Offences.{use_as, Declared, Openings, allows, covers, clashes, exceeds, misfits, misfits_as, folds_by, folds_to, has_cell, opened_by_any}
 use Rattle.ot_check.specs.Discipline.{Children, nothing_open, with_group, IsHarmless}
 use Rattle.ot_check.specs.declared.fault.Offence.TheVariants.{ReductionMisuse, ConflictsWithChild}
 use Rattle.ot_race.specs.Events.{fold_as}

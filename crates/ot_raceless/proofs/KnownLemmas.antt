@@ -2,12 +2,11 @@
 use Rattle.std.proofs.Common.{◌≡◌, ℕ, ◌<◌, ◌≤◌, true, List, ◌⊎◌, inl, inr, arith}
 use Rattle.std.specs.Prelude.{Some}
 use Rattle.std.proofs.lemmas.Bool.{cases_lt}
-use Rattle.ot_model.specs.Uses.{conflicts}
+use Rattle.ot_model.specs.Cells.{conflicts}
 use Rattle.ot_model.specs.declared.expr.Cell.{Cell}
 use Rattle.ot_model.specs.declared.stmt.Mode.{Mode}
 use Rattle.ot_model.specs.declared.stmt.Use.{Use}
-use Rattle.ot_check.specs.Paths.{use_as}
-use Rattle.ot_check.specs.Offences.{Declared, Openings, allows}
+use Rattle.ot_check.specs.Offences.{use_as, Declared, Openings, allows}
 use Rattle.ot_check.specs.Discipline.{Children}
 use Rattle.ot_race.specs.Events.{Event, Begins}
 use Rattle.ot_race.specs.Order.{IsBy, Does, InTurn, IsBefore}

@@ -3,13 +3,12 @@ use Rattle.std.proofs.Common.{◌≡◌, ℕ, ◌+◌, ◌<◌, ◌≤◌, Bool,
 use Rattle.std.specs.Prelude.{Option, Some}
 use Rattle.std.proofs.lemmas.Bool.{cases_lt}
 use Rattle.ot_model.specs.Tree.{Body, Task, Wait, Group}
-use Rattle.ot_model.specs.Uses.{conflicts, depends_on}
+use Rattle.ot_model.specs.Cells.{conflicts, depends_on}
 use Rattle.ot_model.specs.declared.expr.Cell.{Cell}
 use Rattle.ot_model.specs.declared.fold.Fold.{Fold as Operation}
 use Rattle.ot_model.specs.declared.stmt.Mode.{Mode}
 use Rattle.ot_model.specs.declared.stmt.Use.{Use}
-use Rattle.ot_check.specs.Paths.{use_as}
-use Rattle.ot_check.specs.Offences.{Declared, Openings, allows, awaits}
+use Rattle.ot_check.specs.Offences.{use_as, Declared, Openings, allows, awaits}
 use Rattle.ot_check.specs.Discipline.{Children, anyone, nobody, nothing_open, behind, behind_one, through, with_group}
 use Rattle.ot_race.specs.Events.{Deed, Event, Begins, Awaits, Leaves}
 use Rattle.ot_race.specs.Order.{IsBy, Does, ByCreation, ByDependence, ByWait, ByEnd, IsBefore, Once}

@@ -4,7 +4,7 @@ use Rattle.std.specs.Prelude.{Some, None, option_and_then, if◌then◌else◌, 
 use Rattle.serde_json.specs.Data.{item, no_items}
 use Rattle.serde_json.specs.View.{view, items_view}
 use Rattle.serde_json.specs.declared.value.Value.{Value}
-use Rattle.ot_program.specs.Names.{is_word}
+use Rattle.ot_program.specs.Meanings.{is_word}
 use Rattle.ot_store.specs.declared.limits.Limits.{Limits}
 use Rattle.ot_book.specs.Requests.{Checkpoint, Arrays, Used, Run, form_of, free_of, put_of, get_of}
 use Rattle.ot_reason.specs.Faults.{Lengths, fault_in}

@@ -4,8 +4,8 @@ use Rattle.std.specs.Prelude.{None, if◌then◌else◌}
 use Rattle.serde_json.specs.Data.{array}
 use Rattle.serde_json.specs.View.{view, items_view}
 use Rattle.serde_json.specs.declared.value.Value.{Value}
-use Rattle.ot_model.specs.Shapes.{Arrays}
-use Rattle.ot_program.specs.Names.{is_word}
+use Rattle.ot_model.specs.Programs.{Arrays}
+use Rattle.ot_program.specs.Meanings.{is_word}
 use Rattle.ot_program.specs.Programs.{program_of}
 use Rattle.ot_reason.specs.Runs.{run_of, read_or_none}
 

@@ -3,9 +3,8 @@ use Rattle.std.specs.Prelude.{◌≡◌, ℕ, ◌+◌, List, length, map, sum, b
 use Rattle.std.specs.Map.{lookup}
 use Rattle.ot_store.specs.Arrays.{Named, listed}
 use Rattle.ot_store.specs.declared.limits.Limits.{Limits}
-use Rattle.ot_book.specs.Answers.{Step, Now, Runs, performed}
-use Rattle.ot_book.specs.Replies.{Told, Accepted, Cells, Used, Done, Refused, Offends, Lost}
-use Rattle.ot_book.specs.Replies as told
+use Rattle.ot_book.specs.Answers.{Step, Now, Runs, performed, Told, Accepted, Cells, Used, Done, Refused, Offends, Lost}
+use Rattle.ot_book.specs.Answers as told
 use Rattle.ot_book.specs.Requests.{Request, New, Free, Put, Get, Arrays, Checkpoint, Run}
 use Rattle.ot_book.specs.Requests as asks
 

@@ -1,9 +1,8 @@
 -- The program that a line runs.
 use Rattle.std.specs.Prelude.{List, ℕ, codes, if◌then◌else◌, Option, Some, None, Result, Ok, Err, option_and_then}
 use Rattle.serde_json.specs.Data.{Data, array, Items, no_items, item}
-use Rattle.ot_model.specs.Programs.{Expanded}
-use Rattle.ot_model.specs.Shapes.{Arrays}
-use Rattle.ot_program.specs.Names.{is_word}
+use Rattle.ot_model.specs.Programs.{Expanded, Arrays}
+use Rattle.ot_program.specs.Meanings.{is_word}
 use Rattle.ot_program.specs.Programs.{program_of}
 use Rattle.ot_program.specs.declared.fault.Refusal.{Refusal}
 use Rattle.ot_book.specs.Answers.{value_of}

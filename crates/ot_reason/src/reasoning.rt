@@ -1,6 +1,6 @@
 //! The reasons behind a refusal.
 ghost use Rattle.std.specs.Prelude.{◌<◌, ◌^◌};
-ghost use Rattle.ot_model.specs.ShapeView.{arrays_of};
+ghost use Rattle.ot_model.specs.Programs.{arrays_of};
 ghost use Rattle.ot_reason.specs.Faults.{cells_of};
 
 use crate::fault::{Fault, fault_of};

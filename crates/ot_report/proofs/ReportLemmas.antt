@@ -2,13 +2,10 @@
 use Rattle.std.proofs.Common.{◌≡◌, ◌≤◌, ℕ, ◌+◌, List, [], ◌∷◌, ◌++◌, length, map, codes, refl, sym, ap, ◌∙◌, subst, arith, append_assoc, append-nil, length-append}
 use Rattle.std.specs.Prelude.{Option, option_and_then}
 use Rattle.ot_file.specs.declared.position.Position.{Position}
-use Rattle.ot_judge.specs.Judging.{Refusal, code_in, told_in}
-use Rattle.ot_judge.specs.Places.{IsPlaced}
-use Rattle.ot_judge.specs.Going.{Standing, Goes, IsSeen}
+use Rattle.ot_judge.specs.Judging.{Refusal, code_in, told_in, IsPlaced, Standing, Goes, IsSeen}
 use Rattle.ot_judge.specs.declared.findings.Finding.{Finding}
-use Rattle.ot_report.specs.Names.{Names}
+use Rattle.ot_report.specs.Report.{Names, place_text, words_of, error_line, notes_text, AreNotes, Reports}
 use Rattle.ot_report.specs.NoteView.{note_by, stands_of}
-use Rattle.ot_report.specs.Report.{place_text, words_of, error_line, notes_text, AreNotes, Reports}
 use Rattle.ot_report.specs.declared.note.Note.{Note}
 use Rattle.ot_report.proofs.NoteLemmas.{stands-notes}
 

@@ -1,10 +1,8 @@
 //! The notes behind a refusal.
 ghost use Rattle.std.specs.Prelude.{◌≡◌, ◌++◌, ◌≤◌, ℕ, List, OnOk, IfOk, length, map, string_bytes, option_and_then, Some, option_map, [], ◌∷◌};
-ghost use Rattle.ot_judge.specs.Judging.{Refusal, code_in, told_in};
-ghost use Rattle.ot_judge.specs.Going.{IsBehind};
-ghost use Rattle.ot_report.specs.Names.{Names, NamesBy, StandIn, last_entry};
+ghost use Rattle.ot_judge.specs.Judging.{Refusal, code_in, told_in, IsBehind};
+ghost use Rattle.ot_report.specs.Report.{Names, NamesBy, StandIn, last_entry, notes_text};
 ghost use Rattle.ot_report.specs.NoteView.{note_by, stands_of};
-ghost use Rattle.ot_report.specs.Report.{notes_text};
 
 use crate::line::put_note;
 use crate::note::Note;
@@ -78,7 +76,7 @@ fn notes_on(alloc: Global, book: &Book, entry: &Entry) -> Result<Vec<Note>, Allo
     }
 }
 
-ghost use Rattle.ot_check.specs.Codes.{code_of};
+ghost use Rattle.ot_check.specs.Offences.{code_of};
 ghost use Rattle.ot_store.specs.Arrays.{shape_in};
 ghost use Rattle.ot_reason.specs.Runs.{run_in};
 

@@ -2,9 +2,8 @@
 ghost use Rattle.std.specs.Prelude.{◌≡◌, [], List, Ok, IfOk, length};
 ghost use Rattle.ot_file.specs.Comments.{blanked};
 ghost use Rattle.ot_store.specs.Arrays.{Named};
-ghost use Rattle.ot_model.specs.ShapeView.{arrays_of};
-ghost use Rattle.ot_judge.specs.Judging.{Refusal, refusals_in, finds, made};
-ghost use Rattle.ot_judge.specs.Going.{Goes};
+ghost use Rattle.ot_model.specs.Programs.{arrays_of};
+ghost use Rattle.ot_judge.specs.Judging.{Refusal, refusals_in, finds, made, Goes};
 ghost use Rattle.ot_report.specs.Report.{Reports};
 
 use crate::line::put_error;

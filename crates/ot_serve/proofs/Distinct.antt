@@ -4,7 +4,7 @@ use Rattle.std.specs.Prelude.{slice_get, unwrap_or}
 use Rattle.std.specs.List.{list_any}
 use Rattle.std.specs.Str.{bytes_eq}
 use Rattle.std.proofs.lemmas.Slice.Eq.{bytes_eq-Decides}
-use Rattle.ot_serve.specs.Tenants.{are_tenants}
+use Rattle.ot_serve.specs.Serving.{are_tenants}
 
 -- both tests pass
 both : (a b : Bool) → (a && b) ≡ true → (a ≡ true) × (b ≡ true)

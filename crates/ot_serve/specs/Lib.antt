@@ -1,4 +1,3 @@
 pub mod Faults
 pub mod Serving
-pub mod Tenants
 pub mod Usages

@@ -1,9 +1,8 @@
 //! The server, from its names to the lines that it prints when it ends.
 ghost use Rattle.std.specs.Prelude.{◌≡◌, ◌≢◌, ◌↔◌, ◌<◌, ◌≤◌, Err, None, IfOk, IfErr, OnOk, true, false, length, map, string_bytes};
 ghost use Rattle.std.specs.List.{All};
-ghost use Rattle.ot_front.specs.Device.{next_count};
-ghost use Rattle.ot_serve.specs.Serving.{IsInRange, Prints, newcomer};
-ghost use Rattle.ot_serve.specs.Tenants.{are_tenants};
+ghost use Rattle.ot_front.specs.Serving.{next_count};
+ghost use Rattle.ot_serve.specs.Serving.{IsInRange, Prints, newcomer, are_tenants};
 
 use crate::crew::run;
 use crate::door::Door;

@@ -4,10 +4,10 @@ use Rattle.std.specs.Prelude.{codes, string_bytes}
 use Rattle.std.specs.declared.alloc.Global.{Global}
 use Rattle.std.proofs.lemmas.List.{length-map, at_drop_more, get_or_append_left, get_or-append-add}
 use Rattle.std.proofs.lemmas.Bool.Decides.{leb_tells}
-use Rattle.ot_book.specs.Replies.{Told, text_of as reply_text}
+use Rattle.ot_book.specs.Answers.{Told, text_of as reply_text}
 use Rattle.ot_core.specs.Scenes.{Scene}
 use Rattle.ot_sim.specs.Playing.{reply_lines, replies_at, count_at, news}
-use Rattle.ot_sim.specs.Running.{counts_at}
+use Rattle.ot_sim.specs.Talk.{counts_at}
 
 -- a text so far, and one more reply of the rest
 pub reply-on : (name text : List ℕ) (r : ℕ × Told) (rs : List (ℕ × Told)) (one all : List ℕ) →

@@ -3,9 +3,7 @@ use Rattle.std.proofs.Common.{◌≡◌, ◌≢◌, ℕ, ◌+◌, List, [], ◌�
 use Rattle.std.specs.Prelude.{Option, Result, Ok, Err, OnOk, ⊤}
 use Rattle.std.specs.Io.KnownBytes.{Appends, IsAtEnd}
 use Rattle.std.proofs.KnownBytes.{Appends-nil, Appends-trans}
-use Rattle.ot_lines.specs.Counts.{Flow, next_count, count_after}
-use Rattle.ot_lines.specs.Lines.{Hearing, HasNoEnd, opened, IsIdle}
-use Rattle.ot_lines.specs.Listening.{ended, Went, Through, Ends, Listens, Stops as StopsAt}
+use Rattle.ot_lines.specs.Lines.{Flow, next_count, count_after, Hearing, HasNoEnd, opened, IsIdle, ended, Went, Through, Ends, Listens, Stops as StopsAt}
 use Rattle.ot_lines.specs.declared.lines.LineFault.{LineFault}
 use Rattle.ot_lines.specs.declared.lines.LineFault.TheVariants as lines
 use Rattle.ot_lines.specs.declared.listener.Ended.{Ended}
@@ -17,8 +15,7 @@ use Rattle.ot_sim.specs.declared.fault.Untold.TheVariants as untold
 use Rattle.ot_sim.specs.declared.fault.SimFault.{SimFault}
 use Rattle.ot_sim.specs.declared.fault.SimFault.TheVariants as fault
 use Rattle.ot_sim.specs.Playing.{empty_play}
-use Rattle.ot_sim.specs.Talk.{PlaysAll, Talks, TalksAll, StopsAtLong, TalksBy, TalksOver}
-use Rattle.ot_sim.specs.Running.{untold_fault, untold_writes, sim_bounds, TakesLine, IsRun}
+use Rattle.ot_sim.specs.Talk.{PlaysAll, Talks, TalksAll, StopsAtLong, TalksBy, TalksOver, untold_fault, untold_writes, sim_bounds, TakesLine, IsRun}
 
 -- ---- what is told
 

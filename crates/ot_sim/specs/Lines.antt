@@ -1,6 +1,6 @@
 -- What a line asks.
 use Rattle.std.specs.Prelude.{ℕ, bytes_eq, codes, if◌then◌else◌, List, Option, Some, None}
-use Rattle.ot_program.specs.Names.{is_name}
+use Rattle.ot_program.specs.Meanings.{is_name}
 use Rattle.ot_sim.specs.Words.{word, behind, number_in_word, worker_of}
 use Rattle.ot_sim.specs.declared.line.Line.{Line}
 use Rattle.ot_sim.specs.declared.line.Line.TheVariants as line

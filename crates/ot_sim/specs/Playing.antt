@@ -1,14 +1,12 @@
--- What a line does to the tenants and their world, and the text that it is answered.
+-- What a line asks of a world, and what it is answered.
 use Rattle.std.specs.Prelude.{◌≡◌, ℕ, ◌+◌, ◌-◌, ◌^◌, min, List, [], ◌∷◌, ◌++◌, map, length, drop, replicate, codes, is_some, ◌||◌, if◌then◌else◌, Bool, Option, Some, None, option_map, unwrap_or, slice_get}
-use Rattle.ot_store.specs.Usual.{usual_limits}
+use Rattle.ot_store.specs.Refusals.{usual_limits}
 use Rattle.ot_book.specs.Books.{new_register}
-use Rattle.ot_book.specs.Replies.{Told, text_of as reply_text}
-use Rattle.ot_core.specs.Accounts.{Account}
-use Rattle.ot_core.specs.Asking.{new_account}
+use Rattle.ot_book.specs.Answers.{Told, text_of as reply_text}
+use Rattle.ot_core.specs.Accounts.{Account, new_account}
 use Rattle.ot_core.specs.Floors.{new_floor, units_of, total_of}
 use Rattle.ot_core.specs.Given.{replies_of}
-use Rattle.ot_core.specs.Scenes.{Scene}
-use Rattle.ot_core.specs.Steps.{Steps}
+use Rattle.ot_core.specs.Scenes.{Scene, Steps}
 use Rattle.ot_core.specs.Draining.{Drains, AllAnswered}
 use Rattle.ot_core.specs.declared.event.Event.{Event}
 use Rattle.ot_core.specs.declared.event.Stepped.{Stepped}
@@ -18,10 +16,40 @@ use Rattle.ot_sim.specs.declared.answer.Answer.TheVariants as answer
 use Rattle.ot_sim.specs.declared.play.Play.{Play}
 use Rattle.ot_sim.specs.declared.play.Saying.{Saying}
 use Rattle.ot_sim.specs.declared.play.Saying.TheVariants as saying
-use Rattle.ot_sim.specs.Asking.{event_of, saying_of}
 use Rattle.ot_sim.specs.Lines.{said_of, said_in}
-use Rattle.ot_sim.specs.Tables.{is_barred, place_of}
-use Rattle.ot_sim.specs.Texts.{answer_text}
+use Rattle.ot_sim.specs.Texts.{is_barred, place_of, answer_text}
+use Rattle.ot_core.specs.declared.event.Event.TheVariants as event
+use Rattle.ot_core.specs.declared.event.Stepped.TheVariants as stepped
+use Rattle.ot_sim.specs.declared.answer.Answer.{Answer}
+
+-- the event, where all tenants that it names are there
+abbrev pub event_of : List (List ℕ) → Line → Option Event
+event_of names (line.Admit t request) = option_map (λ k. event.Admit k request) (place_of names t.now)
+event_of names (line.Open t) = option_map event.Open (place_of names t.now)
+event_of names (line.Start w t pick) = option_map (λ k. event.Start w k pick) (place_of names t.now)
+event_of names (line.Finish w) = Some (event.Finish w)
+event_of names (line.Reply t) = option_map event.Reply (place_of names t.now)
+event_of names (line.Abort t) = option_map event.Abort (place_of names t.now)
+event_of names other = None
+
+-- what is answered where the event did this and gave no reply
+abbrev pub answer_of : Line → Stepped → Answer
+answer_of (line.Admit t request) stepped.Asked = answer.Asked t
+answer_of (line.Admit t request) stepped.Full = answer.Full t
+answer_of (line.Open t) stepped.Job = answer.Job t
+answer_of (line.Start w t pick) (stepped.Started task) = answer.Started w t task
+answer_of (line.Finish w) (stepped.Finished units) = answer.Finished w units
+answer_of (line.Finish w) stepped.FinishedFailed = answer.FinishedFailed w
+answer_of (line.Abort t) stepped.Aborted = answer.Aborted t
+answer_of line stepped = answer.NotNow
+
+-- what is told of the event
+abbrev pub saying_of : Line → Event → Stepped → Saying
+saying_of (line.Open t) (event.Open k) stepped.Answered = saying.Reply t k
+saying_of (line.Reply t) (event.Reply k) stepped.Replied = saying.Reply t k
+saying_of line event stepped = saying.Answer (answer_of line stepped)
+
+-- What a line does to the tenants and their world, and the text that it is answered.
 
 -- ---- the tenants, and their world
 

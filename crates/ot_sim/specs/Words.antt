@@ -1,6 +1,6 @@
 -- Words of a line: what stands between two spaces.
 use Rattle.std.specs.Prelude.{ℕ, ◌+◌, ◌*◌, ◌-◌, ◌^◌, ◌==◌, ◌&&◌, nat_le, nat_lt, if◌then◌else◌, List, [], ◌∷◌, Option, Some, None}
-use Rattle.ot_program.specs.Names.{is_digit}
+use Rattle.ot_program.specs.Meanings.{is_digit}
 
 -- the bytes before the first space
 abbrev pub word : List ℕ → List ℕ

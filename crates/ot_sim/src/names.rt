@@ -1,6 +1,6 @@
 //! The tenants by name, in the order made.
 ghost use Rattle.std.specs.Prelude.{◌≡◌, ◌≤◌, map, length, string_bytes, [], IfOk, OnErr, vec_len};
-ghost use Rattle.ot_sim.specs.Tables.{place_of, Adds};
+ghost use Rattle.ot_sim.specs.Texts.{place_of, Adds};
 
 use ot_store::{Limits, Store};
 use std::alloc::{AllocError, Global};

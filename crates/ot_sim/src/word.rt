@@ -1,6 +1,6 @@
 //! Words of a line: what stands between two spaces.
 ghost use Rattle.std.specs.Prelude.{◌≡◌, Some, None, option_map, if◌then◌else◌};
-ghost use Rattle.ot_program.specs.Names.{is_name, is_digit};
+ghost use Rattle.ot_program.specs.Meanings.{is_name, is_digit};
 ghost use Rattle.ot_sim.specs.Words.{word, behind, digits_behind, number_in_word, worker_of};
 
 use memchr::memchr;

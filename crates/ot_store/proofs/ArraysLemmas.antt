@@ -13,7 +13,7 @@ use Rattle.std.proofs.lemmas.Map.Keys.{IsDistinct-tail}
 use Rattle.std.proofs.lemmas.Map.Views.{All-map-remove_entry}
 use Rattle.std.proofs.lemmas.Slice.Zip.{firsts-zip, seconds-zip}
 use Rattle.ot_model.specs.Cells.{lengths}
-use Rattle.ot_model.specs.Shapes.{AreShort, array_lengths}
+use Rattle.ot_model.specs.Programs.{AreShort, array_lengths}
 use Rattle.ot_store.specs.declared.limits.Limits.{Limits}
 use Rattle.ot_store.specs.Arrays.{Named, names_in, cells_in, cell_count, others, listed, shape_in, recelled, AreSound}
 

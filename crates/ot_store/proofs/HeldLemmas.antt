@@ -7,8 +7,7 @@ use Rattle.std.specs.Map.{keys_of, values_of, lookup, set_value, remove_entry}
 use Rattle.std.specs.String.{string_eq}
 use Rattle.indexmap.specs.IndexMap.{insert_entry}
 use Rattle.indexmap.proofs.CallerLemmas.{insert_entry-new}
-use Rattle.ot_store.specs.Arrays.{Named, names_in, cells_in, cell_count, cells_called, others, AreSound}
-use Rattle.ot_store.specs.Held.{named_of, AreCounted}
+use Rattle.ot_store.specs.Arrays.{Named, names_in, cells_in, cell_count, cells_called, others, AreSound, named_of, AreCounted}
 use Rattle.ot_store.proofs.ArraysLemmas.{AreSound-push, AreSound-put, AreSound-remove_entry, cell_count-push, cell_count-remove_entry, others-remove_entry, lengths-set_value}
 
 abbrev pub Entry : Type 0

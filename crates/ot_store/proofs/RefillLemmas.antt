@@ -4,8 +4,7 @@ use Rattle.std.specs.List.{zip}
 use Rattle.std.specs.Prelude.{sum}
 use Rattle.indexmap.specs.IndexMap.{set_value_at}
 use Rattle.ot_model.specs.Cells.{lengths}
-use Rattle.ot_store.specs.Arrays.{Named, names_in, cells_in, recelled}
-use Rattle.ot_store.specs.Held.{named_of, AreCounted}
+use Rattle.ot_store.specs.Arrays.{Named, names_in, cells_in, recelled, named_of, AreCounted}
 use Rattle.ot_store.proofs.ArraysLemmas.{cells-fit, cells_in-recelled, AreSound-recelled}
 use Rattle.ot_store.proofs.HeldLemmas.{Entry}
 

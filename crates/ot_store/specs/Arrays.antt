@@ -1,13 +1,14 @@
 -- A tenant's arrays: names with their cells, in order of creation. What each call leaves or gives, and
 -- why it is refused.
-use Rattle.std.specs.Prelude.{ℕ, ◌+◌, ◌<◌, ◌^◌, List, [], ◌∷◌, ◌++◌, All, length, map, take, drop, replicate, filter, sum, slice_range, bytes_eq, nat_lt, nat_le, not, is_some, if◌then◌else◌, Option, Some, None, Result, Ok, Err}
+use Rattle.std.specs.Prelude.{ℕ, ◌+◌, ◌<◌, ◌^◌, List, [], ◌∷◌, ◌++◌, All, length, map, take, drop, replicate, filter, sum, slice_range, bytes_eq, nat_lt, nat_le, not, is_some, if◌then◌else◌, Option, Some, None, Result, Ok, Err, ◌≡◌, String, Vec, string_bytes}
 use Rattle.std.specs.List.{zip, IsDistinct}
 use Rattle.std.specs.Map.{lookup, set_value}
 use Rattle.ot_model.specs.Cells.{lengths}
-use Rattle.ot_model.specs.Shapes.{Arrays}
+use Rattle.ot_model.specs.Programs.{Arrays}
 use Rattle.ot_store.specs.declared.limits.Limits.{Limits}
 use Rattle.ot_store.specs.declared.fault.StoreRefusal.{StoreRefusal}
 use Rattle.ot_store.specs.declared.fault.StoreRefusal.TheVariants.{UnknownArray, NameTaken, OutOfRange, TooManyCells, TooManyArrays}
+use Rattle.std.specs.declared.alloc.Global.{Global}
 
 abbrev pub Named : Type 0
 Named = List ℕ × List ℕ
@@ -78,3 +79,13 @@ shape_in limits arrays = record { arrays = listed arrays; tasks = limits.tasks }
 -- each name beside other cells
 abbrev pub recelled : List Named → List (List ℕ) → List Named
 recelled arrays cells = zip (names_in arrays) cells
+
+-- The arrays that the code's map stands for, and what its type keeps.
+
+abbrev pub named_of : List (String Global × Vec ℕ Global) → List Named
+named_of entries = map (λ e. (string_bytes e.0, e.1.items)) entries
+
+-- the cells are counted
+pub record AreCounted (arrays : List Named) (count : ℕ) : Type 0 where
+  pub sound : AreSound arrays
+  pub counted : count ≡ cell_count arrays

@@ -1,4 +1,2 @@
-pub mod Usual
 pub mod Refusals
 pub mod Arrays
-pub mod Held

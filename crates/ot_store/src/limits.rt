@@ -14,7 +14,7 @@ pub struct Limits {
 }
 
 impl Limits {
-    ghost use Rattle.ot_store.specs.Usual.{usual_limits};
+    ghost use Rattle.ot_store.specs.Refusals.{usual_limits};
 
     /// What a tenant has unless told otherwise: 16 arrays, 65,536 cells, 1,024 task statements and
     /// 4,096 requests.

@@ -23,7 +23,7 @@ impl Model for Store {
 
     ghost Value = { List (List ℕ × List ℕ) };
 
-    ghost use Rattle.ot_store.specs.Held.{named_of, AreCounted};
+    ghost use Rattle.ot_store.specs.Arrays.{named_of, AreCounted};
 
     ghost view = { λ s. named_of s.arrays.entries };
 
@@ -32,7 +32,7 @@ impl Model for Store {
 
 impl Store {
     ghost use Rattle.ot_model.specs.Cells.{lengths};
-    ghost use Rattle.ot_model.specs.ShapeView.{arrays_of};
+    ghost use Rattle.ot_model.specs.Programs.{arrays_of};
     ghost use Rattle.ot_store.specs.Refusals.{Fails};
 
     /// No arrays. It takes no memory.

@@ -2,18 +2,16 @@
 use Rattle.std.proofs.Common.{◌≡◌, ◌<◌, ℕ, zero, suc, List, [], ◌∷◌, length, get_or, refl, sym, ap, ◌∙◌, arith}
 use Rattle.std.specs.Prelude.{Some, IsSome, slice_get, option_map, if◌then◌else◌}
 use Rattle.std.proofs.lemmas.Option.{same_Some}
-use Rattle.ot_model.specs.Tree.{E, Literal, CellAt, Apply, PickFrom, S, Set, Fold, If, Task, Wait, Group, Body, End, Next}
+use Rattle.ot_model.specs.Tree.{E, Literal, CellAt, Apply, PickFrom, S, Set, Fold, If, Task, Wait, Group, Body, End, Next, val, HasAll}
 use Rattle.ot_model.specs.Joining.{join_by}
-use Rattle.ot_model.specs.Value.{val, HasAll}
 use Rattle.ot_model.specs.declared.expr.Cell.{Cell}
 use Rattle.ot_model.specs.declared.stmt.Use.{Use}
 use Rattle.ot_model.specs.Cells.{same_cell}
 use Rattle.ot_check.proofs.Cited.{value-same, read-weaker}
-use Rattle.ot_owner.specs.Lending.{value_at, MayChange, uses_of, use_of}
-use Rattle.ot_owner.specs.Leases.{Lease, lease_of}
+use Rattle.ot_owner.specs.Lending.{value_at, MayChange, uses_of, use_of, Lease, lease_of}
 use Rattle.ot_owner.specs.declared.lent.LentCell.{LentCell}
 use Rattle.ot_task.specs.Copies.{Look, with_copy, assigned}
-use Rattle.ot_check.specs.Touches.{EachRead}
+use Rattle.ot_check.specs.Offences.{EachRead}
 use Rattle.ot_task.specs.Assigns.{CanAssign, assign_of}
 use Rattle.ot_parts.specs.declared.assign.Assign.{Assign}
 use Rattle.ot_parts.specs.declared.assign.Assign.TheVariants as v

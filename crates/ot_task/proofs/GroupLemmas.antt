@@ -2,9 +2,8 @@
 use Rattle.std.proofs.Common.{◌≡◌, ◌+◌, ◌<◌, List, [], ◌∷◌, ◌++◌, length, map, reverse, refl, sym, ap, ◌∙◌, arith}
 use Rattle.std.proofs.lemmas.List.{map-append}
 use Rattle.std.proofs.lemmas.Grind.{reverse_onto}
-use Rattle.ot_task.specs.Place.{Open}
-use Rattle.ot_task.specs.PlaceView.{open_of}
-use Rattle.ot_task.specs.Weighing.{weight_behind}
+use Rattle.ot_task.specs.Regions.{Open, weight_behind}
+use Rattle.ot_task.specs.RegionView.{open_of}
 use Rattle.ot_task.specs.declared.place.OpenGroup.{OpenGroup}
 
 pub map-reverse : {A B : Type 0} (g : A → B) (xs : List A) → map g (reverse xs) ≡ reverse (map g xs)

@@ -3,24 +3,21 @@ use Rattle.std.proofs.Common.{◌≡◌, ◌≤◌, ℕ, zero, suc, ◌+◌, Boo
 use Rattle.std.specs.Prelude.{Option, Some, None, IsSome, All, if◌then◌else◌}
 use Rattle.std.specs.List.{fold, range_with_len}
 use Rattle.std.proofs.lemmas.List.Elements.{All-nil, All-cons}
-use Rattle.ot_model.specs.Tree.{E, Literal, CellAt, Apply, PickFrom, Set, Fold, If, Task, Wait, Group, Body, End, Next}
+use Rattle.ot_model.specs.Tree.{E, Literal, CellAt, Apply, PickFrom, Set, Fold, If, Task, Wait, Group, Body, End, Next, cell_at, cells_named}
 use Rattle.ot_model.specs.Names.{IsInShape, FitsShape, ValueNamedIn, NamedIn}
-use Rattle.ot_model.specs.Cells.{cell_of, lengths, same_cell}
-use Rattle.ot_model.specs.Value.{cell_at, cells_named}
+use Rattle.ot_model.specs.Cells.{cell_of, lengths, same_cell, mode_in}
 use Rattle.ot_model.specs.declared.expr.Cell.{Cell}
 use Rattle.ot_model.specs.declared.expr.Section.{Section}
 use Rattle.ot_model.specs.declared.stmt.Mode.{Mode}
 use Rattle.ot_model.specs.declared.stmt.Mode.TheVariants.{Reads}
 use Rattle.ot_model.specs.declared.stmt.Use.{Use}
 use Rattle.ot_model.proofs.NamesLemmas.{found_from_in}
-use Rattle.ot_check.specs.Paths.{use_as}
-use Rattle.ot_check.specs.Offences.{Declared}
+use Rattle.ot_check.specs.Offences.{use_as, Declared}
 use Rattle.ot_check.proofs.Cited.{same_is}
 use Rattle.ot_task.proofs.CellLemmas.{same_self}
 use Rattle.ot_task.specs.Pieces.{leading, behind, test_of}
-use Rattle.ot_model.specs.Uses.{mode_in}
 use Rattle.ot_task.specs.Touched.{assign_touches, test_touches, piece_touches}
-use Rattle.ot_task.specs.Modes.{held, noted, with_mode, mode_held}
+use Rattle.ot_task.specs.Assigns.{held, noted, with_mode, mode_held}
 
 -- ---- each touch is of a cell in the shape
 

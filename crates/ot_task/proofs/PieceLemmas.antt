@@ -1,7 +1,7 @@
 -- A piece that is out.
 use Rattle.std.proofs.Common.{◌≡◌, ap, ◌∙◌}
 use Rattle.std.specs.Prelude.{Option, Some}
-use Rattle.ot_owner.specs.Leases.{Lease}
+use Rattle.ot_owner.specs.Lending.{Lease}
 use Rattle.ot_model.specs.Tree.{Body}
 use Rattle.ot_task.specs.Pieces.{IsWith}
 use Rattle.ot_task.specs.Regions.{Run}

@@ -4,8 +4,7 @@ use Rattle.std.specs.Prelude.{List, Some, Result, Ok, Err, OnOk}
 use Rattle.std.proofs.lemmas.Option.{same_Some}
 use Rattle.ot_model.specs.Tree.{S, Set, Fold, If, Task, Wait, Group, Body, End, Next}
 use Rattle.ot_model.specs.declared.stmt.Use.{Use}
-use Rattle.ot_parts.specs.Leading.{control_next, past_control}
-use Rattle.ot_parts.specs.Parts.{part_of}
+use Rattle.ot_parts.specs.Parts.{control_next, past_control, part_of}
 use Rattle.ot_parts.specs.declared.part.Part.{Part}
 use Rattle.ot_task.specs.Regions.{Region, next_task, stepped_from, with_child, with_noted, with_rest}
 

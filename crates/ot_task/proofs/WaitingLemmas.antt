@@ -6,7 +6,7 @@ use Rattle.std.proofs.lemmas.Bool.Decides.{nat_tests}
 use Rattle.std.proofs.lemmas.List.Sums.{sum_by-cons}
 use Rattle.ot_depend.specs.Siblings.{Sibling, is_unfinished, with_finished}
 use Rattle.ot_depend.proofs.WaitsLemmas.{free-finished}
-use Rattle.ot_task.specs.Waits.{is_held}
+use Rattle.ot_task.specs.Regions.{is_held}
 use Rattle.ot_task.specs.RegionView.{KnowsFree}
 use Rattle.ot_task.specs.declared.waiting.Waiting.{Waiting}
 use Rattle.ot_task.specs.declared.waiting.Waiting.TheVariants.{Nowhere, ForAll, For}

@@ -1,8 +1,7 @@
 -- What assignments make of the copies that a piece was lent.
 use Rattle.std.specs.Prelude.{ℕ, if◌then◌else◌, Option, option_map}
-use Rattle.ot_model.specs.Tree.{Set, Fold, Body, Next}
+use Rattle.ot_model.specs.Tree.{Set, Fold, Body, Next, val}
 use Rattle.ot_model.specs.Joining.{join_by}
-use Rattle.ot_model.specs.Value.{val}
 use Rattle.ot_model.specs.declared.expr.Cell.{Cell}
 use Rattle.ot_model.specs.Cells.{same_cell}
 

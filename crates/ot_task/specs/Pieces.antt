@@ -1,13 +1,32 @@
--- What a piece is taken from, and what is left behind it.
-use Rattle.std.specs.Prelude.{◌≡◌, ℕ, List, ◌∷◌, Option, Some, None}
+-- Where a task stands.
+use Rattle.std.specs.Prelude.{◌≡◌, ℕ, List, ◌∷◌, Option, Some, None, Bool, true, false, []}
 use Rattle.ot_model.specs.Tree.{E, Body, End}
-use Rattle.ot_task.specs.Place.{Open, innermost}
-use Rattle.ot_owner.specs.Leases.{Lease, lease_of}
+use Rattle.ot_task.specs.Regions.{Open, innermost, Region, Run}
+use Rattle.ot_owner.specs.Lending.{Lease, lease_of}
 use Rattle.ot_owner.specs.declared.lent.LentCell.{LentCell}
-use Rattle.ot_task.specs.Standing.{Standing}
-use Rattle.ot_task.specs.Regions.{Region, Run}
+
+-- what is left of the innermost open group's body, and the open groups, the innermost first
+pub record Standing : Type 0 where
+  pub rest : Body
+  pub groups : List Open
+
+-- behind the end of the innermost open group
+abbrev pub left_group : Standing → Standing
+left_group s = behind_end s.rest s.groups
+  where
+    behind_end : Body → List Open → Standing
+    behind_end rest [] = record { rest = rest; groups = [] }
+    behind_end rest (o ∷ os) = record { rest = o.behind; groups = os }
+
+-- whether the place is at the body's end
+abbrev pub is_at_end : Body → List Open → Bool
+is_at_end End [] = true
+is_at_end rest os = false
+
+-- What a piece is taken from, and what is left behind it.
+
 -- the sets and folds that come first, what stands behind them, how many they are; the condition of an `if` that comes next
-pub use Rattle.ot_parts.specs.Leading.{leading, behind, leading_len, test_of}
+pub use Rattle.ot_parts.specs.Parts.{leading, behind, leading_len, test_of}
 
 -- behind the end of the innermost open group, where that end is reached
 abbrev pub passed : Body → List Open → Standing

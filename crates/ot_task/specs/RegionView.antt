@@ -1,11 +1,21 @@
--- The region that a task's fields stand for.
-use Rattle.std.specs.Prelude.{List, Some, None}
+-- Where a task stands, as the code says it: its list of groups ends with the innermost.
+use Rattle.std.specs.Prelude.{List, Some, None, map, reverse}
 use Rattle.ot_depend.specs.Siblings.{Sibling, AreFree}
-use Rattle.ot_task.specs.PlaceView.{standing_of}
-use Rattle.ot_task.specs.Regions.{Region, Waiting}
+use Rattle.ot_task.specs.Regions.{Region, Waiting, Open}
 use Rattle.ot_task.specs.declared.waiting.Waiting.{Waiting as Wait}
 use Rattle.ot_task.specs.declared.waiting.Waiting.TheVariants.{Nowhere, ForAll, For}
 use Rattle.ot_task.specs.declared.task.Task.TheInside.{Inside}
+use Rattle.ot_task.specs.Pieces.{Standing}
+use Rattle.ot_task.specs.declared.place.OpenGroup.{OpenGroup}
+use Rattle.ot_task.specs.declared.place.Place.{Place}
+
+abbrev pub open_of : OpenGroup → Open
+open_of o = record { group = o.group; op = o.op; cells = o.cells.items; behind = o.behind }
+
+abbrev pub standing_of : Place → Standing
+standing_of p = record { rest = p.rest; groups = reverse (map open_of p.groups.items) }
+
+-- The region that a task's fields stand for.
 
 -- the wait at which it stands
 abbrev pub waiting_of : Wait → Waiting

@@ -1,14 +1,33 @@
--- Task regions, and what the execution of a control statement makes of them.
-use Rattle.std.specs.Prelude.{ℕ, zero, suc, ◌++◌, Bool, true, false, if◌then◌else◌, List, [], ◌∷◌, map, length, Option, Some, None}
+-- Where a task stands: what is left of the innermost open group's body, and what stands behind the ends of the open groups.
+use Rattle.std.specs.Prelude.{ℕ, zero, suc, ◌++◌, Bool, true, false, if◌then◌else◌, List, [], ◌∷◌, map, length, Option, Some, None, ◌==◌, ◌&&◌, not, count_by, ◌+◌, is_some}
 use Rattle.ot_model.specs.Tree.{If, Task, Wait, Group, Body, End, Next, append}
 use Rattle.ot_model.specs.Cells.{updated}
 use Rattle.ot_model.specs.declared.stmt.Use.{Use}
 use Rattle.ot_model.specs.declared.expr.Cell.{Cell}
 use Rattle.ot_model.specs.declared.fold.Fold.{Fold as Operation}
-use Rattle.ot_depend.specs.Siblings.{Sibling, created, with_finished}
-use Rattle.ot_check.specs.Offences.{Declared}
-use Rattle.ot_task.specs.Place.{Open}
-use Rattle.ot_owner.specs.Leases.{Lease}
+use Rattle.ot_depend.specs.Siblings.{Sibling, created, with_finished, is_unfinished, is_unfinished_in}
+use Rattle.ot_check.specs.Offences.{Declared, awaits}
+use Rattle.ot_owner.specs.Lending.{Lease}
+use Rattle.std.specs.List.{list_any}
+
+-- an open group: its number, the operation and the cells of its reduction, and what stands behind its end
+pub record Open : Type 0 where
+  pub group : ℕ
+  pub op : Operation
+  pub cells : List Cell
+  pub behind : Body
+
+-- the number of the innermost open group, which comes first
+abbrev pub innermost : List Open → Option ℕ
+innermost [] = None
+innermost (o ∷ os) = Some o.group
+
+-- what is left, the innermost open group first
+abbrev pub todo : Body → List Open → Body
+todo rest [] = rest
+todo rest (o ∷ os) = append rest (todo o.behind os)
+
+-- Task regions, and what the execution of a control statement makes of them.
 
 -- a piece that is out: the worker that has it, its assigns, and what it holds
 pub record Run : Type 0 where
@@ -126,3 +145,46 @@ with_created i (Some child) rs = updated rs i (with_child child.0) ++ new_region
 -- the regions once task i has executed the control statement that comes next
 abbrev pub executed : Bool → ℕ → ℕ → List Region → List Region
 executed taken g i rs = with_created i (next_task (rest_at rs i)) (updated rs i (stepped taken g))
+
+-- What holds a task that has no piece out.
+
+-- whether a group's end that is reached lets the task go on
+abbrev pub end_lets_go : Body → List Open → List Sibling → Bool
+end_lets_go End (o ∷ os) children = count_by (is_unfinished_in o.group) children == 0
+end_lets_go rest os children = true
+
+-- whether the wait at which a task stands awaits the child
+abbrev pub is_awaited_at : Waiting → Sibling → Bool
+is_awaited_at None s = false
+is_awaited_at (Some w) s = awaits w s.uses
+
+-- whether that wait holds the task: one of those that it awaits has not finished (OpenMP API 5.2, section 15.5)
+abbrev pub is_held : Waiting → List Sibling → Bool
+is_held waiting children = list_any (λ s. is_unfinished s && is_awaited_at waiting s) children
+
+-- whether neither a wait nor a group's end holds the task
+abbrev pub is_let_go : Region → Bool
+is_let_go r = not (is_held r.waiting r.children) && end_lets_go r.rest r.groups r.children
+
+-- How many settles a job may still take.
+
+-- of a statement, and of a body
+pub use Rattle.ot_parts.specs.Parts.{weight_one, weight}
+
+-- of the ends of the open groups, and what stands behind them
+abbrev pub weight_behind : List Open → ℕ
+weight_behind [] = 0
+weight_behind (o ∷ os) = 1 + weight o.behind + weight_behind os
+
+-- of what a task has left, with a piece of it out or not: without one a group's end that is reached is passed for nothing
+abbrev pub weight_left : Bool → Body → List Open → ℕ
+weight_left false End (o ∷ os) = weight o.behind + weight_behind os
+weight_left out rest os = weight rest + weight_behind os
+
+-- a task that has not ended has a last piece
+abbrev pub region_weight : Region → ℕ
+region_weight r = if r.ended then 0 else 1 + weight_left (is_some r.running) r.rest r.groups
+
+abbrev pub weight_of : List Region → ℕ
+weight_of [] = 0
+weight_of (r ∷ rs) = region_weight r + weight_of rs

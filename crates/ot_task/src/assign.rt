@@ -1,7 +1,6 @@
 ghost use Rattle.std.specs.Prelude.{◌≡◌, ◌∷◌, [], IsSome};
 ghost use Rattle.ot_task.specs.Copies.{assigned};
-ghost use Rattle.ot_owner.specs.Lending.{value_at};
-ghost use Rattle.ot_owner.specs.Leases.{lease_of};
+ghost use Rattle.ot_owner.specs.Lending.{value_at, lease_of};
 ghost use Rattle.ot_model.specs.declared.expr.Cell.{Cell};
 ghost use Rattle.ot_task.specs.Assigns.{assigns_of, CanAssign};
 

@@ -27,15 +27,13 @@ impl Place {
     ghost use Rattle.std.specs.Arc.{arc_value};
     ghost use Rattle.ot_model.specs.Names.{NamedIn};
     ghost use Rattle.ot_model.specs.Tree.{End, S};
-    ghost use Rattle.ot_model.specs.Uses.{AreInOrder};
+    ghost use Rattle.ot_model.specs.Cells.{AreInOrder};
     ghost use Rattle.ot_model.specs.View.{expr_of};
-    ghost use Rattle.ot_parts.specs.Leading.{branched, control_next, past_control};
-    ghost use Rattle.ot_parts.specs.Parts.{part_of, parts_of};
-    ghost use Rattle.ot_parts.specs.Runs.{AreHeldBy};
-    ghost use Rattle.ot_task.specs.PlaceView.{standing_of};
-    ghost use Rattle.ot_task.specs.Pieces.{passed_end, leading, behind, test_of};
-    ghost use Rattle.ot_task.specs.Standing.{left_group};
-    ghost use Rattle.ot_task.specs.Weighing.{weight, weight_behind, weight_left};
+    ghost use Rattle.ot_parts.specs.Parts.{branched, control_next, past_control, part_of, parts_of};
+    ghost use Rattle.ot_parts.specs.Assigns.{AreHeldBy};
+    ghost use Rattle.ot_task.specs.RegionView.{standing_of};
+    ghost use Rattle.ot_task.specs.Pieces.{passed_end, leading, behind, test_of, left_group};
+    ghost use Rattle.ot_task.specs.Regions.{weight, weight_behind, weight_left};
 
     /// At the beginning of a body. It takes no memory.
     pub(crate) fn new(alloc: Global, body: Arc<Vec<Part>>) -> Place

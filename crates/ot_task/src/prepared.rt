@@ -1,10 +1,9 @@
 ghost use Rattle.std.specs.Prelude.{◌≡◌, ℕ, List, IfOk, IsSome, All, option_map};
 ghost use Rattle.ot_model.specs.Names.{NamedIn};
-ghost use Rattle.ot_model.specs.Uses.{AreInOrder};
-ghost use Rattle.ot_model.specs.Cells.{cell_of, lengths};
+ghost use Rattle.ot_model.specs.Cells.{AreInOrder, cell_of, lengths};
 ghost use Rattle.ot_model.specs.View.{expr_of};
 ghost use Rattle.ot_task.specs.Pieces.{leading, behind, test_of, awake};
-ghost use Rattle.ot_task.specs.Modes.{AreHeld};
+ghost use Rattle.ot_task.specs.Assigns.{AreHeld};
 
 use crate::task::Task;
 use ot_model::{Decl, Expr};

@@ -25,8 +25,7 @@ impl Model for Running {
 
 impl Running {
     ghost use Rattle.std.specs.Prelude.{◌≡◌, ◌↔◌, IsTrue};
-    ghost use Rattle.ot_owner.specs.Leases.{lease_of};
-    ghost use Rattle.ot_owner.specs.Lending.{uses_of};
+    ghost use Rattle.ot_owner.specs.Lending.{lease_of, uses_of};
 
     /// The record of a piece with these sets and folds, for which this was lent to the worker. It takes no
     /// memory.

@@ -1,4 +1,4 @@
-ghost use Rattle.ot_task.specs.Regions.{Region, root_region, new_region, child_of, stepped, next_task, with_noted, is_control, tasks_next, group_next, with_child, with_rest, without, over, stopped};
+ghost use Rattle.ot_task.specs.Regions.{Region, root_region, new_region, child_of, stepped, next_task, with_noted, is_control, tasks_next, group_next, with_child, with_rest, without, over, stopped, is_let_go, end_lets_go, region_weight};
 
 use crate::place::Place;
 use crate::running::Running;
@@ -47,18 +47,14 @@ impl Task {
     ghost use Rattle.std.specs.Arc.{arc_value};
     ghost use Rattle.ot_model.specs.Names.{NamedIn};
     ghost use Rattle.ot_model.specs.Tree.{Body};
-    ghost use Rattle.ot_model.specs.Uses.{AreInOrder};
+    ghost use Rattle.ot_model.specs.Cells.{AreInOrder};
     ghost use Rattle.ot_model.specs.View.{expr_of};
     ghost use Rattle.ot_model.specs.declared.stmt.Use.{Use};
-    ghost use Rattle.ot_parts.specs.Leading.{past_control};
-    ghost use Rattle.ot_parts.specs.Parts.{parts_of};
-    ghost use Rattle.ot_parts.specs.Runs.{AreHeldBy};
+    ghost use Rattle.ot_parts.specs.Parts.{past_control, parts_of};
+    ghost use Rattle.ot_parts.specs.Assigns.{AreHeldBy};
     ghost use Rattle.ot_depend.specs.Siblings.{IsReady, IsUnfinished, is_ready, with_finished};
-    ghost use Rattle.ot_depend.specs.Waiting.{LetsTheSame, WaitForLess};
-    ghost use Rattle.ot_task.specs.Pieces.{leading, behind, test_of, awake, begun, Runs, group_passed};
-    ghost use Rattle.ot_task.specs.Standing.{is_at_end};
-    ghost use Rattle.ot_task.specs.Waits.{is_let_go, end_lets_go};
-    ghost use Rattle.ot_task.specs.Weighing.{region_weight};
+    ghost use Rattle.ot_depend.specs.Kept.{LetsTheSame, WaitForLess};
+    ghost use Rattle.ot_task.specs.Pieces.{leading, behind, test_of, awake, begun, Runs, group_passed, is_at_end};
 
     /// The root task at the beginning of the program's body. It takes no memory.
     pub fn root(alloc: Global, body: Arc<Vec<Part>>) -> Task

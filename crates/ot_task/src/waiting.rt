@@ -1,6 +1,6 @@
 ghost use Rattle.std.specs.Prelude.{◌≡◌, List, Some, not, IfOk, option_map};
 ghost use Rattle.ot_depend.specs.Siblings.{Sibling};
-ghost use Rattle.ot_task.specs.Waits.{is_held};
+ghost use Rattle.ot_task.specs.Regions.{is_held};
 ghost use Rattle.ot_task.specs.RegionView.{waiting_of, KnowsFree};
 
 use ot_depend::Siblings;

@@ -2,13 +2,10 @@
 use Rattle.std.proofs.Common.{◌≡◌, ◌≢◌, ◌+◌, ◌-◌, ◌/◌, ◌%◌, ◌<◌, ◌≤◌, ℕ, [], ◌∷◌, ◌++◌, length, map, refl, sym, ap, subst, ◌∙◌, ◌⊎◌, inl, inr, arith}
 use Rattle.std.specs.Prelude.{true, false, if◌then◌else◌, nat_lt, Some}
 use Rattle.std.proofs.lemmas.Bool.{cases_eq}
-use Rattle.ot_model.specs.Tree.{E, S, Set, Fold, If, Task, Wait, Group, Body, End, Next}
-use Rattle.ot_model.specs.Counts.{size, size_one}
-use Rattle.ot_model.specs.Value.{cells_named}
+use Rattle.ot_model.specs.Tree.{E, S, Set, Fold, If, Task, Wait, Group, Body, End, Next, size, size_one, cells_named}
 use Rattle.ot_model.specs.Serial.{State, bump, either}
 use Rattle.ot_model.specs.declared.stmt.Mode.TheVariants.{Reads, Writes}
-use Rattle.ot_check.specs.Paths.{use_as}
-use Rattle.ot_check.specs.Offences.{Declared}
+use Rattle.ot_check.specs.Offences.{use_as, Declared}
 use Rattle.ot_race.specs.Events.{Way, event, Touches, Begins, Leaves, events, events_one, after, after_one}
 use Rattle.ot_ways.specs.Ways.{way_by, ways, ways_one, turn, turns, turns_one}
 use Rattle.ot_ways.specs.Numbered.{events_on, events_on_one, tasks_on, tasks_on_one, turns_on, turns_on_one}

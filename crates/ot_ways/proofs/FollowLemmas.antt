@@ -4,17 +4,14 @@ use Rattle.std.specs.Prelude.{true, false, if◌then◌else◌, nat_lt, Some}
 use Rattle.std.specs.List.{range_with_len}
 use Rattle.std.proofs.lemmas.List.{append_assoc, map-append, length-append}
 use Rattle.std.proofs.lemmas.List.FromFn.{map-range_with_len_more}
-use Rattle.ot_model.specs.Tree.{E, S, Set, Fold, If, Task, Group, Body, Next}
-use Rattle.ot_model.specs.Counts.{size, size_one}
+use Rattle.ot_model.specs.Tree.{E, S, Set, Fold, If, Task, Group, Body, Next, size, size_one, cell_at, cells_named}
 use Rattle.ot_model.specs.Names.{OneNamedIn}
-use Rattle.ot_model.specs.Value.{cell_at, cells_named}
 use Rattle.ot_model.specs.declared.expr.Cell.{Cell}
 use Rattle.ot_model.specs.declared.expr.Section.{Section}
 use Rattle.ot_model.specs.declared.fold.Fold.{Fold as Operation}
 use Rattle.ot_model.specs.declared.stmt.Mode.TheVariants.{Reads, Writes}
 use Rattle.ot_model.specs.declared.stmt.Use.{Use}
-use Rattle.ot_check.specs.Paths.{use_as}
-use Rattle.ot_check.specs.Offences.{Declared}
+use Rattle.ot_check.specs.Offences.{use_as, Declared}
 use Rattle.ot_parts.specs.Modes.{PicksFit}
 use Rattle.ot_parts.proofs.FitLemmas.{value-fits}
 use Rattle.ot_race.specs.Events.{Event, event, Touches, Begins, Leaves}

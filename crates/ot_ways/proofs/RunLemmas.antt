@@ -4,18 +4,15 @@ use Rattle.std.specs.Prelude.{◌==◌, Option, Some, Contains}
 use Rattle.std.proofs.lemmas.Nat.{mod_below}
 use Rattle.std.proofs.lemmas.List.Elements.{Contains-append_left, Contains-append_right, Contains-append_cases}
 use Rattle.std.proofs.lemmas.List.FromFn.{length-map-range_with_len, get_or-map-range_with_len}
-use Rattle.ot_model.specs.Tree.{E, Literal, CellAt, Apply, PickFrom, S, Set, Fold, If, Task, Wait, Group, Body, End, Next}
+use Rattle.ot_model.specs.Tree.{E, Literal, CellAt, Apply, PickFrom, S, Set, Fold, If, Task, Wait, Group, Body, End, Next, size, size_one, val, cell_at, cells_of, cells_named}
 use Rattle.ot_model.specs.Cells.{cell_of}
-use Rattle.ot_model.specs.Counts.{size, size_one}
 use Rattle.ot_model.specs.Names.{NamedIn, OneNamedIn, ValueNamedIn}
-use Rattle.ot_model.specs.Value.{val, cell_at, cells_of, cells_named}
 use Rattle.ot_model.specs.Serial.{State, bump, either}
 use Rattle.ot_model.specs.declared.expr.Cell.{Cell}
 use Rattle.ot_model.specs.declared.expr.Section.{Section}
 use Rattle.ot_model.specs.declared.stmt.Mode.TheVariants.{Reads}
 use Rattle.ot_model.specs.declared.stmt.Use.{Use}
-use Rattle.ot_check.specs.Paths.{use_as}
-use Rattle.ot_check.specs.Offences.{Declared}
+use Rattle.ot_check.specs.Offences.{use_as, Declared}
 use Rattle.ot_race.specs.Events.{Way, event, Begins, Leaves, events, events_one, after, after_one, reads_now, this_way}
 use Rattle.ot_ways.specs.Ways.{way_by}
 use Rattle.ot_ways.proofs.LikeLemmas.{AreLike, like_itself, like_append, like_length, like_if}

@@ -1,15 +1,12 @@
 -- The way through a straight body does what its run does.
 use Rattle.std.proofs.Common.{◌≡◌, ◌∙◌, ◌+◌, ℕ, true, false, ◌&&◌, List, [], ◌∷◌, ◌++◌, length, map, refl, sym, ap, subst, arith}
 use Rattle.std.specs.Prelude.{Option, Some, None}
-use Rattle.ot_model.specs.Tree.{E, Literal, CellAt, Apply, PickFrom, S, Set, Fold, If, Task, Wait, Group, Body, End, Next}
+use Rattle.ot_model.specs.Tree.{E, Literal, CellAt, Apply, PickFrom, S, Set, Fold, If, Task, Wait, Group, Body, End, Next, size_one, cells_named}
 use Rattle.ot_model.specs.Cells.{cell_of}
-use Rattle.ot_model.specs.Counts.{size_one}
-use Rattle.ot_model.specs.Value.{cells_named}
 use Rattle.ot_model.specs.Serial.{State, bump}
 use Rattle.ot_model.specs.declared.expr.Cell.{Cell}
 use Rattle.ot_model.specs.declared.stmt.Mode.TheVariants.{Reads, Writes}
-use Rattle.ot_check.specs.Paths.{use_as}
-use Rattle.ot_check.specs.Offences.{Declared}
+use Rattle.ot_check.specs.Offences.{use_as, Declared}
 use Rattle.ot_race.specs.Events.{event, Touches, Begins, Leaves, fold_as, events, events_one, events_of, beginning, after, after_one, reads_now, this_way}
 use Rattle.ot_race.specs.Races.{NothingRaces}
 use Rattle.ot_corder.specs.Orders.{ordered_by}

@@ -3,8 +3,7 @@ use Rattle.std.proofs.Common.{◌≡◌, ◌<◌, ◌≤◌, ◌*◌, ℕ, Bool,
 use Rattle.std.specs.Prelude.{None, min, nat_lt, nat_le}
 use Rattle.std.proofs.lemmas.Bool.Decides.{nat_tests}
 use Rattle.std.proofs.Math.Nat.{le-mul_of_pos_right}
-use Rattle.ot_model.specs.Tree.{Body}
-use Rattle.ot_model.specs.Counts.{size}
+use Rattle.ot_model.specs.Tree.{Body, size}
 use Rattle.ot_race.specs.Events.{Event, beginning}
 use Rattle.ot_race.specs.Races.{NothingRaces, IsFirstRace}
 use Rattle.ot_race.specs.declared.race.Race.{Race}

@@ -1,9 +1,8 @@
 -- Laws of ways.
 use Rattle.std.specs.Prelude.{◌≡◌, ℕ, List, true}
-use Rattle.ot_model.specs.Tree.{Body}
+use Rattle.ot_model.specs.Tree.{Body, val}
 use Rattle.ot_model.specs.Cells.{cell_of, lengths}
 use Rattle.ot_model.specs.Names.{NamedIn}
-use Rattle.ot_model.specs.Value.{val}
 use Rattle.ot_model.specs.declared.expr.Cell.{Cell}
 use Rattle.ot_corder.specs.Orders.{ordered_by}
 use Rattle.ot_corder.specs.declared.order.Order.{Order}

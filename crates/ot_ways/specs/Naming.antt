@@ -1,8 +1,7 @@
 -- How many cells a statement names, a body: in clauses, and in values, where a pick names each cell of its section. A cell counts as
 -- often as it is named.
 use Rattle.std.specs.Prelude.{ℕ, ◌+◌, length, Some, None}
-use Rattle.ot_model.specs.Tree.{S, Set, Fold, If, Task, Wait, Group, Body, End, Next}
-use Rattle.ot_model.specs.Value.{cells_named}
+use Rattle.ot_model.specs.Tree.{S, Set, Fold, If, Task, Wait, Group, Body, End, Next, cells_named}
 
 abbrev mutual
   pub named_in_one : S → ℕ

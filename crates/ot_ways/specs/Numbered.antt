@@ -1,12 +1,9 @@
 -- The ways through a body by their numbers, from 0: the events and the turns of way n, and the tasks that it creates. For this
 -- crate alone.
 use Rattle.std.specs.Prelude.{ℕ, ◌+◌, ◌-◌, ◌/◌, ◌%◌, ◌++◌, nat_lt, if◌then◌else◌, length, true, false, List, [], ◌∷◌, map, Some}
-use Rattle.ot_model.specs.Tree.{S, Set, Fold, If, Task, Wait, Group, Body, End, Next}
-use Rattle.ot_model.specs.Value.{cells_named}
-use Rattle.ot_model.specs.Counts.{size, size_one}
+use Rattle.ot_model.specs.Tree.{S, Set, Fold, If, Task, Wait, Group, Body, End, Next, size, size_one, cells_named}
 use Rattle.ot_model.specs.declared.stmt.Mode.TheVariants.{Reads, Writes}
-use Rattle.ot_check.specs.Paths.{use_as}
-use Rattle.ot_check.specs.Offences.{Declared}
+use Rattle.ot_check.specs.Offences.{use_as, Declared}
 use Rattle.ot_race.specs.Events.{Event, event, Touches, Begins, Awaits, Leaves, fold_as}
 use Rattle.ot_ways.specs.Ways.{ways, ways_one, turn}
 use Rattle.ot_ways.specs.declared.verdict.Turn.{Turn}

@@ -1,7 +1,6 @@
 -- What a judge of all ways tells.
 use Rattle.std.specs.Prelude.{◌≡◌, ◌≤◌, ◌*◌, ℕ, List}
-use Rattle.ot_model.specs.Tree.{E, Body}
-use Rattle.ot_model.specs.Counts.{size}
+use Rattle.ot_model.specs.Tree.{E, Body, size}
 use Rattle.ot_model.specs.Serial.{State}
 use Rattle.ot_corder.specs.Orders.{ordered_by}
 use Rattle.ot_corder.specs.declared.order.Order.{Order}

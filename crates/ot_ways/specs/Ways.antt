@@ -1,8 +1,6 @@
 -- All ways through a program: on each, an `if` takes either of its bodies.
 use Rattle.std.specs.Prelude.{ℕ, ◌+◌, ◌*◌, ◌++◌, Bool, true, false, List, [], ◌∷◌}
-use Rattle.ot_model.specs.Tree.{E, S, Set, Fold, If, Task, Wait, Group, Body, End, Next}
-use Rattle.ot_model.specs.Value.{cells_named}
-use Rattle.ot_model.specs.Counts.{size, size_one}
+use Rattle.ot_model.specs.Tree.{E, S, Set, Fold, If, Task, Wait, Group, Body, End, Next, size, size_one, cells_named}
 use Rattle.ot_model.specs.Serial.{State, bump, either}
 use Rattle.ot_race.specs.Events.{Way, after_one}
 use Rattle.ot_ways.specs.declared.verdict.Turn.{Turn}

@@ -1,7 +1,7 @@
 //! How many statements there are, and how many ways through them.
 ghost use Rattle.std.specs.Prelude.{◌≡◌, ◌<◌, ◌^◌, min};
 ghost use Rattle.ot_model.specs.View.{stmt_of, stmts_of};
-ghost use Rattle.ot_model.specs.Counts.{size, size_one};
+ghost use Rattle.ot_model.specs.Tree.{size, size_one};
 ghost use Rattle.ot_ways.specs.Ways.{ways, ways_one};
 
 use ot_model::Stmt;

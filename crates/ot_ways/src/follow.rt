@@ -1,9 +1,9 @@
 //! The events on the way that has a number.
-ghost use Rattle.std.specs.Prelude.{◌≡◌, ◌+◌, ◌++◌, ◌≤◌, ◌<◌, ◌^◌, ℕ, List, OnOk, length, option_map};
+ghost use Rattle.std.specs.Prelude.{◌≡◌, ◌+◌, ◌++◌, ◌≤◌, ◌<◌, ◌^◌, ℕ, List, OnOk, length, option_map, [], ◌∷◌};
 ghost use Rattle.ot_model.specs.View.{stmt_of, stmts_of};
-ghost use Rattle.ot_model.specs.Counts.{size, size_one, tasks_in, tasks_in_one};
+ghost use Rattle.ot_model.specs.Tree.{size, size_one, tasks_in, tasks_in_one};
 ghost use Rattle.ot_model.specs.Names.{NamedIn, OneNamedIn};
-ghost use Rattle.ot_race.specs.View.{events_in};
+ghost use Rattle.ot_race.specs.View.{events_in, deed_of};
 ghost use Rattle.ot_ways.specs.Ways.{ways, ways_one};
 ghost use Rattle.ot_ways.specs.Numbered.{events_on, events_on_one, tasks_on, tasks_on_one, turns_on, turns_on_one};
 
@@ -129,9 +129,7 @@ fn follow_one<'a>(
     }
 }
 
-ghost use Rattle.std.specs.Prelude.{[], ◌∷◌};
 ghost use Rattle.ot_race.specs.Events.{event};
-ghost use Rattle.ot_race.specs.View.{deed_of};
 
 /// Notes an event.
 fn put<'a>(

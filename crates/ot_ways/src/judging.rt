@@ -1,8 +1,8 @@
 //! The judge of all ways.
-ghost use Rattle.std.specs.Prelude.{ℕ, List, IfOk};
+ghost use Rattle.std.specs.Prelude.{ℕ, List, IfOk, ◌≡◌, ◌<◌, ◌*◌, ◌^◌, ◌&&◌, nat_lt, nat_le, MatchOption, None, length};
 ghost use Rattle.ot_model.specs.View.{stmts_of};
 ghost use Rattle.ot_model.specs.Names.{NamedIn};
-ghost use Rattle.ot_ways.specs.Verdicts.{Tells};
+ghost use Rattle.ot_ways.specs.Verdicts.{Tells, AreFew};
 
 use crate::extent::{MANY, extent_all};
 use crate::follow::{Owner, Trail, follow_all};
@@ -30,10 +30,8 @@ pub fn any_way(alloc: Global, order: Order, program: &Program) -> Result<Verdict
     }
 }
 
-ghost use Rattle.std.specs.Prelude.{◌≡◌, ◌<◌, ◌*◌, ◌^◌, ◌&&◌, nat_lt, nat_le, MatchOption};
-ghost use Rattle.ot_model.specs.Counts.{size};
+ghost use Rattle.ot_model.specs.Tree.{size};
 ghost use Rattle.ot_ways.specs.Ways.{ways};
-ghost use Rattle.ot_ways.specs.Verdicts.{AreFew};
 
 /// The number of ways through a body, where they are judged.
 fn few_ways(body: &Vec<Stmt>) -> Option<u32>
@@ -91,7 +89,6 @@ fn judge_ways(
     Ok(Verdict::RacesOnNoWay)
 }
 
-ghost use Rattle.std.specs.Prelude.{None, length};
 ghost use Rattle.ot_race.specs.View.{events_in};
 ghost use Rattle.ot_ways.specs.Numbered.{events_on, turns_on};
 

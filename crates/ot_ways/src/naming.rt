@@ -1,7 +1,7 @@
 //! How many cells are named.
-ghost use Rattle.std.specs.Prelude.{◌≡◌, min, length};
+ghost use Rattle.std.specs.Prelude.{◌≡◌, min, length, ◌+◌, ◌≤◌};
 ghost use Rattle.ot_model.specs.View.{expr_of, stmt_of, stmts_of};
-ghost use Rattle.ot_model.specs.Value.{cells_named};
+ghost use Rattle.ot_model.specs.Tree.{cells_named};
 ghost use Rattle.ot_ways.specs.Naming.{named_in, named_in_one};
 
 use ot_model::{Expr, Stmt};
@@ -46,8 +46,6 @@ fn named_by(expr: &Expr) -> u32
         Expr::Pick(section, chosen) => both(few(section.len as usize), named_by(chosen)),
     }
 }
-
-ghost use Rattle.std.specs.Prelude.{◌+◌, ◌≤◌};
 
 /// So many and so many.
 fn both(one: u32, other: u32) -> u32

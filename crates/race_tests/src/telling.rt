@@ -1,6 +1,6 @@
 //! What is told of programs that stand in lines.
 ghost use Rattle.std.specs.Prelude.{◌≡◌, ◌∷◌, []};
-ghost use Rattle.ot_model.specs.Shapes.{array_lengths};
+ghost use Rattle.ot_model.specs.Programs.{array_lengths};
 
 use ot_corder::Order;
 use ot_model::{Cells, Shape};

@@ -2,8 +2,7 @@
 #![tactic(auto)]
 
 ghost use Rattle.std.specs.Prelude.{◌≡◌, ◌∷◌, [], IfOk};
-ghost use Rattle.ot_model.specs.Shapes.{array_lengths};
-ghost use Rattle.ot_model.specs.Programs.{expanded_of, IsNamedIn};
+ghost use Rattle.ot_model.specs.Programs.{array_lengths, expanded_of, IsNamedIn};
 
 use ot_check::{JobSpec, check};
 use ot_model::{ArrayShape, Cells, Program, Shape};

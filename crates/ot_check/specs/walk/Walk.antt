@@ -1,8 +1,7 @@
 -- The offences of a body in one walk, which carries the children that may be unawaited.
 use Rattle.std.specs.Prelude.{ℕ, ◌+◌, Bool, true, false, if◌then◌else◌, List, Option, Some, None}
 use Rattle.std.specs.Option.{option_or}
-use Rattle.ot_model.specs.Tree.{S, Set, Fold, If, Task, Wait, Group, Body, End, Next}
-use Rattle.ot_model.specs.Counts.{size, size_one}
+use Rattle.ot_model.specs.Tree.{S, Set, Fold, If, Task, Wait, Group, Body, End, Next, size, size_one}
 use Rattle.ot_check.specs.Offences.{Declared, Openings}
 use Rattle.ot_check.specs.Discipline.{Children, anyone, nobody, behind, behind_one, nothing_open, with_group, is_offence}
 use Rattle.ot_check.specs.declared.fault.Offence.{Offence}

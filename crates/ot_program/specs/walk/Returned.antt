@@ -1,6 +1,6 @@
 -- What the functions of the walk return, beside what there is to read.
 use Rattle.ot_model.specs.Tree.{S}
-use Rattle.ot_program.specs.Refusals.{least}
+use Rattle.ot_program.specs.Faults.{least}
 use Rattle.ot_program.specs.declared.counts.Counts.{Counts}
 use Rattle.std.specs.Prelude.{List, Result, Ok, Err, ◌++◌, ⊤, ◌≡◌}
 use Rattle.ot_program.specs.Returned.{Fails}

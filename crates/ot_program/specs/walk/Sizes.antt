@@ -1,15 +1,30 @@
--- Sizes: numbers, variables and operations, each part of them exact and from 0 to 2^32 - 1.
+-- Variables: the names that the `for`s around a statement bind.
 use Rattle.ot_program.specs.Limits.{max_depth, size_depth}
-use Rattle.ot_program.specs.Meanings.{Bindings}
-use Rattle.ot_program.specs.Names.{whole_number}
+use Rattle.ot_program.specs.Meanings.{Bindings, whole_number, bound, is_name}
 use Rattle.ot_program.specs.walk.Reading.{◌>>=◌, both_of}
-use Rattle.ot_program.specs.walk.Variables.{variable_of}
 use Rattle.ot_program.specs.declared.fault.Refusal.TheVariants.{Form, Size, TooLarge}
 use Rattle.ot_program.specs.declared.fault.Refusal.{Refusal}
 use Rattle.ot_program.specs.declared.size.Sign.TheVariants.{Minus, Plus, Times}
 use Rattle.ot_program.specs.declared.size.Sign.{Sign}
 use Rattle.serde_json.specs.Data.{Data, array, no_items, item, number, string}
-use Rattle.std.specs.Prelude.{ℕ, List, bytes_eq, codes, Option, Some, None, Result, Ok, Err, if◌then◌else◌, ◌+◌, nat_lt, nat_le, ◌-◌, ◌^◌, ⊤, ◌*◌}
+use Rattle.std.specs.Prelude.{ℕ, List, bytes_eq, codes, Option, Some, None, Result, Ok, Err, if◌then◌else◌, ◌+◌, nat_lt, nat_le, ◌-◌, ◌^◌, ⊤, ◌*◌, [], ◌∷◌}
+use Rattle.ot_program.specs.declared.scope.Variables.{Variables}
+use Rattle.ot_program.specs.declared.scope.Variables.TheVariants as v
+
+abbrev pub known_number : Option ℕ → Result ℕ Refusal
+known_number None = Err Size
+known_number (Some n) = Ok n
+
+-- a variable that some `for` around binds
+abbrev pub variable_of : Bindings → List ℕ → Result ℕ Refusal
+variable_of variables name = if is_name name then known_number (bound variables name) else Err Form
+
+-- what the code's chain of variables stands for
+abbrev pub bindings_of : Variables → Bindings
+bindings_of v.None = []
+bindings_of (v.Bound' variable p outer) = (variable.name.now, variable.number) ∷ bindings_of outer
+
+-- Sizes: numbers, variables and operations, each part of them exact and from 0 to 2^32 - 1.
 
 abbrev pub sign_named : List ℕ → Option Sign
 sign_named s =

@@ -1,16 +1,13 @@
 -- Statements and bodies, in expanded order.
-use Rattle.ot_model.specs.Shapes.{Arrays}
-use Rattle.ot_model.specs.Tree.{E, S, Set, Fold, If, Task, Wait, Group, body_of, Body}
+use Rattle.ot_model.specs.Programs.{Arrays, Expanded}
+use Rattle.ot_model.specs.Tree.{E, S, Set, Fold, If, Task, Wait, Group, body_of, Body, cells_of}
 use Rattle.ot_model.specs.declared.expr.Cell.{Cell}
 use Rattle.ot_model.specs.declared.fold.Fold.{Fold as Operation}
 use Rattle.ot_model.specs.declared.fold.Fold.TheVariants.{Plus}
 use Rattle.ot_model.specs.declared.stmt.Use.{Use}
-use Rattle.ot_model.specs.Value.{cells_of}
 use Rattle.ot_program.specs.Limits.{cells_in}
-use Rattle.ot_program.specs.Meanings.{Bindings, fold_of}
-use Rattle.ot_program.specs.Names.{is_name, is_word}
-use Rattle.ot_program.specs.Profiles.{is_one, is_two}
-use Rattle.ot_program.specs.walk.Parts.{cell_of, sections_of}
+use Rattle.ot_program.specs.Meanings.{Bindings, fold_of, is_name, is_word, is_one, is_two, profile_of}
+use Rattle.ot_program.specs.walk.Parts.{cell_of, sections_of, expression_of, clauses_of, wait_clauses_of, declaration}
 use Rattle.ot_program.specs.walk.Reading.{◌>>=◌, both_of}
 use Rattle.ot_program.specs.walk.Sizes.{size_of, shallow}
 use Rattle.ot_program.specs.declared.counts.Counts.{Counts}
@@ -19,9 +16,8 @@ use Rattle.ot_program.specs.declared.fault.Refusal.{Refusal}
 use Rattle.ot_program.specs.declared.profile.Profile.{Profile}
 use Rattle.serde_json.specs.Data.{Data, array, no_items, item, string, Items}
 use Rattle.std.specs.Prelude.{[], ℕ, List, ◌∷◌, Option, Some, None, Result, Ok, Err, ◌&&◌, if◌then◌else◌, suc, ◌+◌, codes, zero, ◌++◌, map, flat_map, ◌-◌, ⊤}
-use Rattle.ot_program.specs.walk.Counting.{counted, within_limits, with_expression, one_turn, one_task, deeper}
-use Rattle.ot_program.specs.walk.Values.{expression_of}
-use Rattle.ot_program.specs.walk.Clauses.{clauses_of, wait_clauses_of, declaration}
+use Rattle.ot_program.specs.walk.Counting.{counted, within_limits, with_expression, one_turn, one_task, deeper, no_counts}
+use Rattle.ot_model.specs.declared.expr.Section.{Section}
 
 -- statements that were read, and the counts after them
 abbrev pub Read : Type 0
@@ -212,3 +208,37 @@ unfoldable mutual
       then for_in variables (range_of variables level a b c d) (body_in shape profile (level + 1) d)
       else refused Form
   one_in shape profile level _ variables = refused Form
+
+-- Programs: the own form with what is shown, and then the body.
+
+-- The program's own form with its shows is one statement before all others, and then come those of
+-- its body, which is at the first level. No variable is bound there.
+abbrev pub shows_of : Arrays → Data → Data → Result (List Section × Counts) Refusal
+shows_of shape shows body = do
+  p ← both_of (sections_of shape [] shows) (list_of body)
+  n ← within_limits (counted no_counts 0 0 (cells_in p.0))
+  Ok (p.0, n)
+
+abbrev pub expanded : List Section → List S × Counts → Expanded
+expanded shows read =
+    record { shows = shows; body = body_of read.0; statements = read.1.statements; tasks = read.1.tasks }
+
+-- the program's body is at the first level
+abbrev pub first_level : ℕ
+first_level = 1
+
+abbrev pub program_at : Arrays → Profile → Data → Data → Result Expanded Refusal
+program_at shape profile shows body = do
+  p ← shows_of shape shows body
+  read ← body_in shape profile first_level body [] p.1
+  Ok (expanded p.0 read)
+
+abbrev pub walk_in : Arrays → Option Profile → Data → Data → Result Expanded Refusal
+walk_in shape None shows body = Err Form
+walk_in shape (Some profile) shows body = program_at shape profile shows body
+
+-- What a text is as a program over a shape: its expansion, or why it is refused. It has the form
+-- `["program", [section, ..], body]` or `["program2", [section, ..], body]`.
+abbrev pub walk_of : Arrays → Data → Result Expanded Refusal
+walk_of shape (array (item t (item a (item b no_items)))) = walk_in shape (profile_of t) a b
+walk_of shape _ = Err Form

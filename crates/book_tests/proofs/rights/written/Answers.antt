@@ -2,9 +2,8 @@ use Rattle.std.proofs.Common.{◌≡◌, ◌≢◌, sym, subst, List, [], ◌∷
 use Rattle.ot_model.specs.declared.expr.Cell.{Cell}
 use Rattle.ot_model.specs.declared.stmt.Mode.TheVariants.{Reads, Writes}
 use Rattle.ot_owner.specs.declared.lent.LentCell.{LentCell}
-use Rattle.ot_owner.specs.Leases.{Lease, copy_of}
+use Rattle.ot_owner.specs.Lending.{Lease, copy_of, MayChange}
 use Rattle.ot_owner.specs.Owning.{Loan, loan_of}
-use Rattle.ot_owner.specs.Lending.{MayChange}
 use Rattle.ot_owner.proofs.OutLemmas.{contains_begun}
 use Rattle.book_tests.proofs.rights.written.Goals as goal
 

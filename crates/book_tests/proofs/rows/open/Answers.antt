@@ -1,8 +1,7 @@
 use Rattle.std.proofs.Common.{◌≡◌, ◌≢◌, ◌∙◌, ◌∷◌, [], ◌++◌, ap, sym, subst}
 use Rattle.std.specs.Prelude.{All, None, replicate}
 use Rattle.ot_model.specs.declared.expr.Cell.{Cell}
-use Rattle.ot_owner.specs.Owning.{Owned, IsFreeFor}
-use Rattle.ot_owner.specs.Rows.{Summed, IsSummed}
+use Rattle.ot_owner.specs.Owning.{Owned, IsFreeFor, Summed, IsSummed}
 use Rattle.book_tests.specs.TwoGroups.{nth}
 use Rattle.book_tests.proofs.TwoLemmas.{none-free, only-one, over-opened}
 use Rattle.book_tests.proofs.rows.open.Goals as goal

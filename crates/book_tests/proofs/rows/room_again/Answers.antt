@@ -1,6 +1,6 @@
 use Rattle.std.proofs.Common.{◌↔◌, ◌∷◌, [], subst, IfOk, Contains}
 use Rattle.ot_model.specs.declared.expr.Cell.{Cell}
-use Rattle.ot_owner.specs.Rows.{IsNamed}
+use Rattle.ot_owner.specs.Owning.{IsNamed}
 use Rattle.book_tests.proofs.rows.room_again.Goals as goal
 
 pub returns-in-Ok-clause-names : goal.returns-in-Ok-clause-names

@@ -1,7 +1,6 @@
 use Rattle.std.proofs.Common.{◌≡◌, ◌≤◌, Bool, length}
-use Rattle.ot_ask.specs.Asking.{Talk, asked_of, ways}
+use Rattle.ot_ask.specs.Asking.{Talk, asked_of, ways, tally_of}
 use Rattle.ot_ask.specs.Streams.{outgoing}
-use Rattle.ot_ask.specs.Tallies.{tally_of}
 use Rattle.ot_ask.proofs.TallyLemmas.{Calm}
 use Rattle.ot_ask.proofs.asking.converse.Given as goal
 

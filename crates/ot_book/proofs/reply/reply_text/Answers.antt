@@ -3,7 +3,7 @@ use Rattle.std.specs.Prelude.{IfOk}
 use Rattle.std.specs.String.{string_vec}
 use Rattle.json.specs.Print.{print}
 use Rattle.serde_json.proofs.Texts.{print-outline}
-use Rattle.ot_book.specs.Replies.{json_of}
+use Rattle.ot_book.specs.Answers.{json_of}
 use Rattle.ot_book.specs.ReplyView.{told_of}
 use Rattle.ot_book.specs.Pieces.{tokens_of}
 use Rattle.ot_book.proofs.reply.reply_text.Goals as goal

@@ -2,9 +2,9 @@ use Rattle.std.proofs.Common.{◌∷◌, ◌++◌, ◌∙◌, List, map, ap, sym
 use Rattle.std.proofs.lemmas.List.{take_all}
 use Rattle.std.proofs.lemmas.Simd.{map-map}
 use Rattle.json.specs.Token.{begin_array}
-use Rattle.ot_model.specs.ShapeView.{arrays_of}
+use Rattle.ot_model.specs.Programs.{arrays_of}
 use Rattle.ot_model.specs.declared.shape.ArrayShape.{ArrayShape}
-use Rattle.ot_book.specs.Replies.{sized}
+use Rattle.ot_book.specs.Answers.{sized}
 use Rattle.ot_book.specs.Pieces.{tokens_of_all}
 use Rattle.ot_book.proofs.RepliesLemmas.{written-end, on_ok-map}
 use Rattle.ot_book.proofs.reply.write_arrays.Goals as goal

@@ -1,6 +1,6 @@
 use Rattle.std.proofs.Common.{◌≡◌, ◌∷◌, ◌++◌, map, take, string_bytes}
 use Rattle.json.specs.Token.{begin_array}
-use Rattle.ot_book.specs.Replies.{sized}
+use Rattle.ot_book.specs.Answers.{sized}
 use Rattle.ot_book.specs.Pieces.{tokens_of_all}
 use Rattle.ot_book.proofs.reply.write_arrays.Given as goal
 

@@ -1,6 +1,6 @@
 use Rattle.std.proofs.Common.{◌≡◌, ◌∷◌, ◌++◌, map, take}
 use Rattle.json.specs.Token.{begin_array, string}
-use Rattle.ot_book.specs.Replies.{nat}
+use Rattle.ot_book.specs.Answers.{nat}
 use Rattle.ot_book.specs.Pieces.{tokens_of_all}
 use Rattle.ot_book.proofs.reply.write_front.Given as goal
 

@@ -1,6 +1,6 @@
 use Rattle.std.proofs.Common.{◌∷◌, map}
 use Rattle.serde_json.specs.Data.{string}
-use Rattle.ot_book.specs.Replies.{nat}
+use Rattle.ot_book.specs.Answers.{nat}
 use Rattle.ot_book.proofs.RepliesLemmas.{written-end, on_ok-map}
 use Rattle.ot_book.proofs.reply.write_list.Goals as goal
 

@@ -3,7 +3,7 @@ use Rattle.std.proofs.lemmas.List.{take_all}
 use Rattle.std.proofs.lemmas.Simd.{map-map}
 use Rattle.std.specs.Global.{Vec}
 use Rattle.json.specs.Token.{begin_array}
-use Rattle.ot_book.specs.Replies.{nats}
+use Rattle.ot_book.specs.Answers.{nats}
 use Rattle.ot_book.specs.Pieces.{tokens_of_all}
 use Rattle.ot_book.proofs.RepliesLemmas.{written-end, on_ok-map}
 use Rattle.ot_book.proofs.reply.write_shows.Goals as goal

@@ -7,8 +7,7 @@ use Rattle.ot_book.specs.Answers.{Runs, started}
 use Rattle.ot_book.specs.Faults.{told_by_check}
 use Rattle.ot_book.specs.Considering.{ComesToAnswer}
 use Rattle.ot_book.proofs.JudgedLemmas.{started-runs, started-fails, error-holds}
-use Rattle.ot_model.specs.Programs.{expanded_of, IsNamedIn}
-use Rattle.ot_model.specs.Shapes.{array_lengths}
+use Rattle.ot_model.specs.Programs.{expanded_of, IsNamedIn, array_lengths}
 use Rattle.ot_model.specs.Cells.{lengths}
 use Rattle.ot_store.proofs.ArraysLemmas.{array_lengths-shape_in}
 use Rattle.ot_book.proofs.step.start.Goals as goal

@@ -1,6 +1,6 @@
 use Rattle.std.proofs.Common.{◌≡◌, ◌++◌, drop}
-use Rattle.ot_model.specs.ShapeView.{arrays_of}
-use Rattle.ot_c.specs.Arrays.{arrays_in_c}
+use Rattle.ot_model.specs.Programs.{arrays_of}
+use Rattle.ot_c.specs.Programs.{arrays_in_c}
 use Rattle.ot_c.proofs.array.arrays_in_c.Given as goal
 
 -- those that are left follow

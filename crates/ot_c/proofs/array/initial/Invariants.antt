@@ -1,6 +1,6 @@
 use Rattle.std.proofs.Common.{◌≡◌, ◌++◌, drop}
 use Rattle.std.specs.Prelude.{codes}
-use Rattle.ot_c.specs.Arrays.{further, initial}
+use Rattle.ot_c.specs.Programs.{further, initial}
 use Rattle.ot_c.proofs.array.initial.Given as goal
 
 -- those that are left follow

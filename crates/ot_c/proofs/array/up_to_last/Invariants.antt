@@ -1,5 +1,5 @@
 use Rattle.std.proofs.Common.{◌≡◌, ◌≤◌, length, take}
-use Rattle.ot_c.specs.Arrays.{up_to_last}
+use Rattle.ot_c.specs.Programs.{up_to_last}
 use Rattle.ot_c.proofs.array.up_to_last.Given as goal
 
 -- only zeros were left out

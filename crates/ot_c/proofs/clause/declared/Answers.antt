@@ -6,7 +6,7 @@ use Rattle.ot_model.specs.declared.fold.Fold.TheVariants as f
 use Rattle.ot_model.specs.declared.stmt.Mode.TheVariants as m
 use Rattle.ot_print.specs.Shown.{Text}
 use Rattle.ot_print.proofs.WordLemmas.{grown}
-use Rattle.ot_c.specs.Clauses as written
+use Rattle.ot_c.specs.Statements as written
 use Rattle.ot_c.proofs.clause.declared.Goals as goal
 
 pub returns-clause-text : goal.returns-clause-text

@@ -2,7 +2,7 @@ use denote.Text.{Utf8}
 use denote.Shadow.{shadow}
 use Rattle.std.proofs.Common.{◌≡◌, ◌++◌, drop}
 use Rattle.std.specs.Prelude.{codes}
-use Rattle.ot_c.specs.Clauses.{items}
+use Rattle.ot_c.specs.Statements.{items}
 use Rattle.ot_c.proofs.clause.items.Given as goal
 
 -- those that are left follow

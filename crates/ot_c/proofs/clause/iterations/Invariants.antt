@@ -1,5 +1,5 @@
 use Rattle.std.proofs.Common.{◌≡◌, ◌++◌, drop}
-use Rattle.ot_c.specs.Clauses.{iterations}
+use Rattle.ot_c.specs.Statements.{iterations}
 use Rattle.ot_c.proofs.clause.iterations.Given as goal
 
 -- those that are left follow

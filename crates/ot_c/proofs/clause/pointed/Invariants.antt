@@ -2,7 +2,7 @@ use denote.Text.{Utf8}
 use denote.Shadow.{shadow}
 use Rattle.std.proofs.Common.{◌≡◌, ◌++◌, drop}
 use Rattle.std.specs.Prelude.{codes}
-use Rattle.ot_c.specs.Clauses.{pointed}
+use Rattle.ot_c.specs.Statements.{pointed}
 use Rattle.ot_c.proofs.clause.pointed.Given as goal
 
 -- those that are left follow

@@ -1,7 +1,7 @@
 use denote.Text.{Utf8}
 use denote.Shadow.{shadow}
 use Rattle.std.proofs.Common.{◌≡◌, ◌++◌, ◌+◌, ◌-◌}
-use Rattle.ot_c.specs.Clauses.{row}
+use Rattle.ot_c.specs.Statements.{row}
 use Rattle.ot_c.proofs.clause.row.Given as goal
 
 -- those that are left follow

@@ -1,5 +1,5 @@
 use Rattle.std.proofs.Common.{◌≡◌, ◌++◌, drop}
-use Rattle.ot_c.specs.Clauses.{short}
+use Rattle.ot_c.specs.Statements.{short}
 use Rattle.ot_c.proofs.clause.short.Given as goal
 
 -- those that are left follow

@@ -3,7 +3,7 @@ use Rattle.std.specs.Prelude.{codes}
 use Rattle.std.proofs.lemmas.Result.{on_ok_weaker}
 use Rattle.ot_print.specs.Shown.{Text}
 use Rattle.ot_print.proofs.WordLemmas.{grown}
-use Rattle.ot_c.specs.Clauses as written
+use Rattle.ot_c.specs.Statements as written
 use Rattle.ot_c.proofs.statement.directive.Goals as goal
 
 pub returns-clause-text : goal.returns-clause-text

@@ -1,9 +1,7 @@
 use Rattle.std.proofs.Common.{◌≡◌, ◌++◌, ◌∙◌, map, ap}
 use Rattle.std.specs.Prelude.{codes}
-use Rattle.ot_model.specs.Programs.{expanded_of}
-use Rattle.ot_model.specs.ShapeView.{arrays_of}
-use Rattle.ot_c.specs.Arrays.{arrays_in_c}
-use Rattle.ot_c.specs.Programs.{declared_from, front, lists_of, region}
+use Rattle.ot_model.specs.Programs.{expanded_of, arrays_of}
+use Rattle.ot_c.specs.Programs.{arrays_in_c, declared_from, front, lists_of, region}
 use Rattle.ot_c.proofs.ArrayLemmas.{names_by_arrays}
 use Rattle.ot_c.proofs.whole.c_text.Goals as goal
 

@@ -1,10 +1,8 @@
 use Rattle.std.proofs.Common.{◌≡◌, ◌++◌, ◌||◌, ◌<◌, ◌∷◌, ◌+◌, ◌∙◌, drop, length, min, ap, subst, arith, ◌≤◌}
 use Rattle.std.proofs.lemmas.Result.{on_ok_weaker}
-use Rattle.ot_model.specs.Programs.{expanded_of}
-use Rattle.ot_model.specs.ShapeView.{arrays_of}
-use Rattle.ot_c.specs.Arrays.{any_declared, array_of, declared, declaration, words_if}
+use Rattle.ot_model.specs.Programs.{expanded_of, arrays_of}
+use Rattle.ot_c.specs.Programs.{any_declared, array_of, declared, declaration, words_if, declared_from, lists_of}
 use Rattle.ot_c.specs.Named.{names}
-use Rattle.ot_c.specs.Programs.{declared_from, lists_of}
 use Rattle.ot_c.proofs.DeclaredLemmas.{left, text_step, any_step, none_left, ended, there}
 use Rattle.ot_c.proofs.whole.declarations.Goals as goal
 

@@ -1,9 +1,7 @@
 use Rattle.std.proofs.Common.{◌≡◌, ◌++◌, drop}
 use Rattle.std.specs.Prelude.{◌||◌}
-use Rattle.ot_model.specs.Programs.{expanded_of}
-use Rattle.ot_model.specs.ShapeView.{arrays_of}
-use Rattle.ot_c.specs.Arrays.{any_declared, each_declared}
-use Rattle.ot_c.specs.Programs.{declared_from, lists_of}
+use Rattle.ot_model.specs.Programs.{expanded_of, arrays_of}
+use Rattle.ot_c.specs.Programs.{any_declared, each_declared, declared_from, lists_of}
 use Rattle.ot_c.proofs.whole.declarations.Given as goal
 
 -- those that are left follow

@@ -1,11 +1,10 @@
 use Rattle.std.proofs.Common.{◌≡◌, ◌++◌, ◌∙◌, List}
 use Rattle.std.specs.Prelude.{codes}
 use Rattle.std.proofs.lemmas.Result.{on_ok_weaker}
-use Rattle.ot_model.specs.Programs.{expanded_of}
-use Rattle.ot_model.specs.ShapeView.{arrays_of}
+use Rattle.ot_model.specs.Programs.{expanded_of, arrays_of}
 use Rattle.ot_print.specs.Shown.{Text}
 use Rattle.ot_print.proofs.WordLemmas.{grown}
-use Rattle.ot_c.specs.Arrays as arrays
+use Rattle.ot_c.specs.Programs as arrays
 use Rattle.ot_c.specs.Programs as written
 use Rattle.ot_c.proofs.whole.front.Goals as goal
 

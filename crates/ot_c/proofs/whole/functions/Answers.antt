@@ -4,7 +4,7 @@ use Rattle.ot_model.specs.Programs.{expanded_of}
 use Rattle.ot_model.specs.View.{stmts_of}
 use Rattle.ot_print.specs.Shown.{Text}
 use Rattle.ot_print.proofs.WordLemmas.{grown}
-use Rattle.ot_c.specs.Arrays.{words_if}
+use Rattle.ot_c.specs.Programs.{words_if}
 use Rattle.ot_c.specs.Named.{body_calls}
 use Rattle.ot_c.specs.Programs as written
 use Rattle.ot_c.specs.declared.named.Call.TheVariants as call

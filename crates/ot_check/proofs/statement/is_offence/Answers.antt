@@ -1,12 +1,10 @@
 use Rattle.std.proofs.Common.{rules, ◌≡◌, ap, sym, ◌∙◌}
 use Rattle.std.specs.List.{list_any}
-use Rattle.ot_model.specs.Tree.{Set, Fold, If, Task}
+use Rattle.ot_model.specs.Tree.{Set, Fold, If, Task, cells_named}
 use Rattle.ot_model.specs.View.{stmt_of, stmts_of, expr_of}
 use Rattle.ot_model.specs.declared.stmt.Stmt.{the_lemmas}
 use Rattle.ot_model.specs.declared.stmt.Mode.TheVariants.{Writes, Folds}
-use Rattle.ot_check.specs.Paths.{Touch, use_as}
-use Rattle.ot_check.specs.Offences.{exceeds, misfits}
-use Rattle.ot_model.specs.Value.{cells_named}
+use Rattle.ot_check.specs.Offences.{Touch, use_as, exceeds, misfits}
 use Rattle.ot_check.specs.Discipline.{may_break, is_marked}
 use Rattle.ot_check.specs.walk.States.{is_open}
 use Rattle.ot_check.specs.declared.fault.Offence.TheVariants.{ChildBeyond, ReductionMisuse}

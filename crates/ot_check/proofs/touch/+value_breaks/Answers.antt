@@ -1,12 +1,11 @@
 use Rattle.std.proofs.Common.{Bool, ap, sym, ◌∙◌, map}
 use Rattle.std.specs.List.{list_any, range_with_len}
 use Rattle.ot_model.specs.View.{expr_of}
-use Rattle.ot_model.specs.Value.{cell_at, cells_named}
+use Rattle.ot_model.specs.Tree.{cell_at, cells_named}
 use Rattle.ot_model.specs.declared.expr.Cell.{Cell}
 use Rattle.ot_model.specs.declared.expr.Expr.{Expr}
 use Rattle.ot_model.specs.declared.stmt.Mode.TheVariants.{Reads}
-use Rattle.ot_check.specs.Paths.{Touch, use_as}
-use Rattle.ot_check.specs.Offences.{Declared, Openings}
+use Rattle.ot_check.specs.Offences.{Touch, use_as, Declared, Openings}
 use Rattle.ot_check.specs.Discipline.{Children, may_break}
 use Rattle.ot_check.specs.declared.fault.Offence.{Offence}
 use Rattle.ot_check.proofs.StandingLemmas.{either-then, either-else}

@@ -1,6 +1,6 @@
 use Rattle.std.proofs.Common.{refl}
 use Rattle.ot_model.specs.declared.stmt.Mode.TheVariants.{Reads}
-use Rattle.ot_check.specs.Paths.{Touch, use_as}
+use Rattle.ot_check.specs.Offences.{Touch, use_as}
 use Rattle.ot_check.specs.Discipline.{may_break}
 use Rattle.ot_check.proofs.StandingLemmas.{section-at, section-step, section-none}
 use Rattle.ot_check.proofs.touch.section_breaks.Goals as goal

@@ -1,10 +1,9 @@
 use Rattle.std.proofs.Common.{List, ◌≡◌, false, map}
 use Rattle.std.specs.List.{list_any, range_with_len}
-use Rattle.ot_model.specs.Value.{cell_at}
+use Rattle.ot_model.specs.Tree.{cell_at}
 use Rattle.ot_model.specs.declared.stmt.Mode.TheVariants.{Reads}
 use Rattle.ot_model.specs.declared.stmt.Use.{Use}
-use Rattle.ot_check.specs.Paths.{Touch, use_as}
-use Rattle.ot_check.specs.Offences.{Declared, Openings}
+use Rattle.ot_check.specs.Offences.{Touch, use_as, Declared, Openings}
 use Rattle.ot_check.specs.Discipline.{Children, may_break}
 use Rattle.ot_check.specs.walk.States.{Represents}
 use Rattle.ot_check.proofs.touch.section_breaks.Given as goal

@@ -1,8 +1,7 @@
 use Rattle.std.proofs.Common.{inl, inr, ◌≡◌, ◌+◌, ◌++◌, ◌&&◌, true, Some, drop, refl, sym, ap, subst, ◌∙◌, arith}
 use Rattle.std.specs.Option.{option_or}
 use Rattle.ot_model.specs.View.{expr_of, stmt_of, stmts_of}
-use Rattle.ot_model.specs.Tree.{Set, Fold, If}
-use Rattle.ot_model.specs.Counts.{size, size_one}
+use Rattle.ot_model.specs.Tree.{Set, Fold, If, size, size_one}
 use Rattle.ot_model.specs.Names.{NamedIn}
 use Rattle.ot_check.specs.Discipline.{anyone, behind, behind_one, is_marked, nobody, nothing_open, through, through_one, with_group}
 use Rattle.ot_check.specs.walk.Walk.{ended, first, first_one, first_within, leading, placed}

@@ -1,7 +1,7 @@
 use Rattle.std.proofs.Common.{◌≡◌, ◌+◌, drop}
 use Rattle.std.specs.Prelude.{option_map}
 use Rattle.ot_model.specs.View.{stmts_of}
-use Rattle.ot_model.specs.Counts.{size}
+use Rattle.ot_model.specs.Tree.{size}
 use Rattle.ot_cjudge.specs.Lacks.{found}
 use Rattle.ot_cjudge.specs.Fits.{Fits}
 use Rattle.ot_cjudge.proofs.found.+find.Given as goal

@@ -1,8 +1,7 @@
 use Rattle.std.proofs.Common.{◌≡◌, ap, subst, option_map, unwrap_or}
 use Rattle.serde_json.specs.View.{view}
-use Rattle.ot_fault.specs.Entries.{first_fault}
-use Rattle.ot_fault.specs.First.{shape_of}
-use Rattle.ot_fault.specs.Walk.{found_by}
+use Rattle.ot_fault.specs.Walk.{first_fault, found_by}
+use Rattle.ot_fault.specs.Whys.{shape_of}
 use Rattle.ot_cjudge.specs.Reports.{faulty}
 use Rattle.ot_cjudge.proofs.judging.faulty_entry.Goals as goal
 

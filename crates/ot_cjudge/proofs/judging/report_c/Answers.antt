@@ -1,8 +1,7 @@
 use Rattle.std.proofs.Common.{sym, ap, ◌∙◌}
 use Rattle.serde_json.specs.View.{view}
 use Rattle.ot_model.specs.Cells.{lengths}
-use Rattle.ot_model.specs.Shapes.{Arrays, array_lengths}
-use Rattle.ot_model.specs.ShapeView.{arrays_of}
+use Rattle.ot_model.specs.Programs.{Arrays, array_lengths, arrays_of}
 use Rattle.ot_check.proofs.Cited.{if_ok}
 use Rattle.ot_program.specs.Programs.{program_of}
 use Rattle.ot_cjudge.specs.Reports.{run_of, source_of}

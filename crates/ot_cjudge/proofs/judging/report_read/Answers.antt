@@ -1,7 +1,6 @@
 use Rattle.std.proofs.Common.{sym, subst}
 use Rattle.std.specs.Prelude.{IfOk}
-use Rattle.ot_model.specs.Programs.{IsNamedIn, expanded_of}
-use Rattle.ot_model.specs.Shapes.{array_lengths}
+use Rattle.ot_model.specs.Programs.{IsNamedIn, expanded_of, array_lengths}
 use Rattle.ot_program.specs.Returned.{Gives}
 use Rattle.ot_check.proofs.Cited.{if_ok}
 use Rattle.ot_cjudge.specs.Reports.{ReportsRead}

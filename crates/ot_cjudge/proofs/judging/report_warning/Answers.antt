@@ -1,7 +1,7 @@
 use Rattle.std.proofs.Common.{◌++◌, ap, ◌∙◌}
-use Rattle.ot_model.specs.ShapeView.{arrays_of}
+use Rattle.ot_model.specs.Programs.{arrays_of}
 use Rattle.ot_model.specs.View.{stmts_of}
-use Rattle.ot_check.specs.Codes.{code_of}
+use Rattle.ot_check.specs.Offences.{code_of}
 use Rattle.ot_cjudge.specs.Lacks.{lacks}
 use Rattle.ot_cjudge.specs.Reports.{advice}
 use Rattle.ot_cjudge.specs.Sites.{site_of}

@@ -1,12 +1,11 @@
 use Rattle.std.proofs.Common.{Bool, ap, sym, ◌∙◌, map}
 use Rattle.std.specs.Prelude.{not, find, Option, option_map}
 use Rattle.ot_model.specs.View.{expr_of}
-use Rattle.ot_model.specs.Value.{cells_named, cells_of}
+use Rattle.ot_model.specs.Tree.{cells_named, cells_of}
 use Rattle.ot_model.specs.declared.expr.Expr.{Expr}
 use Rattle.ot_model.specs.declared.stmt.Mode.TheVariants.{Reads}
 use Rattle.ot_model.specs.declared.stmt.Use.{Use}
-use Rattle.ot_check.specs.Paths.{use_as}
-use Rattle.ot_check.specs.Offences.{Declared, allows}
+use Rattle.ot_check.specs.Offences.{use_as, Declared, allows}
 use Rattle.ot_cjudge.proofs.LacksLemmas.{found-in_front, found-behind}
 use Rattle.ot_cjudge.proofs.lacks.+lacks_value.Goals as goal
 

@@ -1,10 +1,9 @@
 use Rattle.std.proofs.Common.{◌≡◌, ◌-◌, map}
 use Rattle.std.specs.Prelude.{not, find, option_map}
 use Rattle.std.specs.List.{range_with_len}
-use Rattle.ot_model.specs.Value.{cell_at, cells_of}
+use Rattle.ot_model.specs.Tree.{cell_at, cells_of}
 use Rattle.ot_model.specs.declared.stmt.Mode.TheVariants.{Reads}
-use Rattle.ot_check.specs.Paths.{use_as}
-use Rattle.ot_check.specs.Offences.{allows}
+use Rattle.ot_check.specs.Offences.{use_as, allows}
 use Rattle.ot_cjudge.proofs.lacks.lacks_section.Given as goal
 
 -- those that are left decide

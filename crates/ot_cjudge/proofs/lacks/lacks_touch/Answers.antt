@@ -1,11 +1,10 @@
 use Rattle.std.proofs.Common.{Bool, ◌∷◌, [], map, sym, ◌∙◌}
 use Rattle.std.specs.Prelude.{not, option_map}
 use Rattle.ot_model.specs.View.{expr_of}
-use Rattle.ot_model.specs.Value.{cells_named}
+use Rattle.ot_model.specs.Tree.{cells_named}
 use Rattle.ot_model.specs.declared.stmt.Mode.TheVariants.{Reads}
 use Rattle.ot_model.specs.declared.stmt.Use.{Use}
-use Rattle.ot_check.specs.Paths.{use_as}
-use Rattle.ot_check.specs.Offences.{Declared, allows}
+use Rattle.ot_check.specs.Offences.{use_as, Declared, allows}
 use Rattle.ot_cjudge.proofs.LacksLemmas.{found-left, found-right}
 use Rattle.ot_cjudge.proofs.lacks.lacks_touch.Goals as goal
 

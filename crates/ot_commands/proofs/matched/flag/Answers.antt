@@ -3,7 +3,7 @@ use Rattle.clap.specs.Matches.{one_text}
 use Rattle.clap.specs.Walk.{Text}
 use Rattle.clap.specs.Words.{found_of, one_of, rows_of}
 use Rattle.clap.proofs.WalkLemmas.{one_text-rows}
-use Rattle.ot_commands.specs.Matched.{IsSaid}
+use Rattle.ot_commands.specs.Rules.{IsSaid}
 use Rattle.ot_commands.proofs.matched.flag.Goals as goal
 
 pub returns : goal.returns

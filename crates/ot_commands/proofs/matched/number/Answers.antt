@@ -1,7 +1,7 @@
 use Rattle.std.proofs.Common.{subst, sym, arith}
 use Rattle.std.specs.Str.Parse.{ParsesUnsigned, ExplainsUnsignedError, HasUnsignedDigitsIfOk}
 use Rattle.clap.specs.Words.{found_of, one_of, rows_of}
-use Rattle.ot_commands.specs.Matched.{IsRead}
+use Rattle.ot_commands.specs.Rules.{IsRead}
 use Rattle.ot_commands.proofs.Numbers.{IsRead-within}
 use Rattle.ot_commands.proofs.matched.number.Goals as goal
 

@@ -1,6 +1,6 @@
 use Rattle.std.proofs.Common.{◌∙◌, sym, ap, subst}
 use Rattle.std.proofs.lemmas.List.{take_all}
-use Rattle.ot_model.specs.Uses.{AreInOrder}
+use Rattle.ot_model.specs.Cells.{AreInOrder}
 use Rattle.ot_corder.specs.Orders.{depend_of}
 use Rattle.ot_corder.proofs.DependLemmas.{depend_in_order}
 use Rattle.ot_corder.proofs.depends.depend_of.Goals as goal

@@ -3,8 +3,7 @@ use Rattle.std.specs.Prelude.{All}
 use Rattle.std.proofs.lemmas.List.{map-append}
 use Rattle.std.proofs.lemmas.List.Elements.{All-push}
 use Rattle.ot_book.specs.Books.{new_register}
-use Rattle.ot_core.specs.Accounts.{Account, IsSound}
-use Rattle.ot_core.specs.Asking.{new_account}
+use Rattle.ot_core.specs.Accounts.{Account, IsSound, new_account}
 use Rattle.ot_core.specs.Openings.{opening_of}
 use Rattle.ot_core.proofs.world.open_books.Goals as goal
 

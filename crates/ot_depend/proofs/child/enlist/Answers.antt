@@ -2,8 +2,7 @@ use Rattle.std.proofs.Common.{◌≡◌, ◌||◌, ◌<◌, ◌≤◌, ℕ, Bool
 use mir.Val.{bool_byte}
 use Rattle.std.proofs.lemmas.List.Elements.{All-weaker}
 use Rattle.ot_model.specs.Cells.{updated}
-use Rattle.ot_depend.specs.Kept.{due, enlist, ends_with}
-use Rattle.ot_depend.specs.Numbers.{Admits}
+use Rattle.ot_depend.specs.Kept.{due, enlist, ends_with, Admits}
 use Rattle.ot_depend.specs.Children.{kid_of, kids_of, AdmitsAt}
 use Rattle.ot_depend.proofs.LinkLemmas.{due-enlist}
 use Rattle.ot_depend.proofs.ChildrenLemmas.{kids_of-set, kid_at, enlisted_more, length-enlisted_kids}

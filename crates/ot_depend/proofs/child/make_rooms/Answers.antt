@@ -1,7 +1,7 @@
 use Rattle.std.proofs.Common.{◌≡◌, ◌<◌, ℕ, List, length, get_or, set, take, All, false, subst, ◌∙◌, arith}
 use Rattle.std.proofs.lemmas.List.{take_all}
 use Rattle.std.proofs.lemmas.List.Elements.{All-more, All-weaker}
-use Rattle.ot_depend.specs.Numbers.{HasRoom}
+use Rattle.ot_depend.specs.Kept.{HasRoom}
 use Rattle.ot_depend.specs.Children.{HasRoomAt}
 use Rattle.ot_depend.specs.declared.child.Child.{Child}
 use Rattle.ot_depend.proofs.ChildrenLemmas.{kids_of-set-same, same_count}

@@ -1,7 +1,7 @@
 use Rattle.std.proofs.Common.{◌≡◌, drop}
 use Rattle.std.specs.List.{list_any}
 use Rattle.ot_depend.specs.Children.{kids_of}
-use Rattle.ot_depend.specs.Waits.{is_pending}
+use Rattle.ot_depend.specs.Cells.{is_pending}
 use Rattle.ot_depend.proofs.child.some_pending.Given as goal
 
 -- what is left decides

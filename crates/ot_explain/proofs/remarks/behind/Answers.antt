@@ -1,5 +1,5 @@
 use Rattle.std.proofs.Common.{◌∙◌, ◌^◌, ◌<◌, sym, ap, subst}
-use Rattle.ot_model.specs.Shapes.{Arrays}
+use Rattle.ot_model.specs.Programs.{Arrays}
 use Rattle.ot_reason.specs.Faults.{cells_of}
 use Rattle.ot_reason.proofs.DueLemmas.{same_cells}
 use Rattle.ot_explain.proofs.remarks.behind.Goals as goal

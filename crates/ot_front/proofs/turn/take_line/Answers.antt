@@ -1,6 +1,6 @@
 use Rattle.std.proofs.Common.{sym, ◌∙◌, subst}
 use Rattle.std.specs.Io.KnownBytes.{Appends}
-use Rattle.ot_front.specs.Device.{AppendsFront}
+use Rattle.ot_front.specs.Serving.{AppendsFront}
 use Rattle.ot_front.proofs.ToldLemmas.{some-taken}
 use Rattle.ot_front.proofs.SessionLemmas.{stops_bye, stops_memory, offered_full, offered_full_cut, offered_taken, offered_closed, offered_stranger}
 use Rattle.ot_front.proofs.turn.take_line.Goals as goal

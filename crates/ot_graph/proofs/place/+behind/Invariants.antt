@@ -1,6 +1,6 @@
 use Rattle.std.proofs.Common.{◌≡◌, ◌+◌, drop}
 use Rattle.ot_model.specs.View.{stmts_of}
-use Rattle.ot_model.specs.Counts.{size}
+use Rattle.ot_model.specs.Tree.{size}
 use Rattle.ot_graph.proofs.place.+behind.Given as goal
 
 -- what is left of the body ends where the whole body does

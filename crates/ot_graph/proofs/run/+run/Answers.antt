@@ -1,6 +1,6 @@
 use Rattle.std.proofs.Common.{◌≡◌, ◌∙◌, ap, rules}
 use Rattle.ot_model.specs.View.{expr_of}
-use Rattle.ot_model.specs.Value.{val}
+use Rattle.ot_model.specs.Tree.{val}
 use Rattle.ot_model.specs.Joining.{join_by}
 use Rattle.ot_model.specs.Cells.{cell_of, with_cell}
 use Rattle.ot_model.specs.declared.stmt.Stmt.{the_lemmas}

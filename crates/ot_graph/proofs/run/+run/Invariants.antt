@@ -1,14 +1,11 @@
 use Rattle.std.proofs.Common.{◌≡◌, ◌+◌, ◌++◌, ◌≤◌, drop}
 use Rattle.ot_model.specs.View.{stmts_of}
-use Rattle.ot_model.specs.Counts.{size, tasks_in}
-use Rattle.ot_model.specs.Serial.{serial}
+use Rattle.ot_model.specs.Tree.{size, tasks_in}
+use Rattle.ot_model.specs.Serial.{serial, state_of}
 use Rattle.ot_model.specs.Names.{NamedIn}
 use Rattle.ot_model.specs.Cells.{lengths}
-use Rattle.ot_model.specs.Runs.{state_of}
-use Rattle.ot_graph.specs.Families.{children_in, inside}
-use Rattle.ot_graph.specs.Passing.{passes, unawaited}
-use Rattle.ot_graph.specs.Children.{all_of}
-use Rattle.ot_graph.specs.Graphs.{families_of, marks_of}
+use Rattle.ot_graph.specs.Passing.{children_in, inside, passes, unawaited}
+use Rattle.ot_graph.specs.Graphs.{all_of, families_of, marks_of}
 use Rattle.ot_graph.proofs.run.+run.Given as goal
 
 -- what is left of the body, run from the cells and counts as they are now, gives what the whole body gives

@@ -1,7 +1,6 @@
 use Rattle.std.proofs.Common.{◌≡◌, ◌≤◌, ◌-◌, List, length}
 use Rattle.std.specs.Prelude.{None}
-use Rattle.ot_judge.specs.Judging.{Refusal}
-use Rattle.ot_judge.specs.Going.{Goes, standing}
+use Rattle.ot_judge.specs.Judging.{Refusal, Goes, standing}
 use Rattle.ot_judge.proofs.findings.next_in.Given as goal
 
 abbrev pub invariant-loop-piece : goal.invariant-loop-piece

@@ -2,7 +2,7 @@ use Rattle.std.proofs.Common.{[], ◌∷◌, ◌∙◌}
 use Rattle.std.specs.Prelude.{codes}
 use Rattle.serde_json.specs.Data.{array, string}
 use Rattle.serde_json.specs.View.{items_of}
-use Rattle.ot_book.specs.Replies.{nat}
+use Rattle.ot_book.specs.Answers.{nat}
 use Rattle.ot_keep.proofs.BodyLemmas.{front-tokens, line_text, short-tokens}
 use Rattle.ot_keep.proofs.body.with_new.Goals as goal
 

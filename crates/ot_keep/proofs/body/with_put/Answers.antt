@@ -2,7 +2,7 @@ use Rattle.std.proofs.Common.{[], ◌∷◌, ◌∙◌}
 use Rattle.std.specs.Prelude.{codes}
 use Rattle.serde_json.specs.Data.{array, string}
 use Rattle.serde_json.specs.View.{items_of}
-use Rattle.ot_book.specs.Replies.{nat, nats}
+use Rattle.ot_book.specs.Answers.{nat, nats}
 use Rattle.ot_keep.proofs.BodyLemmas.{front-tokens, line_text, long-tokens}
 use Rattle.ot_keep.proofs.body.with_put.Goals as goal
 

@@ -1,7 +1,7 @@
 use Rattle.std.proofs.Common.{◌∷◌, ◌++◌, ◌∙◌, map, ap}
 use Rattle.std.proofs.lemmas.List.{take_all}
 use Rattle.json.specs.Token.{begin_array}
-use Rattle.ot_book.specs.Replies.{nat}
+use Rattle.ot_book.specs.Answers.{nat}
 use Rattle.ot_book.specs.Pieces.{tokens_of_all}
 use Rattle.ot_book.proofs.RepliesLemmas.{written-end, on_ok-map}
 use Rattle.ot_keep.proofs.body.write_numbers.Goals as goal

@@ -1,8 +1,7 @@
 use Rattle.std.proofs.Common.{◌∙◌, ◌+◌, [], ◌∷◌, ◌++◌, ap, append-nil, arith, length, length-append, length-drop, refl, subst, sym}
 use Rattle.std.specs.List.{concat}
 use Rattle.std.proofs.lemmas.List.Elements.{All-nil, All-push}
-use Rattle.ot_ask.specs.Streams.{link, outgoing}
-use Rattle.ot_ask.specs.Lines.{IsWhole}
+use Rattle.ot_ask.specs.Streams.{link, outgoing, IsWhole}
 use Rattle.ot_keep.specs.Questions.{TurnFails, Line}
 use Rattle.ot_keep.proofs.KeepLemmas.{stops_later, stops_now, takes_stop}
 use Rattle.ot_keep.proofs.LineLemmas.{joined_here, joined_more, line_whole, lines_after, no_rest, one_longer, taken_more}

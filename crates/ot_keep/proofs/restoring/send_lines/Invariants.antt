@@ -1,10 +1,9 @@
 use Rattle.std.proofs.Common.{◌≡◌, ◌+◌, ◌≤◌, ◌++◌, List, ℕ, length}
 use Rattle.std.specs.Prelude.{All}
 use Rattle.std.specs.List.{concat}
-use Rattle.ot_ask.specs.Lines.{IsWhole}
-use Rattle.ot_ask.specs.Streams.{link, outgoing}
+use Rattle.ot_ask.specs.Streams.{IsWhole, link, outgoing}
 use Rattle.ot_keep.specs.Files.{AreLines}
-use Rattle.ot_keep.specs.Restoring.{AreTaken}
+use Rattle.ot_keep.specs.Saving.{AreTaken}
 use Rattle.ot_keep.proofs.restoring.send_lines.Given as goal
 
 -- the lines before the rest are taken

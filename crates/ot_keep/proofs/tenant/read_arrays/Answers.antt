@@ -1,7 +1,7 @@
 use Rattle.std.proofs.Common.{◌∙◌, [], ◌∷◌, ap, map}
 use Rattle.std.proofs.lemmas.Result.{MatchResult-weaker}
 use Rattle.ot_ask.specs.Streams.{link, outgoing}
-use Rattle.ot_model.specs.ShapeView.{arrays_of}
+use Rattle.ot_model.specs.Programs.{arrays_of}
 use Rattle.ot_keep.specs.Arrays.{named_by}
 use Rattle.ot_keep.specs.Questions.{Arrays}
 use Rattle.ot_keep.specs.Replies.{Listed}

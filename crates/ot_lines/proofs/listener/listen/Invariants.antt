@@ -1,6 +1,5 @@
 use Rattle.std.proofs.Common.{[]}
-use Rattle.ot_lines.specs.Counts.{flow}
-use Rattle.ot_lines.specs.Listening.{Through}
+use Rattle.ot_lines.specs.Lines.{flow, Through}
 use Rattle.ot_lines.proofs.Listening.{to_come}
 use Rattle.ot_lines.proofs.listener.listen.Given as goal
 

@@ -1,5 +1,5 @@
 use Rattle.std.proofs.Common.{[], ap, ◌∙◌}
-use Rattle.ot_store.specs.Usual.{usual_limits}
+use Rattle.ot_store.specs.Refusals.{usual_limits}
 use Rattle.ot_book.specs.Books.{new_register}
 use Rattle.ot_mirror.proofs.GivenLemmas.{given_full, given_answered, given_run}
 use Rattle.ot_mirror.proofs.sizes.book_behind.Goals as goal

@@ -1,9 +1,8 @@
 use Rattle.std.proofs.Common.{◌≡◌, ◌+◌, ◌<◌, [], ◌∷◌, ◌++◌, Err, drop, sym, ap, ◌∙◌, subst, arith}
 use Rattle.std.specs.Prelude.{string_bytes}
-use Rattle.ot_model.specs.ShapeView.{arrays_of}
+use Rattle.ot_model.specs.Programs.{arrays_of}
 use Rattle.ot_store.specs.Arrays.{created}
-use Rattle.ot_store.specs.Refusals.{Fails}
-use Rattle.ot_store.specs.Usual.{usual_limits}
+use Rattle.ot_store.specs.Refusals.{Fails, usual_limits}
 use Rattle.ot_mirror.specs.Mirrors.{MayHave, Sizes}
 use Rattle.ot_mirror.proofs.StoreLemmas.{may_have-more, may_not-refused, may_not-empty, taken-more, split_at}
 use Rattle.ot_mirror.proofs.sizes.store_of.Goals as goal

@@ -1,5 +1,5 @@
 use Rattle.std.proofs.Common.{◌≡◌, take}
-use Rattle.ot_model.specs.ShapeView.{arrays_of}
+use Rattle.ot_model.specs.Programs.{arrays_of}
 use Rattle.ot_store.specs.Arrays.{listed}
 use Rattle.ot_mirror.specs.Mirrors.{MayHave}
 use Rattle.ot_mirror.proofs.sizes.store_of.Given as goal

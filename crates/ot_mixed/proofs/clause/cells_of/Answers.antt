@@ -1,7 +1,7 @@
 use Rattle.std.proofs.Common.{rules, ◌∙◌, ◌<◌, ◌^◌, Some, sym, ap, refl}
 use Rattle.serde_json.specs.View.{view}
-use Rattle.ot_model.specs.ShapeView.{arrays_of}
-use Rattle.ot_place.specs.Seeking.{bindings_of}
+use Rattle.ot_model.specs.Programs.{arrays_of}
+use Rattle.ot_place.specs.Spots.{bindings_of}
 use Rattle.ot_mixed.proofs.ClauseLemmas.{section_there, row_is, section_fits, place_missing}
 use Rattle.ot_mixed.proofs.clause.cells_of.Goals as goal
 

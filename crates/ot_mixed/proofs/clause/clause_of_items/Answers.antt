@@ -1,5 +1,5 @@
 use Rattle.std.proofs.Common.{rules}
-use Rattle.ot_place.specs.Seeking.{bindings_of}
+use Rattle.ot_place.specs.Spots.{bindings_of}
 use Rattle.ot_mixed.proofs.ClauseLemmas.{clause_wrong}
 use Rattle.ot_mixed.proofs.clause.clause_of_items.Goals as goal
 

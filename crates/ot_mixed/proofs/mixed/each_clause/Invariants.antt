@@ -2,13 +2,12 @@ use Rattle.std.proofs.Common.{◌≡◌, ◌++◌, [], drop}
 use Rattle.std.specs.Prelude.{map, flat_map}
 use Rattle.std.specs.List.{AllByRecursion}
 use Rattle.serde_json.specs.View.{items_view}
-use Rattle.ot_model.specs.Shapes.{Arrays}
-use Rattle.ot_model.specs.ShapeView.{arrays_of}
+use Rattle.ot_model.specs.Programs.{Arrays, arrays_of}
 use Rattle.ot_program.specs.Faults.{clause_faults}
 use Rattle.ot_program.specs.Meanings.{each, clause}
-use Rattle.ot_place.specs.Seeking.{bindings_of}
+use Rattle.ot_place.specs.Spots.{bindings_of}
 use Rattle.ot_place.specs.Texts.{Profile}
-use Rattle.ot_mixed.specs.Rows.{row_of, row_by, Fits}
+use Rattle.ot_mixed.specs.Mixed.{row_of, row_by, Fits}
 use Rattle.ot_mixed.proofs.mixed.each_clause.Given as goal
 
 -- the rows so far with those of the rest are those of all; where the rest fits, all do

@@ -1,5 +1,5 @@
 use Rattle.std.proofs.Common.{◌-◌, ℕ, ◌<◌, ◌≤◌, length, get_or}
-use Rattle.ot_model.specs.Uses.{Precedes}
+use Rattle.ot_model.specs.Cells.{Precedes}
 use Rattle.ot_model.specs.declared.stmt.Use.{Use}
 use Rattle.ot_model.proofs.declared.mode_in.Given as goal
 

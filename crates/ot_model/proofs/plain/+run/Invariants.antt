@@ -1,10 +1,9 @@
 use Rattle.std.proofs.Common.{◌≡◌, ◌+◌, ◌≤◌, drop}
 use Rattle.ot_model.specs.View.{stmts_of}
-use Rattle.ot_model.specs.Counts.{size, tasks_in}
-use Rattle.ot_model.specs.Serial.{serial}
+use Rattle.ot_model.specs.Tree.{size, tasks_in}
+use Rattle.ot_model.specs.Serial.{serial, state_of}
 use Rattle.ot_model.specs.Names.{NamedIn}
 use Rattle.ot_model.specs.Cells.{lengths}
-use Rattle.ot_model.specs.Runs.{state_of}
 use Rattle.ot_model.proofs.plain.+run.Given as goal
 
 abbrev pub invariant-run_all-loop-stmt : goal.invariant-run_all-loop-stmt

@@ -4,7 +4,7 @@ use Rattle.std.proofs.lemmas.List.{length-map}
 use Rattle.ot_model.specs.Cells.{updated}
 use Rattle.ot_owner.specs.Keeping.{Made, HasRow}
 use Rattle.ot_owner.specs.Kept.{summed_of, summeds_of, made_of}
-use Rattle.ot_owner.specs.Rows.{Summed, folds_in, begun_in}
+use Rattle.ot_owner.specs.Owning.{Summed, folds_in, begun_in}
 use Rattle.ot_owner.specs.declared.rows.Group.{Group}
 use Rattle.ot_owner.proofs.RowLemmas.{map-changed, map-kept, seen-at, front-more, front-all}
 use Rattle.ot_owner.proofs.groups.begin_rows.Goals as goal

@@ -1,7 +1,7 @@
 use Rattle.std.proofs.Common.{◌≡◌}
 use Rattle.std.specs.Prelude.{vec_len, vec_capacity, if◌then◌else◌}
 use Rattle.ot_owner.specs.Kept.{summeds_of, mades_of}
-use Rattle.ot_owner.specs.Rows.{Summed, folds_in, begun_in}
+use Rattle.ot_owner.specs.Owning.{Summed, folds_in, begun_in}
 use Rattle.ot_owner.proofs.RowLemmas.{front}
 use Rattle.ot_owner.proofs.groups.begin_rows.Given as goal
 

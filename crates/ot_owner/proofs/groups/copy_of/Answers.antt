@@ -1,7 +1,7 @@
 use Rattle.std.proofs.Common.{◌≡◌, get_or, ap, sym, ◌∙◌, arith}
 use Rattle.std.proofs.Math.ListN.{get_or-map}
 use Rattle.std.proofs.lemmas.List.{length-map}
-use Rattle.ot_owner.specs.Rows.{Summed, copy_in, row_in}
+use Rattle.ot_owner.specs.Owning.{Summed, copy_in, row_in}
 use Rattle.ot_owner.specs.Kept.{summed_of, summeds_of, holder_from}
 use Rattle.ot_owner.proofs.GroupLemmas.{holder-is, no_holder}
 use Rattle.ot_owner.proofs.groups.copy_of.Goals as goal

@@ -3,7 +3,7 @@ use Rattle.std.specs.Prelude.{Some, IsSome, is_some}
 use Rattle.std.proofs.Math.ListN.{get_or-map}
 use Rattle.std.proofs.lemmas.List.{length-map}
 use Rattle.ot_model.specs.Cells.{updated}
-use Rattle.ot_owner.specs.Rows.{Summed, copy_in, row_in, folded, folded_in}
+use Rattle.ot_owner.specs.Owning.{Summed, copy_in, row_in, folded, folded_in}
 use Rattle.ot_owner.specs.Kept.{summed_of, summeds_of, made_of, holder_from}
 use Rattle.ot_owner.proofs.RowLemmas.{map-changed, map-kept}
 use Rattle.ot_owner.proofs.GroupLemmas.{folded-at, holder-is, no_holder}

@@ -4,8 +4,8 @@ use Rattle.ot_model.specs.Cells.{cell_of}
 use Rattle.ot_model.specs.declared.stmt.Mode.TheVariants.{Reads}
 use Rattle.ot_owner.specs.declared.lent.LentCell.{LentCell}
 use Rattle.ot_owner.specs.Kept.{summeds_of}
-use Rattle.ot_owner.specs.Back.{taken_back}
-use Rattle.ot_owner.specs.Rows.{copy_among}
+use Rattle.ot_owner.specs.Worth.{taken_back}
+use Rattle.ot_owner.specs.Owning.{copy_among}
 use Rattle.ot_owner.proofs.OpenLemmas.{back-more, taken-still}
 use Rattle.ot_owner.proofs.GivingLemmas.{stored-more, all-more}
 use Rattle.ot_owner.proofs.groups.give_all.Goals as goal

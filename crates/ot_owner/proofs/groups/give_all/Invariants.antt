@@ -1,10 +1,9 @@
 use Rattle.std.proofs.Common.{◌≡◌, ◌<◌, ◌^◌, take, true, IsSome, All}
 use Rattle.std.specs.Prelude.{vec_len, vec_capacity}
-use Rattle.ot_model.specs.Cells.{cell_of, lengths}
-use Rattle.ot_model.specs.Uses.{is_fold}
-use Rattle.ot_owner.specs.Back.{AreStored, all_back}
+use Rattle.ot_model.specs.Cells.{cell_of, lengths, is_fold}
+use Rattle.ot_owner.specs.Worth.{AreStored, all_back}
 use Rattle.ot_owner.specs.Kept.{summeds_of, mades_of}
-use Rattle.ot_owner.specs.Rows.{copy_among}
+use Rattle.ot_owner.specs.Owning.{copy_among}
 use Rattle.ot_owner.proofs.groups.give_all.Given as goal
 
 abbrev pub invariant-loop-copy : goal.invariant-loop-copy

@@ -2,7 +2,7 @@ use Rattle.std.proofs.Common.{◌≡◌, ◌<◌, ◌∙◌, sym, subst, arith, 
 use Rattle.std.specs.Prelude.{true, All}
 use Rattle.ot_owner.specs.Keeping.{Made, HasRow, IsRegular}
 use Rattle.ot_owner.specs.Kept.{summed_of, made_of}
-use Rattle.ot_owner.specs.Rows.{Summed, folds_in}
+use Rattle.ot_owner.specs.Owning.{Summed, folds_in}
 use Rattle.ot_owner.specs.declared.rows.Group.{Group}
 use Rattle.ot_owner.proofs.RowLemmas.{map-kept, seen-at, all-seen, before-more}
 use Rattle.ot_owner.proofs.groups.make_rows.Goals as goal

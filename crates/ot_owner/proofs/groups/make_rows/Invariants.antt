@@ -2,7 +2,7 @@ use Rattle.std.proofs.Common.{◌≡◌, ◌<◌, ℕ, length, get_or}
 use Rattle.std.specs.Prelude.{true, vec_len, vec_capacity}
 use Rattle.ot_owner.specs.Keeping.{HasRow}
 use Rattle.ot_owner.specs.Kept.{summeds_of, made_of}
-use Rattle.ot_owner.specs.Rows.{folds_in}
+use Rattle.ot_owner.specs.Owning.{folds_in}
 use Rattle.ot_owner.specs.declared.rows.Group.{Group}
 use Rattle.ot_owner.proofs.groups.make_rows.Given as goal
 

@@ -1,7 +1,7 @@
 use Rattle.std.proofs.Common.{◌≡◌, ◌+◌, ◌∙◌, ◌++◌, ◌∷◌, [], sym, ap, take}
 use Rattle.std.proofs.lemmas.List.{take_more, map-append}
 use Rattle.ot_owner.specs.Kept.{summed_of, summeds_of}
-use Rattle.ot_owner.specs.Rows.{copies_in}
+use Rattle.ot_owner.specs.Owning.{copies_in}
 use Rattle.ot_owner.specs.Worth.{combined, worth_over}
 use Rattle.ot_owner.proofs.OpenLemmas.{worth-push}
 use Rattle.ot_owner.proofs.groups.worth.Goals as goal

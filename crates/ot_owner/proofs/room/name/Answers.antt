@@ -1,12 +1,12 @@
 use Rattle.std.proofs.Common.{◌≡◌, ◌≢◌, ◌<◌, ◌≤◌, ◌↔◌, ◌⊎◌, ℕ, length, get_or, true≢false, sym, ap, subst, ◌∙◌, arith, refl}
 use Rattle.std.specs.List.{All}
 use Rattle.std.proofs.lemmas.List.{get_or_read}
-use Rattle.ot_model.specs.Uses.{AreInOrder}
+use Rattle.ot_model.specs.Cells.{AreInOrder}
 use Rattle.ot_model.specs.declared.expr.Cell.{Cell}
 use Rattle.ot_model.specs.declared.stmt.Mode.TheVariants.{Writes}
 use Rattle.ot_model.specs.declared.stmt.Use.{Use}
 use Rattle.ot_model.proofs.EqualLemmas.{cell-decides}
-use Rattle.ot_owner.specs.Rows.{IsNamed}
+use Rattle.ot_owner.specs.Owning.{IsNamed}
 use Rattle.ot_owner.proofs.NameLemmas.{behind_place, before_place, order-insert, all-insert, named-insert}
 use Rattle.ot_owner.proofs.room.name.Goals.{else-place-len-via-then-place-len+else-eq, else-place-len-via-else-place-len}
 use Rattle.ot_owner.proofs.room.name.Goals as goal

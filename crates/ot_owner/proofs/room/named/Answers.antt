@@ -2,7 +2,7 @@ use Rattle.std.proofs.Common.{◌≡◌, ◌↔◌, sym, subst, arith, take, get
 use Rattle.std.proofs.lemmas.List.Sorted.{Contains-permutation, IsPermutation-sym}
 use Rattle.std.proofs.lemmas.List.{get_or_default, take_all}
 use Rattle.ot_model.specs.declared.expr.Cell.{Cell}
-use Rattle.ot_owner.specs.Rows.{IsNamed}
+use Rattle.ot_owner.specs.Owning.{IsNamed}
 use Rattle.ot_owner.proofs.NameLemmas.{named-more}
 use Rattle.ot_owner.proofs.room.named.Goals as goal
 

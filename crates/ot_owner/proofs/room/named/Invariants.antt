@@ -1,8 +1,8 @@
 use Rattle.std.proofs.Common.{◌≡◌, ◌↔◌, take, All, Contains}
-use Rattle.ot_model.specs.Uses.{AreInOrder}
+use Rattle.ot_model.specs.Cells.{AreInOrder}
 use Rattle.ot_model.specs.declared.expr.Cell.{Cell}
 use Rattle.ot_model.specs.declared.stmt.Mode.TheVariants.{Writes}
-use Rattle.ot_owner.specs.Rows.{IsNamed}
+use Rattle.ot_owner.specs.Owning.{IsNamed}
 use Rattle.ot_owner.proofs.room.named.Given as goal
 
 abbrev pub invariant-loop-cell : goal.invariant-loop-cell

@@ -2,7 +2,7 @@ use Rattle.std.proofs.Common.{◌≡◌, take}
 use Rattle.std.specs.Prelude.{option_map, position}
 use Rattle.ot_model.specs.Cells.{cell_of, lengths}
 use Rattle.ot_model.specs.declared.expr.Cell.{Cell}
-use Rattle.ot_owner.specs.Rows.{copies_where, is_of}
+use Rattle.ot_owner.specs.Owning.{copies_where, is_of}
 use Rattle.ot_owner.specs.Kept.{rows_of}
 use Rattle.ot_owner.specs.Worth.{combined_by}
 use Rattle.ot_owner.proofs.rows.combine_all.Given as goal

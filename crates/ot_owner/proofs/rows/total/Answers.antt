@@ -1,6 +1,6 @@
 use Rattle.std.proofs.Common.{◌≡◌, ◌+◌, ◌∙◌, ◌++◌, ◌∷◌, [], sym, ap, take}
 use Rattle.std.proofs.lemmas.List.{take_more, map-append}
-use Rattle.ot_owner.specs.Rows.{copies_at, copy_in, with_copy}
+use Rattle.ot_owner.specs.Owning.{copies_at, copy_in, with_copy}
 use Rattle.ot_owner.specs.Kept.{rows_of, row_of}
 use Rattle.ot_owner.specs.Worth.{combined_by}
 use Rattle.ot_owner.proofs.RowLemmas.{total-more}

@@ -1,5 +1,5 @@
 use Rattle.std.proofs.Common.{◌≡◌, take}
-use Rattle.ot_owner.specs.Rows.{copies_at}
+use Rattle.ot_owner.specs.Owning.{copies_at}
 use Rattle.ot_owner.specs.Kept.{rows_of}
 use Rattle.ot_owner.specs.Worth.{combined_by}
 use Rattle.ot_owner.proofs.rows.total.Given as goal

@@ -1,8 +1,7 @@
 use Rattle.std.proofs.Common.{◌≡◌, drop}
 use Rattle.ot_model.specs.Tree.{Body, append}
 use Rattle.ot_parts.specs.Assigns.{assigns_of}
-use Rattle.ot_parts.specs.Leading.{leading, behind}
-use Rattle.ot_parts.specs.Parts.{parts_of}
+use Rattle.ot_parts.specs.Parts.{leading, behind, parts_of}
 use Rattle.ot_parts.proofs.gather.gather.Given as goal
 
 -- what is gathered, with what is left

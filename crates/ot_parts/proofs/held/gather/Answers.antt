@@ -2,9 +2,9 @@ use Rattle.std.proofs.Common.{◌≡◌, ◌++◌, ◌∙◌, [], List, drop, sy
 use Rattle.std.specs.List.{fold}
 use Rattle.std.proofs.lemmas.List.{drop_all}
 use Rattle.std.proofs.lemmas.List.Sorted.{IsPermutation-append_comm}
-use Rattle.ot_model.specs.Uses.{mode_in}
+use Rattle.ot_model.specs.Cells.{mode_in}
 use Rattle.ot_model.specs.declared.stmt.Use.{Use}
-use Rattle.ot_parts.specs.Held.{added, strongest}
+use Rattle.ot_parts.specs.Modes.{added, strongest}
 use Rattle.ot_parts.proofs.StrongestLemmas.{strongest-permuted}
 use Rattle.ot_parts.proofs.held.gather.Goals as goal
 

@@ -1,8 +1,8 @@
 use Rattle.std.proofs.Common.{◌≡◌, drop}
 use Rattle.std.specs.List.{fold}
-use Rattle.ot_model.specs.Uses.{AreInOrder, mode_in}
+use Rattle.ot_model.specs.Cells.{AreInOrder, mode_in}
 use Rattle.ot_model.specs.declared.expr.Cell.{Cell}
-use Rattle.ot_parts.specs.Held.{added, strongest}
+use Rattle.ot_parts.specs.Modes.{added, strongest}
 use Rattle.ot_parts.proofs.held.gather.Given as goal
 
 -- what stands in the list so far, with the uses that are left

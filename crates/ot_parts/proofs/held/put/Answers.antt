@@ -1,8 +1,7 @@
 use Rattle.std.proofs.Common.{◌≡◌, ◌≢◌, ◌<◌, ◌≤◌, ℕ, length, get_or, set, Some, true≢false, sym, ap, subst, ◌∙◌, arith}
 use Rattle.std.specs.Prelude.{None, if◌then◌else◌}
 use Rattle.std.proofs.lemmas.List.{get_or_read}
-use Rattle.ot_model.specs.Cells.{same_cell}
-use Rattle.ot_model.specs.Uses.{AreInOrder, mode_in}
+use Rattle.ot_model.specs.Cells.{same_cell, AreInOrder, mode_in}
 use Rattle.ot_model.specs.declared.expr.Cell.{Cell}
 use Rattle.ot_model.specs.declared.stmt.Mode.{Mode}
 use Rattle.ot_model.specs.declared.stmt.Use.{Use}

@@ -1,5 +1,5 @@
 use Rattle.std.proofs.Common.{◌++◌, ◌∙◌, append-nil, ap}
-use Rattle.ot_parts.specs.Held.{strongest}
+use Rattle.ot_parts.specs.Modes.{strongest}
 use Rattle.ot_parts.proofs.StrongestLemmas.{strongest-in_order, strongest-push}
 use Rattle.ot_parts.proofs.held.set_aside.Goals as goal
 

@@ -1,7 +1,7 @@
 use Rattle.std.proofs.Common.{◌≡◌, ◌∙◌, map, take, ap, sym, subst, arith}
 use Rattle.std.specs.Prelude.{option_map}
 use Rattle.std.proofs.lemmas.List.{take_all}
-use Rattle.ot_model.specs.Uses.{AreInOrder, mode_in}
+use Rattle.ot_model.specs.Cells.{AreInOrder, mode_in}
 use Rattle.ot_parts.specs.Modes.{Declared}
 use Rattle.ot_parts.proofs.HoldingLemmas.{as_held, held-in_order, held-mode_in}
 use Rattle.ot_parts.proofs.holding.hold.Goals as goal

@@ -6,14 +6,13 @@ use Rattle.ot_model.specs.Names.{OneNamedIn}
 use Rattle.ot_model.specs.Tree.{Next, End, append}
 use Rattle.ot_model.specs.View.{expr_of, stmt_of, stmts_of}
 use Rattle.ot_parts.specs.Assigns.{assign_of, assigns_of}
-use Rattle.ot_parts.specs.Leading.{leading}
+use Rattle.ot_parts.specs.Parts.{leading, part_of, parts_of}
 use Rattle.ot_parts.specs.declared.assign.Assign.{Assign}
 use Rattle.ot_parts.specs.declared.part.Part.{Part}
 use Rattle.std.specs.Prelude.{Vec}
 use Rattle.std.specs.Global.{Global}
 use Rattle.std.specs.Arc.{arc_value}
 use Rattle.ot_parts.specs.Modes.{PicksFit, AssignsFit}
-use Rattle.ot_parts.specs.Parts.{part_of, parts_of}
 use Rattle.ot_parts.proofs.MakeLemmas.{add-assign, add-control, add-step, all-made, condition-fits, fits-one, fits-push, named-at, stmts-drop}
 use Rattle.ot_parts.proofs.making.+making.Goals.{parts_of-in-Some+in_ok-push-in-Some, parts_of-in-None+in_ok-part-in-None+in_ok-push-in-None}
 use Rattle.ot_parts.proofs.making.+making.Goals as goal

@@ -1,10 +1,9 @@
 use Rattle.std.proofs.Common.{◌≡◌, ◌-◌, map}
 use Rattle.std.specs.List.{fold, range_with_len}
-use Rattle.ot_model.specs.Value.{cell_at}
+use Rattle.ot_model.specs.Tree.{cell_at}
 use Rattle.ot_model.specs.declared.expr.Cell.{Cell}
 use Rattle.ot_model.specs.declared.stmt.Mode.TheVariants.{Reads}
-use Rattle.ot_parts.specs.Touched.{use_as}
-use Rattle.ot_parts.specs.Held.{added, strongest}
+use Rattle.ot_parts.specs.Modes.{use_as, added, strongest}
 use Rattle.ot_parts.proofs.touched.note_section.Given as goal
 
 -- what is touched so far, with the cells that are left

@@ -6,9 +6,8 @@ use Rattle.std.proofs.lemmas.List.Sums.{fold-append}
 use Rattle.ot_model.specs.View.{expr_of}
 use Rattle.ot_parts.specs.Assigns.{assigns_of}
 use Rattle.ot_parts.specs.declared.assign.Assign.{Assign}
-use Rattle.ot_model.specs.Uses.{mode_in}
-use Rattle.ot_parts.specs.Held.{added, strongest}
-use Rattle.ot_parts.specs.Touched.{assign_touches, test_touches}
+use Rattle.ot_model.specs.Cells.{mode_in}
+use Rattle.ot_parts.specs.Modes.{added, strongest, assign_touches, test_touches}
 use Rattle.ot_parts.proofs.touched.touched.Goals as goal
 
 pub returns-clause-exact : goal.returns-clause-exact

@@ -2,9 +2,7 @@ use Rattle.std.proofs.Common.{◌≡◌, drop}
 use Rattle.std.specs.List.{fold}
 use Rattle.ot_model.specs.declared.expr.Cell.{Cell}
 use Rattle.ot_parts.specs.Assigns.{assigns_of}
-use Rattle.ot_parts.specs.Held.{added, strongest}
-use Rattle.ot_parts.specs.Modes.{AssignsFit}
-use Rattle.ot_parts.specs.Touched.{assign_touches}
+use Rattle.ot_parts.specs.Modes.{added, strongest, AssignsFit, assign_touches}
 use Rattle.ot_parts.proofs.touched.touched.Given as goal
 
 -- what is touched so far, with the touches that are left

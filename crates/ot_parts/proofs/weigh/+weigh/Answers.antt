@@ -2,8 +2,7 @@ use Rattle.std.proofs.Common.{rules, ◌<◌, ◌≤◌, ◌∙◌, length, sym,
 use Rattle.std.specs.Prelude.{Vec}
 use Rattle.std.specs.Global.{Global}
 use Rattle.std.proofs.lemmas.List.{drop_all}
-use Rattle.ot_parts.specs.Parts.{part_of, parts_of}
-use Rattle.ot_parts.specs.Weighing.{weight}
+use Rattle.ot_parts.specs.Parts.{part_of, parts_of, weight}
 use Rattle.ot_parts.specs.declared.part.Part.{Part, the_lemmas}
 use Rattle.ot_parts.proofs.PartLemmas.{group-part, if-part, task-part, wait-part}
 use Rattle.ot_parts.proofs.WeightLemmas.{weight-first, weight-is, weight-none}

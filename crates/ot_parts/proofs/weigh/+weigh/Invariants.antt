@@ -1,6 +1,5 @@
 use Rattle.std.proofs.Common.{◌≡◌, ◌+◌, drop}
-use Rattle.ot_parts.specs.Parts.{parts_of}
-use Rattle.ot_parts.specs.Weighing.{weight}
+use Rattle.ot_parts.specs.Parts.{parts_of, weight}
 use Rattle.ot_parts.proofs.weigh.+weigh.Given as goal
 
 -- what is weighed and what is not yet weigh what all do

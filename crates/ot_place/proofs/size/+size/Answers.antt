@@ -1,6 +1,6 @@
 use Rattle.std.proofs.Common.{◌∙◌, sym, ap, rules}
 use Rattle.serde_json.specs.View.{view}
-use Rattle.ot_place.specs.Seeking.{bindings_of}
+use Rattle.ot_place.specs.Spots.{bindings_of}
 use Rattle.ot_place.proofs.SizeLemmas.{size-number, size-string, no_size, view-Number, view-String}
 use Rattle.ot_place.proofs.size.+size.Goals as goal
 

@@ -1,5 +1,5 @@
 use Rattle.ot_check.specs.Offences.{Offends}
-use Rattle.ot_check.specs.FirstOffence.{first_offence}
+use Rattle.ot_check.specs.Laws.{first_offence}
 use Rattle.ot_profile1.specs.Offences.{Offends1}
 use Rattle.ot_profile1.specs.Upward.{up}
 use Rattle.ot_profile1.proofs.OffenceLemmas.{offends-up, offends-old, first_of_same}

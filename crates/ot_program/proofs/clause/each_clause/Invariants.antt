@@ -1,8 +1,8 @@
 use Rattle.std.proofs.Common.{◌≡◌, drop}
 use Rattle.serde_json.specs.View.{items_view}
 use Rattle.ot_program.specs.walk.Reading.{each_of}
-use Rattle.ot_program.specs.walk.Variables.{bindings_of}
-use Rattle.ot_program.specs.walk.Clauses.{clause_of}
+use Rattle.ot_program.specs.walk.Sizes.{bindings_of}
+use Rattle.ot_program.specs.walk.Parts.{clause_of}
 use Rattle.ot_program.proofs.Lists.{then_more}
 use Rattle.ot_program.proofs.clause.each_clause.Given as goal
 

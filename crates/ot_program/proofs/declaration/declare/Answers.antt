@@ -4,7 +4,7 @@ use Rattle.std.specs.List.{fold}
 use Rattle.std.proofs.lemmas.List.{take_all}
 use Rattle.std.proofs.lemmas.List.Sorted.{All-permutation}
 use Rattle.ot_program.specs.declared.clause.Clause.{Clause}
-use Rattle.ot_program.specs.walk.Clauses.{uses_of, declaration}
+use Rattle.ot_program.specs.walk.Parts.{uses_of, declaration}
 use Rattle.ot_program.specs.walk.Namings.{fits, name_clause}
 use Rattle.ot_program.proofs.AnyOrder.{any_order, clauses_strict}
 use Rattle.ot_program.proofs.declaration.declare.Goals as goal

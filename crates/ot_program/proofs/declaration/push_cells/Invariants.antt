@@ -1,5 +1,5 @@
 use Rattle.std.proofs.Common.{◌≡◌, ◌++◌}
-use Rattle.ot_model.specs.Value.{cells_of}
+use Rattle.ot_model.specs.Tree.{cells_of}
 use Rattle.ot_program.proofs.CellLists.{cells_left}
 use Rattle.ot_program.proofs.declaration.push_cells.Given as goal
 

@@ -1,6 +1,6 @@
 use Rattle.std.proofs.Common.{◌≡◌, ◌++◌, drop}
 use Rattle.std.specs.Prelude.{flat_map}
-use Rattle.ot_model.specs.Value.{cells_of}
+use Rattle.ot_model.specs.Tree.{cells_of}
 use Rattle.ot_program.proofs.declaration.sections_cells.Given as goal
 
 -- the cells so far, with those of the sections that are left

@@ -1,6 +1,6 @@
 use Rattle.std.proofs.Common.{◌≡◌, ◌++◌, Ok, drop}
 use Rattle.ot_program.specs.walk.Reading.{◌>>=◌}
-use Rattle.ot_program.specs.walk.Clauses.{uses_of}
+use Rattle.ot_program.specs.walk.Parts.{uses_of}
 use Rattle.ot_program.proofs.declaration.uses_of.Given as goal
 
 -- the uses so far, with those of the cells that are left

@@ -4,8 +4,8 @@ use Rattle.serde_json.specs.View.{view}
 use Rattle.ot_model.specs.View.{expr_of}
 use Rattle.ot_program.specs.walk.Reading.{both_of}
 use Rattle.ot_program.specs.walk.Statements.{list_of}
-use Rattle.ot_program.specs.walk.Values.{expression_of}
-use Rattle.ot_program.specs.walk.Variables.{bindings_of}
+use Rattle.ot_program.specs.walk.Parts.{expression_of}
+use Rattle.ot_program.specs.walk.Sizes.{bindings_of}
 use Rattle.ot_program.proofs.Joins.{join_fails}
 use Rattle.ot_program.proofs.head.read_condition.Goals as goal
 

@@ -1,8 +1,8 @@
 use Rattle.std.proofs.Common.{rules, sym, ◌∙◌}
 use Rattle.std.proofs.lemmas.Result.{err_from_is_err_and}
 use Rattle.serde_json.specs.View.{view}
-use Rattle.ot_program.specs.walk.Variables.{bindings_of}
-use Rattle.ot_program.specs.walk.Clauses.{clauses_of}
+use Rattle.ot_program.specs.walk.Sizes.{bindings_of}
+use Rattle.ot_program.specs.walk.Parts.{clauses_of}
 use Rattle.ot_program.specs.walk.Statements.{list_of}
 use Rattle.ot_program.proofs.PartsFit.{read_clauses_fit}
 use Rattle.ot_program.proofs.Joins.{join_reads, join_fails}

@@ -1,7 +1,7 @@
 use Rattle.std.proofs.Common.{rules, sym, ◌∙◌}
 use Rattle.std.proofs.lemmas.Result.{err_from_is_err_and}
 use Rattle.serde_json.specs.View.{view}
-use Rattle.ot_program.specs.walk.Variables.{bindings_of}
+use Rattle.ot_program.specs.walk.Sizes.{bindings_of}
 use Rattle.ot_program.specs.walk.Parts.{sections_of}
 use Rattle.ot_program.specs.walk.Statements.{list_of}
 use Rattle.ot_program.proofs.PartsFit.{read_sections_fit}

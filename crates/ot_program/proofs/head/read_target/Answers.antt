@@ -2,9 +2,8 @@ use Rattle.std.proofs.Common.{rules, sym, ◌∙◌}
 use Rattle.std.proofs.lemmas.Result.{err_from_is_err_and}
 use Rattle.serde_json.specs.View.{view}
 use Rattle.ot_model.specs.View.{expr_of}
-use Rattle.ot_program.specs.walk.Parts.{cell_of}
-use Rattle.ot_program.specs.walk.Values.{expression_of}
-use Rattle.ot_program.specs.walk.Variables.{bindings_of}
+use Rattle.ot_program.specs.walk.Parts.{cell_of, expression_of}
+use Rattle.ot_program.specs.walk.Sizes.{bindings_of}
 use Rattle.ot_program.proofs.Joins.{join_fails}
 use Rattle.ot_program.proofs.head.read_target.Goals as goal
 

@@ -1,7 +1,7 @@
 use Rattle.std.proofs.Common.{string_bytes, rules}
 use Rattle.serde_json.specs.View.{view}
 use Rattle.serde_json.specs.declared.value.Value.{the_lemmas}
-use Rattle.ot_program.specs.walk.Variables.{bindings_of}
+use Rattle.ot_program.specs.walk.Sizes.{bindings_of}
 use Rattle.ot_program.proofs.Conditions.{range_fails_parts, range_fails_level, range_fails_depth, named, range_reads_as}
 use Rattle.ot_program.proofs.Joins.{match_refused}
 use Rattle.ot_program.proofs.head.read_turns.Goals as goal

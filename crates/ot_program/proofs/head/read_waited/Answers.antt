@@ -1,5 +1,5 @@
 use Rattle.serde_json.specs.View.{view}
-use Rattle.ot_program.specs.walk.Variables.{bindings_of}
+use Rattle.ot_program.specs.walk.Sizes.{bindings_of}
 use Rattle.ot_program.proofs.PartsFit.{read_wait_clauses_fit}
 use Rattle.ot_program.proofs.head.read_waited.Goals as goal
 

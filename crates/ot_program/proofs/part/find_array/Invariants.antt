@@ -1,5 +1,5 @@
 use Rattle.std.proofs.Common.{◌≡◌, drop}
-use Rattle.ot_model.specs.ShapeView.{arrays_of}
+use Rattle.ot_model.specs.Programs.{arrays_of}
 use Rattle.ot_program.specs.walk.Parts.{known_from}
 use Rattle.ot_program.proofs.part.find_array.Given as goal
 

@@ -5,8 +5,7 @@ use Rattle.ot_model.specs.Programs.{expanded_of}
 use Rattle.ot_model.specs.Tree.{S}
 use Rattle.ot_model.specs.View.{stmt_of}
 use Rattle.ot_program.specs.walk.Parts.{sections_of}
-use Rattle.ot_program.specs.walk.Programs.{shows_of, expanded}
-use Rattle.ot_program.specs.walk.Statements.{list_of}
+use Rattle.ot_program.specs.walk.Statements.{shows_of, expanded, list_of}
 use Rattle.ot_program.proofs.Joins.{Fails-then, join_gives, join_fails, gives_refused}
 use Rattle.ot_program.proofs.ProgramForms.{program_fails_counts, program_fails_body, program_reads}
 use Rattle.ot_program.proofs.ProgramsWalked.{program_counts}

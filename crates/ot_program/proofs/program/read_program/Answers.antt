@@ -3,8 +3,7 @@ use Rattle.serde_json.specs.declared.value.Value.{Value}
 use Rattle.serde_json.specs.Data.{array}
 use Rattle.serde_json.proofs.Views.{view-Array}
 use Rattle.serde_json.specs.View.{view, items_view}
-use Rattle.ot_model.specs.Shapes.{array_lengths}
-use Rattle.ot_model.specs.Programs.{expanded_of, IsNamedIn}
+use Rattle.ot_model.specs.Programs.{array_lengths, expanded_of, IsNamedIn}
 use Rattle.ot_program.specs.Programs.{program_of}
 use Rattle.ot_program.proofs.Accepted.{accepted_is_named}
 use Rattle.ot_program.proofs.ProgramsWalked.{given_of_walked}

@@ -1,4 +1,4 @@
-use Rattle.ot_program.specs.walk.Variables.{bindings_of}
+use Rattle.ot_program.specs.walk.Sizes.{bindings_of}
 use Rattle.ot_program.specs.walk.Parts.{section_of}
 use Rattle.ot_program.proofs.Lists.{part_put}
 use Rattle.ot_program.proofs.section.each_section.Goals as goal

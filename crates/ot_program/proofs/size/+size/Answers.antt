@@ -1,5 +1,5 @@
 use Rattle.std.proofs.Common.{sym, rules}
-use Rattle.ot_program.specs.walk.Variables.{bindings_of}
+use Rattle.ot_program.specs.walk.Sizes.{bindings_of}
 use Rattle.ot_program.proofs.SizeForms.{no_size_but_three}
 use Rattle.ot_program.proofs.size.+size.Goals as goal
 

@@ -3,7 +3,7 @@ use Rattle.std.proofs.lemmas.Result.{err_from_is_err_and}
 use Rattle.serde_json.specs.View.{view}
 use Rattle.serde_json.specs.declared.value.Value.{the_lemmas}
 use Rattle.ot_model.specs.Tree.{Task, Group}
-use Rattle.ot_program.specs.walk.Variables.{bindings_of}
+use Rattle.ot_program.specs.walk.Sizes.{bindings_of}
 use Rattle.ot_program.specs.walk.Statements.{condition_of, declared_of, grouped_of, body_in}
 use Rattle.ot_program.proofs.Fronts.{added_behind_none, front_none, all_step, all_fails, all_ends, put_behind}
 use Rattle.ot_program.proofs.Seen.{array_seen, stmt_of-If, stmt_of-Task, stmt_of-Group}

@@ -1,7 +1,7 @@
 use Rattle.std.proofs.Common.{◌+◌, ◌-◌, ◌∷◌, map, drop}
 use Rattle.serde_json.specs.View.{view, items_view}
 use Rattle.ot_model.specs.View.{stmt_of}
-use Rattle.ot_program.specs.walk.Variables.{bindings_of}
+use Rattle.ot_program.specs.walk.Sizes.{bindings_of}
 use Rattle.ot_program.specs.walk.Statements.{body_in, all_in, turns}
 use Rattle.ot_program.proofs.Fronts.{Front}
 use Rattle.ot_program.proofs.statement.+statements.Given as goal

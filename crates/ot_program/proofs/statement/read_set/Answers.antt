@@ -3,7 +3,7 @@ use Rattle.std.proofs.lemmas.Result.{err_from_is_err_and}
 use Rattle.serde_json.specs.View.{view}
 use Rattle.ot_model.specs.declared.stmt.Stmt.{the_lemmas}
 use Rattle.ot_program.specs.walk.Statements.{target_of}
-use Rattle.ot_program.specs.walk.Variables.{bindings_of}
+use Rattle.ot_program.specs.walk.Sizes.{bindings_of}
 use Rattle.ot_program.proofs.Fronts.{put_behind}
 use Rattle.ot_program.proofs.Joins.{Fails-then}
 use Rattle.ot_program.proofs.statement.read_set.Goals as goal

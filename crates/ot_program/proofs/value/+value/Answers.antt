@@ -1,6 +1,6 @@
 use Rattle.std.proofs.Common.{rules}
 use Rattle.ot_model.specs.View.{expr_of}
-use Rattle.ot_program.specs.walk.Variables.{bindings_of}
+use Rattle.ot_program.specs.walk.Sizes.{bindings_of}
 use Rattle.ot_program.proofs.Joins.{gives_refused}
 use Rattle.ot_program.proofs.ValueForms.{no_value_but_three, value_of-operation, value_of-pick, value_of-cell, value_of-no_op}
 use Rattle.ot_program.proofs.value.+value.Goals as goal

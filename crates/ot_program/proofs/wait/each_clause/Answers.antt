@@ -1,5 +1,5 @@
-use Rattle.ot_program.specs.walk.Variables.{bindings_of}
-use Rattle.ot_program.specs.walk.Clauses.{wait_clause_of}
+use Rattle.ot_program.specs.walk.Sizes.{bindings_of}
+use Rattle.ot_program.specs.walk.Parts.{wait_clause_of}
 use Rattle.ot_program.proofs.Lists.{part_put}
 use Rattle.ot_program.proofs.wait.each_clause.Goals as goal
 

@@ -1,10 +1,9 @@
 use Rattle.std.proofs.Common.{◌≡◌, ◌+◌, ◌∙◌, sym, ap, subst, drop, arith, rules}
 use Rattle.ot_model.specs.View.{stmt_of, stmts_of}
 use Rattle.ot_model.specs.Cells.{lengths}
-use Rattle.ot_model.specs.Counts.{size, size_one, tasks_in, tasks_in_one}
+use Rattle.ot_model.specs.Tree.{size, size_one, tasks_in, tasks_in_one}
 use Rattle.ot_model.specs.Names.{NamedIn}
-use Rattle.ot_model.specs.Runs.{state_of}
-use Rattle.ot_model.specs.Serial.{serial}
+use Rattle.ot_model.specs.Serial.{state_of, serial}
 use Rattle.ot_check.proofs.Cited.{rest_is}
 use Rattle.ot_race.specs.View.{events_in}
 use Rattle.ot_race.proofs.EventLemmas.{events_loop}

@@ -1,11 +1,10 @@
 use Rattle.std.proofs.Common.{◌≡◌, ◌+◌, ◌++◌, ◌≤◌, drop, length}
 use Rattle.std.specs.Prelude.{option_map}
 use Rattle.ot_model.specs.View.{stmts_of}
-use Rattle.ot_model.specs.Counts.{size, tasks_in}
-use Rattle.ot_model.specs.Serial.{serial}
+use Rattle.ot_model.specs.Tree.{size, tasks_in}
+use Rattle.ot_model.specs.Serial.{serial, state_of}
 use Rattle.ot_model.specs.Names.{NamedIn}
 use Rattle.ot_model.specs.Cells.{lengths}
-use Rattle.ot_model.specs.Runs.{state_of}
 use Rattle.ot_race.specs.Events.{this_way, events}
 use Rattle.ot_race.specs.View.{events_in}
 use Rattle.ot_race.proofs.run.+run.Given as goal

@@ -1,5 +1,5 @@
 use Rattle.ot_model.specs.Cells.{cell_of}
-use Rattle.ot_model.specs.Value.{val}
+use Rattle.ot_model.specs.Tree.{val}
 use Rattle.ot_corder.specs.declared.order.Order.TheVariants.{OfLanguage}
 use Rattle.ot_raceless.proofs.laws.accepted_races_in_no_run.Goals as goal
 

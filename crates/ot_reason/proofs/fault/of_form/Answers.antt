@@ -1,6 +1,6 @@
 use Rattle.std.proofs.Common.{◌≡◌, ◌∙◌, length, sym, ap, arith}
 use Rattle.std.specs.Prelude.{option_and_then}
-use Rattle.ot_model.specs.ShapeView.{arrays_of}
+use Rattle.ot_model.specs.Programs.{arrays_of}
 use Rattle.ot_reason.specs.Faults.{fault_in}
 use Rattle.ot_reason.proofs.FaultLemmas.{no_fault, free_here, put_here, get_here}
 use Rattle.ot_reason.proofs.fault.of_form.Goals as goal

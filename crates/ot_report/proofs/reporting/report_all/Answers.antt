@@ -1,6 +1,5 @@
 use Rattle.std.proofs.Common.{◌++◌, map, sym, ap, ◌∙◌, subst, arith}
-use Rattle.ot_judge.specs.Places.{IsPlaced}
-use Rattle.ot_judge.specs.Going.{Standing, Goes, IsBehind}
+use Rattle.ot_judge.specs.Judging.{IsPlaced, Standing, Goes, IsBehind}
 use Rattle.ot_judge.proofs.FindingLemmas.{match_none, match_some}
 use Rattle.ot_report.specs.NoteView.{note_by}
 use Rattle.ot_report.specs.Report.{notes_text}

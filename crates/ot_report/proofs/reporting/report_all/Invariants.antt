@@ -1,6 +1,5 @@
 use Rattle.std.proofs.Common.{◌≡◌, ◌≤◌, List, length}
-use Rattle.ot_judge.specs.Judging.{Refusal}
-use Rattle.ot_judge.specs.Going.{Goes, bytes_left}
+use Rattle.ot_judge.specs.Judging.{Refusal, Goes, bytes_left}
 use Rattle.ot_report.proofs.ReportLemmas.{Reporting}
 use Rattle.ot_report.proofs.reporting.report_all.Given as goal
 

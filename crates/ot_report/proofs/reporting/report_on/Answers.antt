@@ -1,8 +1,7 @@
 use Rattle.std.proofs.Common.{◌∙◌, subst}
 use Rattle.ot_check.proofs.Cited.{if_ok}
 use Rattle.ot_file.specs.Comments.{blanked}
-use Rattle.ot_judge.specs.Judging.{refusals_in, finds}
-use Rattle.ot_judge.specs.Going.{Goes}
+use Rattle.ot_judge.specs.Judging.{refusals_in, finds, Goes}
 use Rattle.ot_report.specs.Report.{Reports}
 use Rattle.ot_report.proofs.reporting.report_on.Goals as goal
 

@@ -1,6 +1,6 @@
 use Rattle.std.proofs.Common.{◌≡◌, length, map}
 use Rattle.std.specs.Prelude.{string_bytes}
-use Rattle.ot_serve.specs.Tenants.{are_tenants}
+use Rattle.ot_serve.specs.Serving.{are_tenants}
 use Rattle.ot_serve.proofs.names.are_tenants.Given as goal
 
 -- they are names of tenants where the rest are

@@ -2,8 +2,7 @@ use Rattle.std.proofs.Common.{◌≡◌, drop}
 use Rattle.std.specs.Prelude.{IsSome}
 use Rattle.ot_task.specs.Copies.{assigned}
 use Rattle.ot_model.specs.declared.expr.Cell.{Cell}
-use Rattle.ot_owner.specs.Lending.{value_at}
-use Rattle.ot_owner.specs.Leases.{lease_of}
+use Rattle.ot_owner.specs.Lending.{value_at, lease_of}
 use Rattle.ot_task.specs.Assigns.{assigns_of, CanAssign}
 use Rattle.ot_task.proofs.assign.assign_all.Given as goal
 

@@ -2,7 +2,7 @@ use Rattle.std.proofs.Common.{◌≡◌, ◌∙◌, ◌+◌, ◌*◌, ◌<◌, d
 use Rattle.std.specs.Prelude.{min}
 use Rattle.std.proofs.Math.Nat.{mul-pos}
 use Rattle.ot_model.specs.View.{stmt_of, stmts_of}
-use Rattle.ot_model.specs.Counts.{size, size_one}
+use Rattle.ot_model.specs.Tree.{size, size_one}
 use Rattle.ot_check.proofs.Cited.{rest_is}
 use Rattle.ot_ways.specs.Ways.{ways, ways_one}
 use Rattle.ot_ways.proofs.WayLemmas.{some_way, some_way_one, min_step, counted_some}

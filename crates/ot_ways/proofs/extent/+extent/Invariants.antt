@@ -1,7 +1,7 @@
 use Rattle.std.proofs.Common.{◌≡◌, ◌+◌, ◌*◌, ◌<◌, ◌≤◌, drop}
 use Rattle.std.specs.Prelude.{min}
 use Rattle.ot_model.specs.View.{stmts_of}
-use Rattle.ot_model.specs.Counts.{size}
+use Rattle.ot_model.specs.Tree.{size}
 use Rattle.ot_ways.specs.Ways.{ways}
 use Rattle.ot_ways.proofs.extent.+extent.Given as goal
 

@@ -3,12 +3,10 @@ use Rattle.std.specs.Prelude.{Vec, nat_lt}
 use Rattle.std.specs.Global.{Global}
 use Rattle.std.proofs.lemmas.Result.{on_ok_weaker}
 use Rattle.std.proofs.lemmas.List.{length-map, length-append}
-use Rattle.ot_model.specs.Tree.{If, Task, Group}
-use Rattle.ot_model.specs.Value.{cells_named}
+use Rattle.ot_model.specs.Tree.{If, Task, Group, size, size_one, tasks_in, tasks_in_one, cells_named}
 use Rattle.ot_model.specs.declared.stmt.Mode.TheVariants.{Reads, Writes}
-use Rattle.ot_check.specs.Paths.{use_as}
+use Rattle.ot_check.specs.Offences.{use_as}
 use Rattle.ot_model.specs.View.{expr_of, stmt_of, stmts_of}
-use Rattle.ot_model.specs.Counts.{size, size_one, tasks_in, tasks_in_one}
 use Rattle.ot_model.specs.Names.{NamedIn, OneNamedIn}
 use Rattle.ot_model.specs.declared.stmt.Stmt.{the_lemmas}
 use Rattle.ot_check.proofs.Cited.{rest_is}

@@ -1,7 +1,7 @@
 use Rattle.std.proofs.Common.{◌≡◌, ◌+◌, ◌++◌, ◌≤◌, ◌<◌, ℕ, List, drop, length}
 use Rattle.std.specs.Prelude.{option_map}
 use Rattle.ot_model.specs.View.{stmts_of}
-use Rattle.ot_model.specs.Counts.{size, tasks_in}
+use Rattle.ot_model.specs.Tree.{size, tasks_in}
 use Rattle.ot_model.specs.Names.{NamedIn}
 use Rattle.ot_race.specs.View.{events_in}
 use Rattle.ot_ways.specs.Ways.{ways}

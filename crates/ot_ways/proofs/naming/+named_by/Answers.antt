@@ -3,7 +3,7 @@ use Rattle.std.proofs.lemmas.List.{length-append}
 use Rattle.std.proofs.lemmas.List.FromFn.{length-map-range_with_len}
 use Rattle.std.specs.Prelude.{min}
 use Rattle.ot_model.specs.View.{expr_of}
-use Rattle.ot_model.specs.Value.{cell_at, cells_of, cells_named}
+use Rattle.ot_model.specs.Tree.{cell_at, cells_of, cells_named}
 use Rattle.ot_ways.proofs.naming.+named_by.Goals as goal
 
 pub returns-in-Pick : goal.returns-in-Pick

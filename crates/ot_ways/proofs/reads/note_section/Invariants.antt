@@ -1,8 +1,8 @@
 use Rattle.std.proofs.Common.{◌≡◌, ◌++◌, map}
 use Rattle.std.specs.List.{range_with_len}
-use Rattle.ot_model.specs.Value.{cell_at}
+use Rattle.ot_model.specs.Tree.{cell_at}
 use Rattle.ot_model.specs.declared.stmt.Mode.TheVariants.{Reads}
-use Rattle.ot_check.specs.Paths.{use_as}
+use Rattle.ot_check.specs.Offences.{use_as}
 use Rattle.ot_ways.proofs.reads.note_section.Given as goal
 
 abbrev pub invariant-loop-step : goal.invariant-loop-step

@@ -1,6 +1,5 @@
 use Rattle.std.proofs.Common.{◌∷◌, sym, subst, List, Contains, IsPermutation}
-use Rattle.ot_owner.specs.Leases.{Lease}
-use Rattle.ot_owner.specs.Lending.{MayChange}
+use Rattle.ot_owner.specs.Lending.{Lease, MayChange}
 use Rattle.ot_owner.specs.Owning.{Loan, loan_of}
 use Rattle.ot_owner.proofs.OutLemmas.{contains_begun}
 use Rattle.book_tests.proofs.TwoLemmas.{may-fold, none-left}

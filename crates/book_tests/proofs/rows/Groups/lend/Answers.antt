@@ -5,8 +5,7 @@ use Rattle.ot_model.specs.declared.fold.Fold.{Fold as Operation}
 use Rattle.ot_model.specs.declared.stmt.Mode.TheVariants.{Folds}
 use Rattle.ot_model.specs.declared.stmt.Use.{Use}
 use Rattle.ot_owner.specs.Keeping.{Prepared}
-use Rattle.ot_owner.specs.Owning.{Owned, IsFreeFor}
-use Rattle.ot_owner.specs.Rows.{Summed, IsSummedBy}
+use Rattle.ot_owner.specs.Owning.{Owned, IsFreeFor, Summed, IsSummedBy}
 use Rattle.book_tests.specs.TwoGroups.{nth}
 use Rattle.book_tests.proofs.TwoLemmas.{all-one, there, same-operation, two-summed}
 use Rattle.book_tests.proofs.rows.Groups.lend.Goals as goal

@@ -1,6 +1,5 @@
 use Rattle.std.proofs.Common.{◌≡◌, ◌∙◌, ◌++◌, ◌∷◌, [], List, ap, subst, arith}
-use Rattle.ot_owner.specs.Owning.{Owned}
-use Rattle.ot_owner.specs.Rows.{IsSummed, Summed}
+use Rattle.ot_owner.specs.Owning.{Owned, IsSummed, Summed}
 use Rattle.book_tests.specs.TwoGroups.{nth}
 use Rattle.book_tests.proofs.TwoLemmas.{over-unnamed}
 use Rattle.book_tests.proofs.rows.Groups.new.Goals as goal

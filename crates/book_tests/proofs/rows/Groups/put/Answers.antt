@@ -1,6 +1,5 @@
 use Rattle.std.proofs.Common.{sym, subst}
-use Rattle.ot_owner.specs.Leases.{Lease}
-use Rattle.ot_owner.specs.Lending.{MayChange}
+use Rattle.ot_owner.specs.Lending.{Lease, MayChange}
 use Rattle.book_tests.specs.TwoGroups.{IsFoldOf}
 use Rattle.book_tests.proofs.TwoLemmas.{may-fold}
 use Rattle.book_tests.proofs.rows.Groups.put.Goals as goal

@@ -2,7 +2,7 @@ use Rattle.std.proofs.Common.{◌≡◌, ◌∙◌, sym, subst, arith}
 use Rattle.std.specs.Prelude.{All, Any, IsSome}
 use Rattle.ot_model.specs.Cells.{cell_of}
 use Rattle.ot_model.specs.declared.expr.Cell.{Cell}
-use Rattle.ot_owner.specs.Rows.{Summed, without}
+use Rattle.ot_owner.specs.Owning.{Summed, without}
 use Rattle.book_tests.proofs.TwoLemmas.{there, two-inner, two-there, two-closed, outer-open, outer-there}
 use Rattle.book_tests.proofs.rows.Groups.told.Goals as goal
 

@@ -1,5 +1,5 @@
 use Rattle.std.proofs.Common.{ap}
-use Rattle.ot_lines.specs.Counts.{next_count}
+use Rattle.ot_lines.specs.Lines.{next_count}
 use Rattle.ot_ask.proofs.StreamLemmas.{gives_line, gives_none, gives_piece, gives_rest}
 use Rattle.ot_ask.proofs.stream.LinesOfLineSource.read_line.Goals as goal
 

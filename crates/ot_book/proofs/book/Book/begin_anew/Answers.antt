@@ -1,9 +1,8 @@
 use Rattle.std.proofs.Common.{◌≡◌, ◌++◌, [], ◌∷◌, sym, ap, ◌∙◌, subst, arith, None, true, false}
 use Rattle.std.specs.Prelude.{option_map}
-use Rattle.ot_book.specs.Replies.{Accepted}
-use Rattle.ot_book.specs.Books.{next_number, appended, cleared, logged}
+use Rattle.ot_book.specs.Answers.{Accepted}
+use Rattle.ot_book.specs.Books.{next_number, appended, cleared, logged, IsFull}
 use Rattle.ot_book.specs.BookView.{register_of, entries_of}
-use Rattle.ot_book.specs.Opening.{IsFull}
 use Rattle.ot_book.specs.declared.told.Told.TheVariants as v
 use Rattle.ot_book.specs.declared.book.Book.TheInside.{Inside}
 use Rattle.ot_book.proofs.BookLemmas.{logged-checkpoint}

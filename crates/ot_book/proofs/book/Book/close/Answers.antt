@@ -6,8 +6,7 @@ use Rattle.ot_model.specs.Programs.{expanded_of}
 use Rattle.ot_model.specs.Serial.{State as RunState, serial_run}
 use Rattle.ot_model.proofs.SerialLemmas.{serial_run-≤}
 use Rattle.ot_store.specs.Arrays.{cells_in, recelled}
-use Rattle.ot_book.specs.Replies.{Done}
-use Rattle.ot_book.specs.Answers.{Runs, shown}
+use Rattle.ot_book.specs.Answers.{Done, Runs, shown}
 use Rattle.ot_book.specs.Books.{Register, next_step, open_step, appended, logged, closed}
 use Rattle.ot_book.specs.BookView.{register_of, entries_of}
 use Rattle.ot_book.specs.declared.book.Book.TheInside.{Inside}

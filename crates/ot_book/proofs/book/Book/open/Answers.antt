@@ -1,5 +1,5 @@
 use Rattle.std.proofs.Common.{◌≡◌, ◌∙◌, sym, subst}
-use Rattle.ot_book.specs.Opening.{OpensLine}
+use Rattle.ot_book.specs.Books.{OpensLine}
 use Rattle.ot_book.proofs.book.Book.open.Goals as goal
 use Rattle.ot_book.proofs.book.Book.open.Goals.{in-ToRun, in_default-opened}
 

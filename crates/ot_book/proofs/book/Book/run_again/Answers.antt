@@ -1,14 +1,11 @@
 use Rattle.std.proofs.Common.{rules, ◌≡◌, ◌<◌, ◌+◌, ◌^◌, ◌∙◌, ◌++◌, [], ◌∷◌, inl, sym, ap, subst, refl, arith, Some, None, false, vec_len}
 use Rattle.std.specs.Prelude.{option_map}
 use Rattle.std.specs.Arc.{arc_value}
-use Rattle.ot_model.specs.Programs.{expanded_of, IsNamedIn}
-use Rattle.ot_model.specs.Shapes.{array_lengths}
+use Rattle.ot_model.specs.Programs.{expanded_of, IsNamedIn, array_lengths}
 use Rattle.ot_store.specs.Arrays.{shape_in, cells_in}
-use Rattle.ot_book.specs.Replies.{Lost}
-use Rattle.ot_book.specs.Answers.{is_checkpoint}
-use Rattle.ot_book.specs.Books.{Register}
+use Rattle.ot_book.specs.Answers.{Lost, is_checkpoint}
+use Rattle.ot_book.specs.Books.{Register, IsFull, IsFullFor, AnswersNow}
 use Rattle.ot_book.specs.BookView.{register_of, entries_of, HasRoomForReply}
-use Rattle.ot_book.specs.Opening.{IsFull, IsFullFor, AnswersNow}
 use Rattle.ot_book.specs.declared.book.Pending.{Pending}
 use Rattle.ot_book.specs.declared.book.Book.TheInside.{Inside}
 use Rattle.ot_book.proofs.BookLemmas.{logged-other}

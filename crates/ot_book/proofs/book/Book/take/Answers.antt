@@ -1,13 +1,11 @@
 use Rattle.std.proofs.Common.{◌≡◌, ◌+◌, ◌++◌, [], ◌∷◌, sym, ap, ◌∙◌, subst, refl, arith, ◌⊎◌, vec_len, None, false}
 use Rattle.std.specs.Prelude.{option_map, option_and_then}
-use Rattle.ot_book.specs.Replies.{Lost}
-use Rattle.ot_book.specs.Answers.{Now, parsed, is_checkpoint}
+use Rattle.ot_book.specs.Answers.{Lost, Now, parsed, is_checkpoint}
 use Rattle.ot_book.specs.Requests.{request_of, asks_checkpoint}
-use Rattle.ot_book.specs.Books.{next_step}
+use Rattle.ot_book.specs.Books.{next_step, IsFull, IsFullFor, AnswersNow}
 use Rattle.ot_book.specs.declared.book.Book.TheInside.{Inside}
 use Rattle.ot_book.specs.ReplyView.{told_of}
 use Rattle.ot_book.specs.BookView.{register_of, entries_of}
-use Rattle.ot_book.specs.Opening.{IsFull, IsFullFor, AnswersNow}
 use Rattle.ot_book.proofs.BookLemmas.{logged-other}
 use Rattle.ot_book.proofs.CloseLemmas.{entries_of-pushed, register-is}
 use Rattle.ot_book.proofs.OpenLemmas.{free_from, book-appended, answered-now, not_pending, not_last}

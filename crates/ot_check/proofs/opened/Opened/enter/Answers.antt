@@ -1,7 +1,7 @@
 use Rattle.std.proofs.Common.{◌&&◌, ◌||◌, map, ap, ◌∙◌}
 use Rattle.std.specs.Prelude.{slice_get}
 use Rattle.std.proofs.lemmas.List.{map-set}
-use Rattle.ot_model.specs.Uses.{number_of, same_fold}
+use Rattle.ot_model.specs.Cells.{number_of, same_fold}
 use Rattle.ot_check.specs.Offences.{has_cell}
 use Rattle.ot_check.specs.walk.States.{rows_of, set_has}
 use Rattle.ot_check.proofs.WalkLemmas.{on_ok}

@@ -1,6 +1,6 @@
 use Rattle.std.proofs.Common.{map, ap, ◌∙◌, arith}
 use Rattle.std.specs.Prelude.{slice_get}
-use Rattle.ot_model.specs.Uses.{number_of}
+use Rattle.ot_model.specs.Cells.{number_of}
 use Rattle.ot_check.specs.walk.States.{rows_of, set_has}
 use Rattle.ot_check.proofs.RowLemmas.{set-pushed}
 use Rattle.ot_check.proofs.opened.Opened.reach.Goals as goal

@@ -1,6 +1,6 @@
 use Rattle.std.proofs.Common.{ap}
 use Rattle.std.specs.Prelude.{slice_get}
-use Rattle.ot_model.specs.Uses.{number_of}
+use Rattle.ot_model.specs.Cells.{number_of}
 use Rattle.ot_check.specs.walk.States.{set_has}
 use Rattle.ot_check.proofs.standing.Standing.begin_group.Goals as goal
 

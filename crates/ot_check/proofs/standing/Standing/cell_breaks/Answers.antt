@@ -1,7 +1,6 @@
 use Rattle.std.proofs.Common.{[], ◌∷◌, ap, sym, ◌∙◌}
 use Rattle.ot_model.specs.declared.stmt.Mode.TheVariants.{Writes}
-use Rattle.ot_check.specs.Paths.{Enter, use_as}
-use Rattle.ot_check.specs.Offences.{clashes}
+use Rattle.ot_check.specs.Offences.{Enter, use_as, clashes}
 use Rattle.ot_check.specs.Discipline.{may_break}
 use Rattle.ot_check.proofs.Bits.{or_none}
 use Rattle.ot_check.proofs.RegionLemmas.{stands-clash}

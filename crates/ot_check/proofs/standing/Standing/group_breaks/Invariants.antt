@@ -1,8 +1,7 @@
 use Rattle.std.proofs.Common.{List, ◌≡◌, false, take}
 use Rattle.ot_model.specs.declared.fold.Fold.{Fold as Operation}
 use Rattle.ot_model.specs.declared.stmt.Use.{Use}
-use Rattle.ot_check.specs.Paths.{Enter}
-use Rattle.ot_check.specs.Offences.{Declared, Openings}
+use Rattle.ot_check.specs.Offences.{Enter, Declared, Openings}
 use Rattle.ot_check.specs.Discipline.{Children, may_break}
 use Rattle.ot_check.specs.walk.States.{Represents}
 use Rattle.ot_check.proofs.standing.Standing.group_breaks.Given as goal

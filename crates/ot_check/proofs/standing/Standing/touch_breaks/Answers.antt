@@ -1,5 +1,5 @@
 use Rattle.std.proofs.Common.{ap, sym, ◌∙◌}
-use Rattle.ot_check.specs.Paths.{Touch}
+use Rattle.ot_check.specs.Offences.{Touch}
 use Rattle.ot_check.specs.Discipline.{may_break}
 use Rattle.ot_check.proofs.RegionLemmas.{stands-clash}
 use Rattle.ot_check.proofs.standing.Standing.touch_breaks.Goals as goal

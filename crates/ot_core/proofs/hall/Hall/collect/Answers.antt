@@ -1,8 +1,7 @@
 use Rattle.std.proofs.Common.{◌≡◌, ◌⊎◌, refl, sym, ◌∙◌, subst}
 use Rattle.ot_job.specs.declared.state.State.TheVariants.{Working, Failing}
 use Rattle.std.proofs.lemmas.Option.{same_Some}
-use Rattle.ot_job.specs.Live.{Live}
-use Rattle.ot_job.specs.Dealings.{IsOf, NoneOut, IsOver}
+use Rattle.ot_job.specs.Dealings.{Live, IsOf, NoneOut, IsOver}
 use Rattle.ot_core.specs.FloorView.{floor_of}
 use Rattle.ot_core.proofs.FloorLemmas.{collects-pending, collects-ended, collects-failed}
 use Rattle.ot_core.proofs.TurnLemmas.{hall-left}

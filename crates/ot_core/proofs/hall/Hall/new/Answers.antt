@@ -1,6 +1,6 @@
 use Rattle.std.proofs.Common.{◌≡◌, map, arith}
 use Rattle.std.proofs.lemmas.Grind.{common_steps}
-use Rattle.ot_core.specs.Index.{has_claimable}
+use Rattle.ot_core.specs.Floors.{has_claimable}
 use Rattle.ot_core.proofs.TurnLemmas.{none-at-first}
 use Rattle.ot_core.proofs.hall.Hall.new.Goals as goal
 

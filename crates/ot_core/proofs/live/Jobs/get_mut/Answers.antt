@@ -1,6 +1,6 @@
 use Rattle.std.proofs.Common.{sym, ap, ◌∙◌, refl, subst, Some, set}
 use Rattle.std.specs.Prelude.{IsSome}
-use Rattle.ot_core.specs.Index.{job_of}
+use Rattle.ot_core.specs.Floors.{job_of}
 use Rattle.ot_core.proofs.IndexLemmas.{at_key, jobs-written, job-at_key}
 use Rattle.ot_core.proofs.live.Jobs.get_mut.Goals as goal
 

@@ -1,6 +1,6 @@
 use Rattle.std.proofs.Common.{sym, ap, ◌∙◌, subst, None, set}
 use Rattle.std.specs.Prelude.{IsSome}
-use Rattle.ot_core.specs.Index.{job_of}
+use Rattle.ot_core.specs.Floors.{job_of}
 use Rattle.ot_core.proofs.IndexLemmas.{at_key, jobs-changed, indexes-fewer, not_others}
 use Rattle.ot_core.proofs.live.Jobs.take.Goals as goal
 

@@ -4,9 +4,8 @@ use Rattle.std.proofs.lemmas.List.{length-map, map-append}
 use Rattle.ot_store.specs.declared.limits.Limits.{Limits}
 use Rattle.ot_book.specs.Books.{max_number}
 use Rattle.ot_book.specs.Room.{takes}
-use Rattle.ot_core.specs.Accounts.{Account, IsSound, room_asked}
+use Rattle.ot_core.specs.Accounts.{Account, IsSound, room_asked, IsFull, HasRoomFor}
 use Rattle.ot_core.specs.AccountView.{account_of}
-use Rattle.ot_core.specs.Asking.{IsFull, HasRoomFor}
 use Rattle.ot_core.proofs.AccountLemmas.{sound-admitted, full-past, test-takes, entries-asked, entries-admitted}
 use Rattle.ot_core.proofs.tenant.Tenant.admit.Goals as goal
 

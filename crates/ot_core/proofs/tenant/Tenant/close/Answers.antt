@@ -1,7 +1,7 @@
 use Rattle.std.proofs.Common.{sym, ap, ◌∙◌}
 use Rattle.std.specs.Prelude.{IsSome, is_some, false}
 use Rattle.ot_core.specs.AccountView.{account_of}
-use Rattle.ot_core.specs.Asking.{with_reply}
+use Rattle.ot_core.specs.Accounts.{with_reply}
 use Rattle.ot_core.proofs.AccountLemmas.{tenant-replied, below-open, closed-is}
 use Rattle.ot_core.proofs.tenant.Tenant.close.Goals as goal
 

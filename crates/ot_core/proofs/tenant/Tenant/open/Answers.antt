@@ -1,10 +1,8 @@
 use Rattle.std.proofs.Common.{sym, ap, ◌∙◌, subst, true, Some}
 use Rattle.ot_book.specs.Answers.{is_checkpoint}
-use Rattle.ot_book.specs.Books.{IsOpenFor, opened, refused}
-use Rattle.ot_book.specs.Opening.{IsFullFor, OpensLine, AnswersNow}
-use Rattle.ot_core.specs.Accounts.{IsSound, room_asked}
+use Rattle.ot_book.specs.Books.{IsOpenFor, opened, refused, IsFullFor, OpensLine, AnswersNow}
+use Rattle.ot_core.specs.Accounts.{IsSound, room_asked, next_line, IsUnopened, Waits}
 use Rattle.ot_core.specs.AccountView.{account_of}
-use Rattle.ot_core.specs.Asking.{next_line, IsUnopened, Waits}
 use Rattle.ot_core.proofs.AccountLemmas.{free-next, tenant-replied, read-next, sound-opened, answered-is, opened-is}
 use Rattle.ot_core.proofs.tenant.Tenant.open.Goals as goal
 

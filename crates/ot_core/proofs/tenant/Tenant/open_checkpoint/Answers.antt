@@ -1,11 +1,10 @@
 use Rattle.std.proofs.Common.{◌≡◌, ◌++◌, sym, ap, ◌∙◌, subst, map, true, false}
 use Rattle.std.proofs.lemmas.List.{map-append}
 use Rattle.ot_book.specs.Answers.{is_checkpoint}
-use Rattle.ot_book.specs.Opening.{IsFullFor, OpensLine, AnswersNow}
+use Rattle.ot_book.specs.Books.{IsFullFor, OpensLine, AnswersNow}
 use Rattle.ot_book.specs.ReplyView.{told_of}
-use Rattle.ot_core.specs.Accounts.{told}
+use Rattle.ot_core.specs.Accounts.{told, next_line, IsUnopened, with_reply}
 use Rattle.ot_core.specs.AccountView.{account_of}
-use Rattle.ot_core.specs.Asking.{next_line, IsUnopened, with_reply}
 use Rattle.ot_core.proofs.AccountLemmas.{checkpoint-answered, checkpoint-logged, checkpoint-is, free-next, tenant-replied, read-next}
 use Rattle.ot_core.proofs.tenant.Tenant.open_checkpoint.Goals as goal
 

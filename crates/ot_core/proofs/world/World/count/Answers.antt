@@ -1,5 +1,5 @@
 use Rattle.std.proofs.Common.{◌≡◌, ◌<◌, ℕ, ap, ◌∙◌, sym, subst, arith, length}
-use Rattle.ot_core.specs.Index.{job_of}
+use Rattle.ot_core.specs.Floors.{job_of}
 use Rattle.ot_core.specs.Scenes.{Scene}
 use Rattle.ot_core.specs.Draining.{count_of, AllAnswered, LivelyAt}
 use Rattle.ot_core.specs.SceneView.{scene_of}

@@ -1,8 +1,7 @@
 use Rattle.std.proofs.Common.{◌≡◌, sym, ◌∙◌, subst, refl, Some, true≢false, slice_get}
-use Rattle.ot_core.specs.Asking as asking
-use Rattle.ot_core.specs.Asking.{IsUnopened, IsAnswered, Waits}
-use Rattle.ot_core.specs.Scenes.{IsScene}
-use Rattle.ot_core.specs.Steps.{Moves, moved}
+use Rattle.ot_core.specs.Accounts as asking
+use Rattle.ot_core.specs.Accounts.{IsUnopened, IsAnswered, Waits}
+use Rattle.ot_core.specs.Scenes.{IsScene, Moves, moved}
 use Rattle.ot_core.specs.SceneView.{scene_of}
 use Rattle.ot_core.proofs.FloorLemmas.{seen}
 use Rattle.ot_core.proofs.SceneLemmas.{scene-answered, scene-opened, answered-lost, moves-at, can-open, cannot-open, starts-job}

@@ -1,6 +1,6 @@
 use Rattle.std.proofs.Common.{subst}
 use Rattle.std.specs.Prelude.{IfOk}
-use Rattle.ot_core.specs.Steps.{StartsFor, Finishes}
+use Rattle.ot_core.specs.Scenes.{StartsFor, Finishes}
 use Rattle.ot_core.specs.declared.event.Event.TheVariants.{Admit, Open, Start, Finish, Reply}
 use Rattle.ot_core.proofs.OthersLemmas.{others, others-on}
 use Rattle.ot_core.proofs.MemoryLemmas.{out-unchanged, out-start}

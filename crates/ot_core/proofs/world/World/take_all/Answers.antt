@@ -2,7 +2,7 @@ use Rattle.std.proofs.Common.{sym, subst, take, get_or, []}
 use Rattle.std.proofs.lemmas.List.{take_more}
 use Rattle.std.proofs.lemmas.Option.{slice_get-get_or}
 use Rattle.ot_job.proofs.ViewLemmas.{on_err_always}
-use Rattle.ot_core.specs.Runs.{RunsTo}
+use Rattle.ot_core.specs.Scenes.{RunsTo}
 use Rattle.ot_core.specs.declared.event.Event.TheVariants.{Admit}
 use Rattle.ot_core.specs.declared.event.Event.{Event}
 use Rattle.ot_core.proofs.RunsLemmas.{runs-more}

@@ -1,5 +1,5 @@
 use Rattle.std.proofs.Common.{take}
-use Rattle.ot_core.specs.Runs.{RunsTo}
+use Rattle.ot_core.specs.Scenes.{RunsTo}
 use Rattle.ot_core.proofs.world.World.take_all.Given as goal
 
 abbrev pub invariant-loop-event : goal.invariant-loop-event

@@ -7,8 +7,7 @@ use Rattle.std.proofs.lemmas.List.Folds.{list_any_at, list_any_more}
 use Rattle.ot_model.specs.declared.stmt.Mode.TheVariants.{Reads}
 use Rattle.ot_model.specs.declared.stmt.Use.{Use}
 use Rattle.ot_depend.specs.Children.{kids_of}
-use Rattle.ot_depend.specs.Waits.{must_wait}
-use Rattle.ot_depend.specs.Cells.{entry_of}
+use Rattle.ot_depend.specs.Cells.{must_wait, entry_of}
 use Rattle.ot_depend.proofs.cells.Table.count_free.Goals as goal
 
 -- what stands past the end of a list

@@ -2,7 +2,7 @@ use Rattle.std.proofs.Common.{◌≡◌, ◌≤◌, ◌<◌, ◌-◌, ℕ, [], �
 use Rattle.std.specs.Prelude.{Some, slice_get}
 use Rattle.ot_model.specs.declared.stmt.Use.{Use}
 use Rattle.ot_depend.specs.Children.{kids_of}
-use Rattle.ot_depend.specs.Waits.{some_must_wait}
+use Rattle.ot_depend.specs.Cells.{some_must_wait}
 use Rattle.ot_depend.proofs.cells.Table.count_free.Given as goal
 
 abbrev pub invariant-loop-place : goal.invariant-loop-place

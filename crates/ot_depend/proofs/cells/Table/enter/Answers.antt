@@ -2,7 +2,7 @@ use Rattle.std.proofs.Common.{◌≡◌, ◌<◌, set, take, get_or, length, ap,
 use Rattle.std.proofs.lemmas.Option.{slice_get_within}
 use Rattle.std.proofs.lemmas.List.{length-map}
 use Rattle.ot_model.specs.Cells.{updated}
-use Rattle.ot_depend.specs.Numbers.{Admits}
+use Rattle.ot_depend.specs.Kept.{Admits}
 use Rattle.ot_depend.specs.Cells.{line_of, lines_of, enter}
 use Rattle.ot_depend.specs.declared.cells.Spot.{Spot}
 use Rattle.ot_depend.specs.declared.cells.Table.{Table}

@@ -3,8 +3,7 @@ use Rattle.std.proofs.lemmas.Option.{slice_get_within}
 use Rattle.std.proofs.lemmas.List.{length-map}
 use Rattle.ot_depend.specs.Kept.{Entry}
 use Rattle.ot_depend.specs.Children.{kids_of}
-use Rattle.ot_depend.specs.Cells.{line_of, lines_of, entry_at}
-use Rattle.ot_depend.specs.Waits.{must_wait}
+use Rattle.ot_depend.specs.Cells.{line_of, lines_of, entry_at, must_wait}
 use Rattle.ot_depend.specs.declared.cells.Table.{Table}
 use Rattle.ot_depend.proofs.TableLemmas.{entry_read}
 use Rattle.ot_depend.proofs.cells.Table.must_wait.Goals as goal

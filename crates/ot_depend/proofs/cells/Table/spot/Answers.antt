@@ -2,7 +2,7 @@ use Rattle.std.proofs.Common.{rules, refl, ◌≡◌, ◌<◌, List, length, Som
 use Rattle.std.specs.List.{slice_get}
 use Rattle.std.proofs.lemmas.Option.{slice_get_within}
 use Rattle.std.proofs.lemmas.List.{length-map}
-use Rattle.ot_depend.specs.Numbers.{HasRoom}
+use Rattle.ot_depend.specs.Kept.{HasRoom}
 use Rattle.ot_depend.specs.Cells.{Line, line_of, lines_of, place_of, entry_at}
 use Rattle.ot_depend.proofs.ListLemmas.{kept_at, here_at}
 use Rattle.ot_depend.proofs.TableLemmas.{lines_of-set-same, with_users}

@@ -3,7 +3,7 @@ use Rattle.ot_model.specs.declared.stmt.Use.{Use}
 use Rattle.ot_depend.specs.Children.{kids_of}
 use Rattle.ot_depend.specs.Siblings.{waits_for}
 use Rattle.ot_depend.specs.View.{siblings_in}
-use Rattle.ot_depend.specs.Waits.{some_must_wait}
+use Rattle.ot_depend.specs.Cells.{some_must_wait}
 use Rattle.ot_depend.proofs.WaitsLemmas.{rows-waits_for}
 use Rattle.ot_depend.proofs.kept.Kept.count_free.Goals as goal
 

@@ -3,11 +3,10 @@ use Rattle.serde_json.specs.Data.{depth}
 use Rattle.serde_json.specs.View.{view}
 use Rattle.ot_program.specs.Copies.{copies, in_order, Turn}
 use Rattle.ot_program.proofs.Seen.{array_seen}
-use Rattle.ot_place.specs.Seeking.{bindings_of}
+use Rattle.ot_place.specs.Spots.{bindings_of}
 use Rattle.ot_place.specs.Texts.{depth_of}
 use Rattle.ot_place.proofs.CopyLemmas.{no_list, a_list, item_depth}
-use Rattle.ot_fault.specs.First.{shape_of}
-use Rattle.ot_fault.specs.Why.{short}
+use Rattle.ot_fault.specs.Whys.{shape_of, short}
 use Rattle.ot_fault.specs.Walk.{step_by}
 use Rattle.ot_fault.proofs.WalkLemmas.{seen_as, items_on, items_none, turns_on, turns_none, if_on, for_is, statement_on, one_on}
 use Rattle.ot_fault.proofs.find.Finder.+find.Goals as goal

@@ -1,7 +1,7 @@
 use Rattle.std.proofs.Common.{◌∙◌, sym, ap, refl}
 use Rattle.std.specs.Prelude.{option_map}
-use Rattle.ot_place.specs.Seeking.{bindings_of}
-use Rattle.ot_fault.specs.First.{shape_of}
+use Rattle.ot_place.specs.Spots.{bindings_of}
+use Rattle.ot_fault.specs.Whys.{shape_of}
 use Rattle.ot_mixed.specs.Mixed.{named_by}
 use Rattle.ot_fault.proofs.FirstLemmas.{mixed_found, mixed_none}
 use Rattle.ot_fault.proofs.RefusalLemmas.{task_faultless}

@@ -3,7 +3,7 @@ use Rattle.std.specs.Prelude.{IfOk}
 use Rattle.serde_json.specs.View.{view}
 use Rattle.ot_program.specs.Copies.{ProgramText, copies, in_copy, in_order}
 use Rattle.ot_program.specs.Programs.{program_copy}
-use Rattle.ot_fault.specs.First.{shape_of}
+use Rattle.ot_fault.specs.Whys.{shape_of}
 use Rattle.ot_fault.specs.Walk.{walk, step_by}
 use Rattle.ot_fault.proofs.WalkLemmas.{seen_as, one_on}
 use Rattle.ot_fault.proofs.find.Finder.program.Goals as goal

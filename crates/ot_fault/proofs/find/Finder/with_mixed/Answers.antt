@@ -1,8 +1,8 @@
 use Rattle.std.proofs.Common.{ap}
 use Rattle.std.specs.Prelude.{option_map}
-use Rattle.ot_place.specs.Seeking.{bindings_of}
+use Rattle.ot_place.specs.Spots.{bindings_of}
 use Rattle.ot_place.specs.Texts.{text_by}
-use Rattle.ot_fault.specs.First.{shape_of, why_by}
+use Rattle.ot_fault.specs.Whys.{shape_of, why_by}
 use Rattle.ot_fault.proofs.FirstLemmas.{told_already}
 use Rattle.ot_fault.proofs.find.Finder.with_mixed.Goals as goal
 

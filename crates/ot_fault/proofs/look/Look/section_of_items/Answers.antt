@@ -1,9 +1,7 @@
 use Rattle.std.proofs.Common.{◌∙◌, rules, sym, ap}
 use Rattle.serde_json.specs.Data.{Data}
 use Rattle.ot_program.specs.Meanings.{section}
-use Rattle.ot_fault.specs.Why.{after}
-use Rattle.ot_fault.specs.Whys.{section_whys}
-use Rattle.ot_fault.specs.First.{told_by, shape_by, variables_by}
+use Rattle.ot_fault.specs.Whys.{after, section_whys, told_by, shape_by, variables_by}
 use Rattle.ot_mixed.proofs.ClauseLemmas.{three_items}
 use Rattle.ot_fault.proofs.FormLemmas.{no_section_but_three, no_len_but_three}
 use Rattle.ot_fault.proofs.look.Look.section_of_items.Goals as goal

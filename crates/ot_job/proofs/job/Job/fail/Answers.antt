@@ -1,6 +1,6 @@
 use Rattle.std.proofs.Common.{◌∷◌, refl, ap, sym, subst, arith, List, true, inl, inr, IsPermutation, option_map}
 use Rattle.ot_job.proofs.Common.{loan_of, Region, weight_of, HasPiece, live_of, Live, at, Came, IsOut, IsWell}
-use Rattle.ot_job.specs.States.{Fails}
+use Rattle.ot_job.specs.Dealings.{Fails}
 use Rattle.ot_job.proofs.DealingsLemmas.{stands-by}
 use Rattle.ot_job.proofs.InsideLemmas.{found-as, not-found-out}
 use Rattle.ot_job.proofs.SettleLemmas.{has-piece, has-run, out-here, worker-is}

@@ -1,4 +1,4 @@
-use Rattle.ot_lines.specs.Counts.{flow}
+use Rattle.ot_lines.specs.Lines.{flow}
 use Rattle.ot_lines.proofs.Hearing.{Begun}
 use Rattle.ot_lines.proofs.lines.Lines.next.Given as goal
 

@@ -1,5 +1,5 @@
 use Rattle.std.proofs.Common.{◌∙◌, ap}
-use Rattle.ot_model.specs.Uses.{first_of}
+use Rattle.ot_model.specs.Cells.{first_of}
 use Rattle.ot_model.specs.Joining.{join_by}
 use Rattle.ot_model.specs.Monoids.{join-neutral}
 use Rattle.ot_model.proofs.stmt.Mode.joined.Goals as goal

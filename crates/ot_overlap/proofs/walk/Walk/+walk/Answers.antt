@@ -5,7 +5,7 @@ use Rattle.serde_json.specs.View.{view, items_view}
 use Rattle.ot_program.specs.Copies.{Copies, copies, copies_of, turns}
 use Rattle.ot_program.proofs.Seen.{array_seen}
 use Rattle.ot_place.specs.Texts.{depth_of}
-use Rattle.ot_place.specs.Seeking.{bindings_of}
+use Rattle.ot_place.specs.Spots.{bindings_of}
 use Rattle.ot_place.proofs.CopyLemmas.{no_list, a_list, item_depth}
 use Rattle.ot_overlap.specs.Items.{met_in}
 use Rattle.ot_overlap.specs.View.{met_by, arrays_by}

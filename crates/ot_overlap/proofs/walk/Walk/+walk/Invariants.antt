@@ -3,7 +3,7 @@ use Rattle.serde_json.specs.Data.{depth, items_depth}
 use Rattle.serde_json.specs.View.{view, items_view}
 use Rattle.ot_program.specs.Copies.{copies, copies_of, turns}
 use Rattle.ot_place.specs.Texts.{Profile, Stands, depth_of}
-use Rattle.ot_place.specs.Seeking.{bindings_of}
+use Rattle.ot_place.specs.Spots.{bindings_of}
 use Rattle.ot_overlap.specs.Items.{met_in}
 use Rattle.ot_overlap.specs.View.{met_by, arrays_by}
 use Rattle.ot_overlap.proofs.walk.Walk.+walk.Given as goal

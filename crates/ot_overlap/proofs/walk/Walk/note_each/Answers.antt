@@ -1,5 +1,5 @@
 use Rattle.std.proofs.Common.{arith}
-use Rattle.ot_place.specs.Seeking.{bindings_of}
+use Rattle.ot_place.specs.Spots.{bindings_of}
 use Rattle.ot_overlap.specs.Items.{item_of}
 use Rattle.ot_overlap.specs.View.{arrays_by}
 use Rattle.ot_overlap.proofs.WalkLemmas.{clauses_next, clauses_end}

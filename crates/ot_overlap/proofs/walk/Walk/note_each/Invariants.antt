@@ -1,7 +1,7 @@
 use Rattle.std.proofs.Common.{◌≡◌, ◌++◌, drop, map}
 use Rattle.serde_json.specs.View.{items_view}
 use Rattle.ot_program.specs.Meanings.{each}
-use Rattle.ot_place.specs.Seeking.{bindings_of}
+use Rattle.ot_place.specs.Spots.{bindings_of}
 use Rattle.ot_overlap.specs.Items.{item_of, sections_among}
 use Rattle.ot_overlap.specs.View.{arrays_by}
 use Rattle.ot_overlap.proofs.walk.Walk.note_each.Given as goal

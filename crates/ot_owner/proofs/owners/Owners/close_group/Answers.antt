@@ -5,8 +5,7 @@ use Rattle.std.proofs.lemmas.Iterator.Adapters.{position_from-zero}
 use Rattle.ot_model.specs.Cells.{cell_of}
 use Rattle.ot_owner.specs.Keeping.{IsSound, IsLast, Made, HasRow, Prepared}
 use Rattle.ot_owner.specs.Kept.{loans_in, spare_in, summed_of, summeds_of, made_of, mades_of}
-use Rattle.ot_owner.specs.Owning.{Owned, IsFreeFor}
-use Rattle.ot_owner.specs.Rows.{Summed, NoTwoShare, copies_in, without, folds_in}
+use Rattle.ot_owner.specs.Owning.{Owned, IsFreeFor, Summed, NoTwoShare, copies_in, without, folds_in}
 use Rattle.ot_owner.specs.Worth.{combined, worth_over, closed_over}
 use Rattle.ot_owner.specs.declared.rows.Group.{Group}
 use Rattle.ot_owner.proofs.OpenLemmas.{closing-at, not_open, closed-sound, worth-closed, same_worth}

@@ -1,4 +1,4 @@
-use Rattle.ot_owner.specs.Leases.{lease_of}
+use Rattle.ot_owner.specs.Lending.{lease_of}
 use Rattle.ot_owner.specs.Kept.{loans_in, summeds_of}
 use Rattle.ot_owner.specs.Owning.{Loan}
 use Rattle.ot_owner.proofs.OpenLemmas.{ended-sound}

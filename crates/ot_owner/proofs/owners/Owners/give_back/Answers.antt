@@ -1,16 +1,13 @@
 use Rattle.std.proofs.Common.{◌≡◌, ◌∙◌, List, ap, sym, subst, IsSome, Contains, ◌-◌}
 use Rattle.std.specs.Prelude.{All, true, vec_capacity, vec_len}
-use Rattle.ot_model.specs.Cells.{cell_of}
-use Rattle.ot_model.specs.Uses.{is_fold}
+use Rattle.ot_model.specs.Cells.{cell_of, is_fold}
 use Rattle.ot_model.specs.declared.stmt.Mode.TheVariants.{Writes}
 use Rattle.ot_owner.specs.declared.lent.LentCell.{LentCell}
-use Rattle.ot_owner.specs.Back.{AreStored, all_back}
+use Rattle.ot_owner.specs.Worth.{AreStored, all_back, worth, AreJoined}
 use Rattle.ot_owner.specs.Keeping.{IsSound, IsLast, Made, HasRow, Prepared}
 use Rattle.ot_owner.specs.Kept.{loans_in, spare_in, summeds_of, mades_of}
-use Rattle.ot_owner.specs.Leases.{lease_of}
-use Rattle.ot_owner.specs.Owning.{Loan}
-use Rattle.ot_owner.specs.Rows.{Summed, IsSummed, copy_among, folds_in}
-use Rattle.ot_owner.specs.Worth.{worth, AreJoined}
+use Rattle.ot_owner.specs.Lending.{lease_of}
+use Rattle.ot_owner.specs.Owning.{Loan, Summed, IsSummed, copy_among, folds_in}
 use Rattle.ot_owner.proofs.GivingLemmas.{worth_with, joined-worth}
 use Rattle.ot_owner.proofs.OpenLemmas.{Copies, Own, all-at, copies-lent, own-lent, back-sound}
 use Rattle.ot_owner.proofs.owners.Owners.give_back.Goals as goal

@@ -4,8 +4,7 @@ use Rattle.ot_model.specs.Cells.{cell_of}
 use Rattle.ot_model.specs.declared.fold.Fold.{Fold as Operation}
 use Rattle.ot_model.specs.declared.stmt.Mode.TheVariants.{Folds}
 use Rattle.ot_owner.specs.Keeping.{IsSound}
-use Rattle.ot_owner.specs.Owning.{Loan, Owned, IsFreeFor}
-use Rattle.ot_owner.specs.Rows.{IsSummedBy, begun_for}
+use Rattle.ot_owner.specs.Owning.{Loan, Owned, IsFreeFor, IsSummedBy, begun_for}
 use Rattle.ot_owner.specs.Kept.{loans_in, summeds_of}
 use Rattle.ot_owner.specs.Worth.{worth_over}
 use Rattle.ot_owner.proofs.OpenLemmas.{begun-alike, begun-worth, leased-sound, same_small}

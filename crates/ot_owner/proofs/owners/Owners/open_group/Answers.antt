@@ -5,8 +5,7 @@ use Rattle.ot_model.specs.Cells.{cell_of}
 use Rattle.ot_model.specs.declared.expr.Cell.{Cell}
 use Rattle.ot_owner.specs.Keeping.{IsSound}
 use Rattle.ot_owner.specs.Kept.{loans_in, summed_of, summeds_of}
-use Rattle.ot_owner.specs.Owning.{Owned, IsFreeFor}
-use Rattle.ot_owner.specs.Rows.{Summed, IsNamed, IsSummed}
+use Rattle.ot_owner.specs.Owning.{Owned, IsFreeFor, Summed, IsNamed, IsSummed}
 use Rattle.ot_owner.specs.Worth.{worth_over}
 use Rattle.ot_owner.proofs.OpenLemmas.{opened-sound, opened-regular, opened-worth, same_worth}
 use Rattle.ot_owner.proofs.owners.Owners.open_group.Goals as goal

@@ -1,6 +1,6 @@
 use Rattle.std.proofs.Common.{◌∷◌, sym}
 use Rattle.std.proofs.lemmas.List.Sorted.{IsPermutation-sym}
-use Rattle.ot_owner.specs.Leases.{lease_of}
+use Rattle.ot_owner.specs.Lending.{lease_of}
 use Rattle.ot_owner.specs.Owning.{Loan}
 use Rattle.ot_owner.specs.Kept.{loans_in}
 use Rattle.ot_owner.proofs.SlotLemmas.{held-more}

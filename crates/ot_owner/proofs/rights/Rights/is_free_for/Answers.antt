@@ -2,7 +2,7 @@ use Rattle.std.proofs.Common.{◌<◌, ℕ, List, length, get_or, ap, inl, inr, 
 use Rattle.std.proofs.lemmas.List.{get_or_default}
 use Rattle.slab.specs.Slab.{values}
 use Rattle.slab.proofs.SlabLemmas.{Contains-cons, Contains-cons_cases, Contains-entries}
-use Rattle.ot_model.specs.Uses.{Conflict}
+use Rattle.ot_model.specs.Cells.{Conflict}
 use Rattle.ot_owner.specs.Owning.{Loan}
 use Rattle.ot_owner.proofs.SlotLemmas.{at-held, held-at}
 use Rattle.ot_owner.proofs.rights.Rights.is_free_for.Goals as goal

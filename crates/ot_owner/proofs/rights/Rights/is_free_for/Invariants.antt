@@ -1,6 +1,6 @@
 use Rattle.std.proofs.Common.{◌≡◌, ◌⊎◌, ℕ, Some, Contains}
 use Rattle.slab.specs.Slab.{get}
-use Rattle.ot_model.specs.Uses.{Conflict}
+use Rattle.ot_model.specs.Cells.{Conflict}
 use Rattle.ot_owner.specs.Owning.{Loan}
 use Rattle.ot_owner.proofs.rights.Rights.is_free_for.Given as goal
 

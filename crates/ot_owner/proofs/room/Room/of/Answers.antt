@@ -1,5 +1,5 @@
 use Rattle.std.proofs.Common.{◌↔◌, sym, subst, Contains}
-use Rattle.ot_owner.specs.Rows.{IsNamed}
+use Rattle.ot_owner.specs.Owning.{IsNamed}
 use Rattle.ot_owner.proofs.room.Room.of.Goals as goal
 
 pub returns : goal.returns

@@ -1,8 +1,7 @@
 use Rattle.std.proofs.Common.{rules, ◌≡◌, sym, subst, true, false, Bool}
 use Rattle.std.proofs.lemmas.List.Sorted.{IsPartitionPoint-from_clause}
 use Rattle.std.specs.List.Sorted.{IsPartitionedBy, IsPartitionPoint}
-use Rattle.ot_model.specs.Cells.{is_before}
-use Rattle.ot_model.specs.Uses.{AreInOrder}
+use Rattle.ot_model.specs.Cells.{is_before, AreInOrder}
 use Rattle.ot_model.specs.declared.stmt.Use.{Use}
 use Rattle.ot_model.proofs.OrderLemmas.{each_precedes}
 use Rattle.ot_owner.proofs.PlaceLemmas.{parted_by_cell}

@@ -2,7 +2,7 @@ use Rattle.std.proofs.Common.{◌≡◌, List, ℕ, length, ap, ◌∙◌, arith
 use Rattle.std.specs.Prelude.{Option}
 use Rattle.ot_owner.specs.Keeping.{Made}
 use Rattle.ot_owner.specs.Kept.{row_of}
-use Rattle.ot_owner.specs.Rows.{Summed, begun_row}
+use Rattle.ot_owner.specs.Owning.{Summed, begun_row}
 use Rattle.ot_owner.specs.declared.rows.Row.{Row}
 use Rattle.ot_owner.proofs.RowLemmas.{map-changed, map-kept, made_here, made_within}
 use Rattle.ot_owner.proofs.rows.Group.begin_row.Goals as goal

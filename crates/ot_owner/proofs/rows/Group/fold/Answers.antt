@@ -4,7 +4,7 @@ use Rattle.ot_owner.specs.declared.rows.Row.{Row}
 use Rattle.std.specs.Prelude.{Option, option_map}
 use Rattle.ot_model.specs.Cells.{updated}
 use Rattle.ot_model.specs.Joining.{join_by}
-use Rattle.ot_owner.specs.Rows.{Summed}
+use Rattle.ot_owner.specs.Owning.{Summed}
 use Rattle.ot_owner.specs.Kept.{row_of}
 use Rattle.ot_owner.proofs.RowLemmas.{map-changed, map-kept}
 use Rattle.ot_owner.proofs.rows.Group.fold.Goals as goal

@@ -3,7 +3,7 @@ use Rattle.std.specs.Prelude.{Option, Some, IfSome, slice_get}
 use Rattle.std.proofs.lemmas.List.{length-map, map-set}
 use Rattle.std.proofs.lemmas.Result.{on_ok_weaker}
 use Rattle.ot_owner.specs.Kept.{row_of}
-use Rattle.ot_owner.specs.Rows.{Summed}
+use Rattle.ot_owner.specs.Owning.{Summed}
 use Rattle.ot_owner.specs.declared.rows.Row.{Row}
 use Rattle.ot_owner.proofs.RowLemmas.{map-kept, seen-at, long_here, slice_get-set}
 use Rattle.ot_owner.proofs.rows.Group.make_row.Goals as goal

@@ -1,8 +1,7 @@
 use Rattle.std.proofs.Common.{◌≡◌, ◌<◌, ◌∙◌, length, take, ap, arith}
 use Rattle.std.proofs.lemmas.Grind.{common_steps}
 use Rattle.std.proofs.lemmas.List.{length-map, take_all}
-use Rattle.ot_owner.specs.Leases.{copy_of}
-use Rattle.ot_owner.specs.Lending.{uses_of}
+use Rattle.ot_owner.specs.Lending.{copy_of, uses_of}
 use Rattle.ot_owner.proofs.RightsLemmas.{uses_of-lent_from}
 use Rattle.ot_owner.proofs.slip.Slip.fill.Goals as goal
 

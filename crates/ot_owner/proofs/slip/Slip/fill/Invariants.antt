@@ -1,6 +1,6 @@
 use Rattle.std.proofs.Common.{◌≡◌, ◌≤◌, take, length}
 use Rattle.std.specs.Prelude.{vec_capacity}
-use Rattle.ot_owner.specs.Leases.{lent_from}
+use Rattle.ot_owner.specs.Lending.{lent_from}
 use Rattle.ot_owner.proofs.slip.Slip.fill.Given as goal
 
 abbrev pub invariant-loop-used : goal.invariant-loop-used

@@ -1,7 +1,7 @@
 use Rattle.std.proofs.Common.{◌≡◌, ◌∙◌, ap, sym, subst}
 use Rattle.std.specs.Prelude.{◌↔◌, IsTrue}
 use Rattle.ot_model.specs.Tree.{Body, End}
-use Rattle.ot_parts.specs.Leading.{leading}
+use Rattle.ot_parts.specs.Parts.{leading}
 use Rattle.ot_parts.proofs.LeadingLemmas.{leading-assigns, listed-none}
 use Rattle.ot_parts.proofs.assigns.Assigns.is_empty.Goals as goal
 

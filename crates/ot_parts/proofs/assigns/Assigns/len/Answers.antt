@@ -1,5 +1,5 @@
 use Rattle.std.proofs.Common.{◌∙◌, sym, ap}
-use Rattle.ot_parts.specs.Leading.{leading_len}
+use Rattle.ot_parts.specs.Parts.{leading_len}
 use Rattle.ot_parts.proofs.LeadingLemmas.{assigns-len}
 use Rattle.ot_parts.proofs.assigns.Assigns.len.Goals as goal
 

@@ -5,9 +5,8 @@ use Rattle.std.proofs.lemmas.List.{nil_from_length}
 use Rattle.ot_model.specs.Tree.{append}
 use Rattle.ot_model.proofs.TreeLemmas as tree
 use Rattle.ot_parts.specs.Assigns.{assigns_of}
-use Rattle.ot_parts.specs.Leading.{leading, behind, test_of}
+use Rattle.ot_parts.specs.Parts.{leading, behind, test_of, part_of, parts_of}
 use Rattle.ot_parts.specs.Left.{PassesAll, StopsAt, frame_parts, outer_parts, parts_left}
-use Rattle.ot_parts.specs.Parts.{part_of, parts_of}
 use Rattle.ot_parts.specs.declared.part.Part.{Part}
 use Rattle.ot_parts.specs.declared.frames.Frame.{Frame}
 use Rattle.ot_parts.proofs.FrameLemmas.{outer-push}

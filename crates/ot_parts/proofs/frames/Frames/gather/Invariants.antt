@@ -1,9 +1,8 @@
 use Rattle.std.proofs.Common.{◌≡◌, length}
 use Rattle.ot_model.specs.Tree.{append}
 use Rattle.ot_parts.specs.Assigns.{assigns_of}
-use Rattle.ot_parts.specs.Leading.{leading, behind}
+use Rattle.ot_parts.specs.Parts.{leading, behind, parts_of}
 use Rattle.ot_parts.specs.Left.{outer_parts, parts_left}
-use Rattle.ot_parts.specs.Parts.{parts_of}
 use Rattle.ot_parts.proofs.frames.Frames.gather.Given as goal
 
 -- what is gathered, with what is left

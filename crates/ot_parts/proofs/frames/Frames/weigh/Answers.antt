@@ -3,8 +3,7 @@ use Rattle.std.specs.Prelude.{Vec}
 use Rattle.std.specs.Global.{Global}
 use Rattle.std.proofs.lemmas.List.{drop_all}
 use Rattle.ot_parts.specs.Left.{frame_parts, outer_parts}
-use Rattle.ot_parts.specs.Parts.{parts_of}
-use Rattle.ot_parts.specs.Weighing.{weight}
+use Rattle.ot_parts.specs.Parts.{parts_of, weight}
 use Rattle.ot_parts.specs.declared.frames.Frame.{Frame}
 use Rattle.ot_parts.specs.declared.part.Part.{Part}
 use Rattle.ot_parts.proofs.WeightLemmas.{weight-frame, weight-two}

@@ -1,6 +1,6 @@
 use Rattle.std.proofs.Common.{◌∙◌, ap}
 use Rattle.std.proofs.lemmas.Result.{on_ok_weaker}
-use Rattle.ot_parts.specs.Held.{added, strongest}
+use Rattle.ot_parts.specs.Modes.{added, strongest}
 use Rattle.ot_parts.proofs.StrongestLemmas.{strongest-front}
 use Rattle.ot_parts.proofs.held.Held.add.Goals as goal
 

@@ -2,7 +2,7 @@ use Rattle.std.proofs.Common.{◌≡◌, ◌++◌, ◌∙◌, [], append-nil, sy
 use Rattle.std.specs.Prelude.{vec_len}
 use Rattle.std.proofs.lemmas.Bool.Decides.{nat_tests}
 use Rattle.std.proofs.lemmas.List.{nil_from_length}
-use Rattle.ot_parts.specs.Held.{strongest}
+use Rattle.ot_parts.specs.Modes.{strongest}
 use Rattle.ot_parts.proofs.StrongestLemmas.{strongest-in_order}
 use Rattle.ot_parts.proofs.held.Held.into_uses.Goals as goal
 

@@ -1,8 +1,7 @@
 use Rattle.std.proofs.Common.{◌∙◌, ap, sym}
 use Rattle.std.specs.Prelude.{option_map}
-use Rattle.ot_parts.specs.Modes.{held_as}
+use Rattle.ot_parts.specs.Modes.{held_as, piece_touches}
 use Rattle.ot_parts.specs.Parts.{condition_of, part_of}
-use Rattle.ot_parts.specs.Touched.{piece_touches}
 use Rattle.ot_parts.proofs.HoldingLemmas.{held-strongest}
 use Rattle.ot_parts.proofs.leading.Leading.of_part.Goals as goal
 

@@ -3,9 +3,7 @@ use Rattle.std.specs.Prelude.{Option, option_map}
 use Rattle.ot_model.specs.Tree.{E}
 use Rattle.ot_model.specs.View.{expr_of}
 use Rattle.ot_parts.specs.Assigns.{assigns_of}
-use Rattle.ot_parts.specs.Held.{strongest}
-use Rattle.ot_parts.specs.Modes.{held_as}
-use Rattle.ot_parts.specs.Touched.{piece_touches}
+use Rattle.ot_parts.specs.Modes.{strongest, held_as, piece_touches}
 use Rattle.ot_parts.specs.declared.assign.Assign.{Assign}
 use Rattle.ot_parts.proofs.HoldingLemmas.{held-strongest}
 use Rattle.ot_parts.proofs.RestLemmas.{map-now}

@@ -1,8 +1,7 @@
 use Rattle.std.proofs.Common.{◌≡◌, ◌∙◌, ap, sym}
 use Rattle.std.specs.Prelude.{Some, None, option_map}
 use Rattle.std.specs.Arc.{arc_value}
-use Rattle.ot_parts.specs.Leading.{control_next}
-use Rattle.ot_parts.specs.Parts.{body_in, branch_of, part_of}
+use Rattle.ot_parts.specs.Parts.{control_next, body_in, branch_of, part_of}
 use Rattle.ot_parts.proofs.RestLemmas.{hidden-next, if-shown, none-branched, other-shown}
 use Rattle.ot_parts.proofs.rest.Rest.branch.Goals as goal
 

@@ -1,8 +1,7 @@
 use Rattle.std.proofs.Common.{◌≡◌, ◌∙◌, List, ap, sym}
 use Rattle.ot_model.specs.Tree.{End}
 use Rattle.ot_parts.specs.Assigns.{assigns_of}
-use Rattle.ot_parts.specs.Leading.{control_next, leading}
-use Rattle.ot_parts.specs.Parts.{part_of}
+use Rattle.ot_parts.specs.Parts.{control_next, leading, part_of}
 use Rattle.ot_parts.specs.declared.assign.Assign.{Assign}
 use Rattle.ot_parts.proofs.RestLemmas.{condition-next, next-condition, passed-leading}
 use Rattle.ot_parts.proofs.rest.Rest.gathered.Goals as goal

@@ -1,6 +1,6 @@
 use Rattle.std.proofs.Common.{sym, subst}
 use Rattle.ot_model.specs.View.{expr_of}
-use Rattle.ot_parts.specs.Leading.{behind, test_of}
+use Rattle.ot_parts.specs.Parts.{behind, test_of}
 use Rattle.ot_parts.specs.Modes.{AssignsFit}
 use Rattle.ot_parts.proofs.FitLemmas.{assigns-fit, test-at, test-fits}
 use Rattle.ot_parts.proofs.rest.Rest.joined.Goals as goal

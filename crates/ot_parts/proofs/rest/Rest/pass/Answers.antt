@@ -1,7 +1,6 @@
 use Rattle.std.proofs.Common.{◌∙◌, ap, sym}
-use Rattle.ot_parts.specs.Leading.{behind}
+use Rattle.ot_parts.specs.Parts.{behind, parts_of}
 use Rattle.ot_parts.specs.Left.{parts_left}
-use Rattle.ot_parts.specs.Parts.{parts_of}
 use Rattle.ot_parts.proofs.RestLemmas.{behind-left}
 use Rattle.ot_parts.proofs.rest.Rest.pass.Goals as goal
 

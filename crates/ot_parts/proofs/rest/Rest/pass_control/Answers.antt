@@ -1,5 +1,5 @@
 use Rattle.std.proofs.Common.{◌∙◌, ap, sym}
-use Rattle.ot_parts.specs.Leading.{control_next}
+use Rattle.ot_parts.specs.Parts.{control_next}
 use Rattle.ot_parts.proofs.RestLemmas.{hidden-next, none-past, past-shown}
 use Rattle.ot_parts.proofs.rest.Rest.pass_control.Goals as goal
 

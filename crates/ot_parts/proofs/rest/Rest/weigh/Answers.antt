@@ -1,7 +1,6 @@
 use Rattle.std.proofs.Common.{◌∙◌, sym, ap, arith}
 use Rattle.ot_parts.specs.Left.{parts_left}
-use Rattle.ot_parts.specs.Parts.{parts_of}
-use Rattle.ot_parts.specs.Weighing.{weight}
+use Rattle.ot_parts.specs.Parts.{parts_of, weight}
 use Rattle.ot_parts.proofs.WeightLemmas.{weight-left}
 use Rattle.ot_parts.proofs.rest.Rest.weigh.Goals as goal
 

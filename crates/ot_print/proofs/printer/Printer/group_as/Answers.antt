@@ -2,8 +2,7 @@ use Rattle.std.proofs.Common.{◌++◌, ◌∙◌, ap, List}
 use Rattle.std.specs.Prelude.{codes}
 use Rattle.std.proofs.lemmas.Result.{on_ok_weaker}
 use Rattle.ot_print.specs.Shown as shown
-use Rattle.ot_print.specs.Shown.{Text}
-use Rattle.ot_print.specs.Sections.{sections_of}
+use Rattle.ot_print.specs.Shown.{Text, sections_of}
 use Rattle.ot_print.proofs.WordLemmas.{grown}
 use Rattle.ot_print.proofs.printer.Printer.group_as.Goals as goal
 

@@ -1,5 +1,5 @@
 use Rattle.std.proofs.Common.{sym, ◌∙◌, subst}
-use Rattle.ot_store.specs.Held.{AreCounted}
+use Rattle.ot_store.specs.Arrays.{AreCounted}
 use Rattle.ot_store.proofs.HeldLemmas.{named_of-clone}
 use Rattle.ot_store.proofs.store.Store.copy.Goals as goal
 

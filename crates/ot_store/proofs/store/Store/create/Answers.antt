@@ -2,8 +2,7 @@ use Rattle.std.proofs.Common.{◌≡◌, length, sym, ap, ◌∙◌, arith}
 use Rattle.std.specs.Prelude.{Ok, replicate}
 use Rattle.std.proofs.Math.ListN.{length-map}
 use Rattle.std.proofs.lemmas.List.{length-replicate}
-use Rattle.ot_store.specs.Arrays.{created}
-use Rattle.ot_store.specs.Held.{named_of}
+use Rattle.ot_store.specs.Arrays.{created, named_of}
 use Rattle.ot_store.proofs.CallLemmas.{created-taken, created-full, created-large, created-there}
 use Rattle.ot_store.proofs.HeldLemmas.{is_some-named, named_of-insert, AreCounted-insert}
 use Rattle.ot_store.proofs.store.Store.create.Goals as goal

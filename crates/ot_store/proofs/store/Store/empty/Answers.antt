@@ -1,5 +1,5 @@
 use Rattle.std.proofs.Common.{sym, subst}
-use Rattle.ot_store.specs.Held.{named_of, AreCounted}
+use Rattle.ot_store.specs.Arrays.{named_of, AreCounted}
 use Rattle.ot_store.proofs.HeldLemmas.{AreCounted-empty}
 use Rattle.ot_store.proofs.store.Store.empty.Goals as goal
 

@@ -1,7 +1,6 @@
 use Rattle.std.proofs.Common.{sym, ap, ◌∙◌, arith}
 use Rattle.std.specs.Prelude.{Ok}
-use Rattle.ot_store.specs.Arrays.{freed}
-use Rattle.ot_store.specs.Held.{named_of}
+use Rattle.ot_store.specs.Arrays.{freed, named_of}
 use Rattle.ot_store.proofs.CallLemmas.{freed-unknown, freed-there}
 use Rattle.ot_store.proofs.HeldLemmas.{cells_called-none, cells_called-some, found-≤-count, others-named, AreCounted-remove}
 use Rattle.ot_store.proofs.store.Store.free.Goals as goal

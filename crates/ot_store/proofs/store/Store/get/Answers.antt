@@ -1,8 +1,7 @@
 use Rattle.std.proofs.Common.{◌+◌, sym, ap, ◌∙◌, arith}
 use Rattle.std.specs.Prelude.{Ok, slice_range}
 use Rattle.std.specs.Option.{option_copied}
-use Rattle.ot_store.specs.Arrays.{got}
-use Rattle.ot_store.specs.Held.{named_of}
+use Rattle.ot_store.specs.Arrays.{got, named_of}
 use Rattle.ot_store.proofs.CallLemmas.{got-unknown, got-outside, got-there}
 use Rattle.ot_store.proofs.HeldLemmas.{cells_called-none, cells_called-some}
 use Rattle.ot_store.proofs.store.Store.get.Goals as goal

@@ -1,7 +1,6 @@
 use Rattle.std.proofs.Common.{◌≡◌, ◌<◌, ◌^◌, ◌++◌}
-use Rattle.ot_model.specs.ShapeView.{arrays_of}
-use Rattle.ot_store.specs.Arrays.{cell_count, listed}
-use Rattle.ot_store.specs.Held.{named_of}
+use Rattle.ot_model.specs.Programs.{arrays_of}
+use Rattle.ot_store.specs.Arrays.{cell_count, listed, named_of}
 use Rattle.ot_store.proofs.store.Store.list.Given as goal
 
 abbrev pub invariant-loop-name : goal.invariant-loop-name

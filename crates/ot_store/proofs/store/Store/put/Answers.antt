@@ -3,8 +3,7 @@ use Rattle.std.specs.Prelude.{Ok, bytes_eq}
 use Rattle.std.specs.Option.{option_copied_mut}
 use Rattle.std.specs.Map.{set_value}
 use Rattle.std.proofs.lemmas.Map.Steps.{set_value_same}
-use Rattle.ot_store.specs.Arrays.{put}
-use Rattle.ot_store.specs.Held.{named_of}
+use Rattle.ot_store.specs.Arrays.{put, named_of}
 use Rattle.ot_store.proofs.CallLemmas.{put-unknown, put-outside, put-there}
 use Rattle.ot_store.proofs.HeldLemmas.{is_called, cells_called-none, cells_called-some, set_value-named, AreCounted-put}
 use Rattle.ot_store.proofs.store.Store.put.Goals as goal

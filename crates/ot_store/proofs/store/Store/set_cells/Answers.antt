@@ -1,8 +1,7 @@
 use Rattle.std.proofs.Common.{◌≡◌, ◌+◌, length, map, refl, sym, ap, ◌∙◌, subst, arith}
 use Rattle.std.specs.Vec.Iter.{into_iter_items, into_iter_len}
 use Rattle.std.proofs.Math.ListN.{length-map}
-use Rattle.ot_store.specs.Arrays.{recelled}
-use Rattle.ot_store.specs.Held.{named_of, AreCounted}
+use Rattle.ot_store.specs.Arrays.{recelled, named_of, AreCounted}
 use Rattle.indexmap.specs.IndexMap.{set_value_at}
 use Rattle.indexmap.proofs.CallerLemmas.{index_map_len-with_value_at}
 use Rattle.ot_store.proofs.ArraysLemmas.{cells-fit}

@@ -1,7 +1,6 @@
 use Rattle.std.proofs.Common.{◌≡◌, ◌+◌, length, map}
 use Rattle.std.specs.Vec.Iter.{into_iter_items, into_iter_len}
-use Rattle.ot_store.specs.Arrays.{recelled}
-use Rattle.ot_store.specs.Held.{named_of}
+use Rattle.ot_store.specs.Arrays.{recelled, named_of}
 use Rattle.ot_store.proofs.RefillLemmas.{refilled}
 use Rattle.ot_store.proofs.store.Store.set_cells.Given as goal
 

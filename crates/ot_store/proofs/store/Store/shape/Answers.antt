@@ -1,5 +1,5 @@
 use Rattle.std.proofs.Common.{sym, subst}
-use Rattle.ot_model.specs.Shapes.{AreShort}
+use Rattle.ot_model.specs.Programs.{AreShort}
 use Rattle.ot_store.proofs.ArraysLemmas.{AreShort-listed}
 use Rattle.ot_store.proofs.store.Store.shape.Goals as goal
 

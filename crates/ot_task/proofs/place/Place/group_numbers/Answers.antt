@@ -1,7 +1,7 @@
 use Rattle.std.proofs.Common.{◌≡◌, ◌∙◌, ap, sym, arith, map, reverse}
 use Rattle.std.proofs.lemmas.Grind.{common_steps}
 use Rattle.std.proofs.lemmas.Simd.{map-map}
-use Rattle.ot_task.specs.PlaceView.{open_of}
+use Rattle.ot_task.specs.RegionView.{open_of}
 use Rattle.ot_task.proofs.GroupLemmas.{map-reverse}
 use Rattle.ot_task.proofs.place.Place.group_numbers.Goals as goal
 

@@ -1,7 +1,7 @@
 use Rattle.std.proofs.Common.{◌≡◌, ◌∙◌, ◌+◌, ◌<◌, ◌≤◌, sym, ap, arith, map, drop, length, get_or, List, ◌∷◌}
 use Rattle.std.proofs.lemmas.List.{drop_more, drop_all}
-use Rattle.ot_task.specs.PlaceView.{open_of}
-use Rattle.ot_task.specs.Weighing.{weight_behind}
+use Rattle.ot_task.specs.RegionView.{open_of}
+use Rattle.ot_task.specs.Regions.{weight_behind}
 use Rattle.ot_task.specs.declared.place.OpenGroup.{OpenGroup}
 use Rattle.ot_task.proofs.GroupLemmas.{behind-reverse}
 use Rattle.ot_task.proofs.place.Place.weigh_behind.Goals as goal

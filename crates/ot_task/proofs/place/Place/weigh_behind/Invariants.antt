@@ -1,6 +1,6 @@
 use Rattle.std.proofs.Common.{◌≡◌, ◌+◌, drop, map}
-use Rattle.ot_task.specs.PlaceView.{open_of}
-use Rattle.ot_task.specs.Weighing.{weight_behind}
+use Rattle.ot_task.specs.RegionView.{open_of}
+use Rattle.ot_task.specs.Regions.{weight_behind}
 use Rattle.ot_task.proofs.place.Place.weigh_behind.Given as goal
 
 -- what is weighed and what is not yet weigh what all do

@@ -1,7 +1,7 @@
 use Rattle.std.proofs.Common.{rules, ◌≡◌, subst}
 use Rattle.std.specs.Prelude.{◌↔◌, IsTrue, Some, option_map}
 use Rattle.ot_model.specs.View.{expr_of}
-use Rattle.ot_owner.specs.Leases.{lease_of}
+use Rattle.ot_owner.specs.Lending.{lease_of}
 use Rattle.ot_task.specs.Pieces.{test_of}
 use Rattle.ot_task.specs.Regions.{Region}
 use Rattle.ot_task.proofs.PieceLemmas.{with-run}

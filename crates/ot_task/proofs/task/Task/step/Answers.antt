@@ -3,9 +3,8 @@ use Rattle.std.specs.Prelude.{Some, IfOk, OnOk, Vec, option_map}
 use Rattle.std.specs.Global.{Global}
 use Rattle.std.proofs.lemmas.Option.{same_Some}
 use Rattle.ot_model.specs.Tree.{Task}
-use Rattle.ot_model.specs.Uses.{AreInOrder}
-use Rattle.ot_parts.specs.Leading.{control_next, past_control}
-use Rattle.ot_parts.specs.Parts.{body_in, parts_of}
+use Rattle.ot_model.specs.Cells.{AreInOrder}
+use Rattle.ot_parts.specs.Parts.{control_next, past_control, body_in, parts_of}
 use Rattle.ot_parts.specs.declared.part.Part.{Part}
 use Rattle.ot_parts.proofs.PartLemmas.{task-part}
 use Rattle.ot_task.specs.Regions.{Region, child_of, with_child, with_rest}

@@ -1,6 +1,6 @@
 use Rattle.std.proofs.Common.{◌==◌, ◌∙◌, not, sym, ap}
 use Rattle.ot_depend.specs.Siblings.{is_unfinished}
-use Rattle.ot_task.specs.Waits.{is_held}
+use Rattle.ot_task.specs.Regions.{is_held}
 use Rattle.ot_task.specs.RegionView.{waiting_of}
 use Rattle.ot_task.specs.declared.waiting.Waiting.{Waiting}
 use Rattle.ot_task.proofs.WaitingLemmas.{held-none, held-all, none-counted}

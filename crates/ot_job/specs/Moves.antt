@@ -1,26 +1,51 @@
--- What a settle does to a job.
-use Rattle.std.specs.Prelude.{◌≡◌, ◌<◌, ◌≤◌, ℕ, ◌+◌, Bool, true, if◌then◌else◌, List, ◌∷◌, Some, IsPermutation, nat_lt}
-use Rattle.ot_model.specs.Tree.{Task, Body, End, Next}
+-- What a claim does to a job.
+use Rattle.std.specs.Prelude.{◌≡◌, ℕ, ◌∷◌, Option, Some, None, option_map, IsPermutation, ◌<◌, ◌≤◌, ◌+◌, Bool, true, if◌then◌else◌, List, nat_lt}
+use Rattle.ot_model.specs.Tree.{Body, Task, End, Next}
+use Rattle.ot_model.specs.Cells.{cell_of, lengths, updated, AreInOrder}
+use Rattle.ot_model.specs.declared.expr.Cell.{Cell}
+use Rattle.ot_owner.specs.Lending.{lease_of, lent_from, uses_of}
+use Rattle.ot_owner.specs.Owning.{loan_of, begun_for}
+use Rattle.ot_owner.specs.Worth.{worths, AreWorthSame, AreStored, all_back, AreJoined, worth}
+use Rattle.ot_job.specs.Numbered.{at, parent_of}
+use Rattle.ot_job.specs.Dealings.{Live, claimable_in, state_in}
+use Rattle.ot_job.specs.Opening.{left_open, passed_over, Opens}
+use Rattle.ot_job.specs.Taken.{Taken, Came, IsOut, taken_by, worker_in}
+use Rattle.ot_task.specs.Pieces.{leading, behind, test_of, awake, begun, group_passed, is_at_end, leading_len}
+use Rattle.ot_task.specs.Touched.{piece_touches}
+use Rattle.ot_job.specs.Holding.{Holds}
+use Rattle.ot_job.specs.Claiming.{picked}
 use Rattle.ot_model.specs.Serial.{State, bump}
 use Rattle.ot_model.specs.declared.plain.Counts.{Counts}
-use Rattle.ot_model.specs.Cells.{cell_of, updated, lengths}
-use Rattle.ot_model.specs.Uses.{AreInOrder}
 use Rattle.ot_model.specs.declared.stmt.Use.{Use}
-use Rattle.ot_owner.specs.Back.{AreStored, all_back}
-use Rattle.ot_owner.specs.Owning.{loan_of}
-use Rattle.ot_owner.specs.Worth.{AreJoined, worth}
-use Rattle.ot_task.specs.Standing.{is_at_end}
-use Rattle.ot_task.specs.Regions.{Region, group_next, executed, is_control, next_task, over, stopped, tasks_next, without}
-use Rattle.ot_job.specs.Opening.{Opens}
-use Rattle.ot_job.specs.Numbered.{at, parent_of}
-use Rattle.ot_job.specs.Live.{Live}
+use Rattle.ot_task.specs.Regions.{Region, group_next, executed, is_control, next_task, over, stopped, tasks_next, without, weight_of}
 use Rattle.ot_job.specs.declared.piece.Refused.{Refused}
 use Rattle.ot_job.specs.declared.piece.Refused.TheVariants.{Stranger, Failing, Memory}
-use Rattle.ot_task.specs.Pieces.{leading_len}
-use Rattle.ot_task.specs.Weighing.{weight_of}
-use Rattle.ot_job.specs.Taken.{Came, IsOut, taken_by, worker_in}
-use Rattle.ot_job.specs.States.{state_in}
 use Rattle.ot_job.specs.declared.state.State.TheVariants.{Working}
+
+-- what a task goes on with
+abbrev pub ahead : Live → ℕ → Body
+ahead j i = (awake (at j.regions i)).rest
+
+-- Where the task passes a group's end, the group's copies go to the stored numbers of its cells, and its rows are gone: so
+-- that the piece has what was folded among its inputs. Each cell is worth the same.
+pub record Claims (old : Live) (pick worker : ℕ) (p : Taken) (new : Live) : Type 0 where
+  pub task : picked (claimable_in old) pick ≡ Some p.task
+  pub assigns : p.assigns ≡ leading (ahead old p.task)
+  pub test : p.test ≡ test_of (behind (ahead old p.task))
+  pub held : Holds (at old.regions p.task).own (piece_touches p.assigns p.test) (uses_of p.lent)
+  pub inputs : p.lent ≡ lent_from (worths old.owned old.cells) (uses_of p.lent)
+  pub out : IsPermutation (loan_of worker p.lent ∷ old.owned.out) new.owned.out
+  pub groups : new.owned.groups ≡ begun_for worker (uses_of p.lent) (left_open (group_passed (at old.regions p.task)) old.owned.groups)
+  pub stored : (cell : Cell) → cell_of new.cells cell ≡ option_map (passed_over (group_passed (at old.regions p.task)) old.owned.groups cell) (cell_of old.cells cell)
+  pub lengths : lengths new.cells ≡ lengths old.cells
+  pub worth : AreWorthSame old.owned new.owned old.cells new.cells
+  pub now : new ≡ record old { regions = updated old.regions p.task (begun worker (lease_of p.lent)); cells = new.cells; owned = new.owned }
+
+abbrev pub Claimed : Live → ℕ → ℕ → Option Taken → Live → Type 0
+Claimed old pick worker None new = (picked (claimable_in old) pick ≡ None) × (new ≡ old)
+Claimed old pick worker (Some p) new = Claims old pick worker p new
+
+-- What a settle does to a job.
 
 -- task i has finished, as its parent's table tells
 abbrev pub told_parent : ℕ → List Region → List Region
@@ -36,12 +61,6 @@ moved_on taken g i rs = if is_at_end (at rs i).rest (at rs i).groups then closed
 
 abbrev pub settled : Bool → ℕ → ℕ → List Region → List Region
 settled taken g i rs = updated (moved_on taken g i rs) i stopped
-
--- what the control statement that comes next counts: one unit, and one task where it is a task
-abbrev pub counted : Body → State → State
-counted End s = s
-counted (Next (Task d b) rest) s = bump 1 1 s
-counted (Next x rest) s = bump 0 1 s
 
 -- where a task comes next, its declaration is in order
 abbrev pub CreatesInOrder : Region → Type 0
