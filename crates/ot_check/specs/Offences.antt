@@ -13,9 +13,9 @@ use Rattle.ot_check.specs.declared.fault.Offence.{Offence}
 use Rattle.ot_check.specs.declared.fault.Offence.TheVariants.{NotDeclared, ChildBeyond, ReductionMisuse, ConflictsWithChild, EndsWithChildren}
 use Rattle.ot_check.specs.declared.fault.CheckFault.{CheckFault}
 use Rattle.ot_check.specs.declared.fault.CheckFault.TheVariants as fault
-
--- a cell, used in a mode; what a statement itself does with cells
-pub use Rattle.ot_parts.specs.Modes.{use_as, touches}
+-- a cell, used in a mode; what a statement itself does with cells; whether a mode is Folds of an operation; what a body
+-- declares; whether it declares a cell so
+pub use Rattle.ot_parts.specs.Modes.{use_as, touches, folds_by, Declared, folds_to}
 
 -- what a path passes: a use of a cell, a child's creation, a wait and what it declares, if it does, the beginning and the end of a group
 pub data Mark : Type 0 where
@@ -50,9 +50,6 @@ abbrev mutual
   Passes k (Next x rest) path = (one : List Step) × (later : List Step) × (path ≡ one ++ later) × PassesOne k x one × Passes (k + size_one x) rest later
 
 -- What is an offence on a path, and which offence of a body is the first.
-
--- whether a mode is Folds of an operation; what a body declares; whether it declares a cell so
-pub use Rattle.ot_parts.specs.Modes.{folds_by, Declared, folds_to}
 
 -- ---- what a body may do
 

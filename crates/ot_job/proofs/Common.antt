@@ -71,3 +71,4 @@ pub use Rattle.ot_job.specs.Well.{IsOnCourse, IsWell, MaySettle}
 pub use Rattle.ot_job.specs.Whole.{assigns_out, loan_in, loans_out, whole, wholes, with_loan}
 pub use Rattle.ot_job.specs.declared.job.Job.TheInside.{Inside}
 pub use Rattle.ot_job.specs.declared.state.State.TheVariants.{Ended, Failed, Failing, Working}
+pub use Rattle.ot_job.specs.Rights.{IsRight}

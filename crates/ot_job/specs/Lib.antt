@@ -17,4 +17,5 @@ pub mod Running
 pub mod Opened
 pub mod Calls
 pub mod Well
+pub mod Rights
 pub mod Listing

@@ -13,6 +13,9 @@ use Rattle.ot_job.specs.Numbered.{at, parent_of, ended_at}
 use Rattle.ot_task.specs.Regions.{Open, todo, Region}
 use Rattle.ot_job.specs.Awaiting.{opened, IsFineAt, AwaitsAll, unawaited}
 
+abbrev pub may_at : List Region → ℕ → Use → Type 0
+may_at rs i u = allows (at rs i).own u ≡ true
+
 -- the task is the root, or ready by its parent's table
 abbrev pub IsBegun : List Region → ℕ → Type 0
 IsBegun rs i = 0 < i → (i < length rs) × IsReady (at rs (parent_of rs i)).children (at rs i).child

@@ -4,6 +4,8 @@ use Rattle.ot_model.specs.Tree.{E, Body, End}
 use Rattle.ot_task.specs.Regions.{Open, innermost, Region, Run}
 use Rattle.ot_owner.specs.Lending.{Lease, lease_of}
 use Rattle.ot_owner.specs.declared.lent.LentCell.{LentCell}
+-- the sets and folds that come first, what stands behind them, how many they are; the condition of an `if` that comes next
+pub use Rattle.ot_parts.specs.Parts.{leading, behind, leading_len, test_of}
 
 -- what is left of the innermost open group's body, and the open groups, the innermost first
 pub record Standing : Type 0 where
@@ -24,9 +26,6 @@ is_at_end End [] = true
 is_at_end rest os = false
 
 -- What a piece is taken from, and what is left behind it.
-
--- the sets and folds that come first, what stands behind them, how many they are; the condition of an `if` that comes next
-pub use Rattle.ot_parts.specs.Parts.{leading, behind, leading_len, test_of}
 
 -- behind the end of the innermost open group, where that end is reached
 abbrev pub passed : Body → List Open → Standing

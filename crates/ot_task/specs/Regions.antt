@@ -9,6 +9,8 @@ use Rattle.ot_depend.specs.Siblings.{Sibling, created, with_finished, is_unfinis
 use Rattle.ot_check.specs.Offences.{Declared, awaits}
 use Rattle.ot_owner.specs.Lending.{Lease}
 use Rattle.std.specs.List.{list_any}
+-- how many settles a statement may still take, and a body
+pub use Rattle.ot_parts.specs.Parts.{weight_one, weight}
 
 -- an open group: its number, the operation and the cells of its reduction, and what stands behind its end
 pub record Open : Type 0 where
@@ -167,9 +169,6 @@ abbrev pub is_let_go : Region → Bool
 is_let_go r = not (is_held r.waiting r.children) && end_lets_go r.rest r.groups r.children
 
 -- How many settles a job may still take.
-
--- of a statement, and of a body
-pub use Rattle.ot_parts.specs.Parts.{weight_one, weight}
 
 -- of the ends of the open groups, and what stands behind them
 abbrev pub weight_behind : List Open → ℕ
