@@ -19,6 +19,6 @@ mod users;
 mod walk;
 
 pub use checked::Checked;
-pub use checking::check;
+pub use checking::{check, first_offence};
 pub use fault::{CheckFault, Offence};
 pub use job::{JobSpec, Outcome};

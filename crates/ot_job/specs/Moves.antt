@@ -62,6 +62,12 @@ moved_on taken g i rs = if is_at_end (at rs i).rest (at rs i).groups then closed
 abbrev pub settled : Bool → ℕ → ℕ → List Region → List Region
 settled taken g i rs = updated (moved_on taken g i rs) i stopped
 
+-- what the control statement that comes next counts: one unit, and one task where it is a task
+abbrev pub counted : Body → State → State
+counted End s = s
+counted (Next (Task d b) rest) s = bump 1 1 s
+counted (Next x rest) s = bump 0 1 s
+
 -- where a task comes next, its declaration is in order
 abbrev pub CreatesInOrder : Region → Type 0
 CreatesInOrder r = (child : List Use × Body) → next_task r.rest ≡ Some child → AreInOrder child.0

@@ -39,3 +39,10 @@ pub record IsWell (j : Live) : Type 0 where
   pub few : j.counts.units ≤ size j.program.body
   pub light : weight_of j.regions ≤ 2 * size j.program.body + 1
   pub course : j.failing ≡ false → IsOnCourse j
+
+-- what holds of a job for each piece that is out: its loan is out, its cells are there, and its parent's table lets it finish
+pub record MaySettle (j : Live) : Type 0 where
+  pub out : (i : ℕ) (run : Run) → (at j.regions i).running ≡ Some run → Contains j.owned.out (loan_in run) × All (λ u. IsSome (cell_of j.cells u.cell)) run.lease.uses
+  pub kin : (i : ℕ) (run : Run) → (at j.regions i).running ≡ Some run → 0 < i
+      → (parent_of j.regions i < length j.regions) × IsReady (at j.regions (parent_of j.regions i)).children (at j.regions i).child
+      × IsUnfinished (at j.regions (parent_of j.regions i)).children (at j.regions i).child

@@ -2,7 +2,7 @@ pub mod Meanings
 pub mod Copies
 pub mod Limits
 pub mod Faults
-pub mod Statements
+pub mod Programs
 pub mod Returned
 pub mod Accepted
 pub mod Printed
