@@ -3,13 +3,15 @@ ghost use Rattle.std.specs.Prelude.{IfOk, ℕ, List, ◌≡◌};
 ghost use Rattle.ot_model.specs.View.{stmts_of};
 ghost use Rattle.ot_model.specs.Cells.{lengths};
 ghost use Rattle.ot_model.specs.Names.{NamedIn};
+ghost use Rattle.ot_check.specs.Discipline.{OffendsNowhere};
+ghost use Rattle.ot_check.specs.Offences.{Offends, IsFirstOf};
 ghost use Rattle.ot_cjudge.specs.Findings.{Finds, IsAccepted, is_clean, events_by, finding_of};
 
-use ot_check::Checked;
+use ot_check::Offence;
 use ot_corder::{Order, is_alike, judge_by};
 use ot_model::{Cells, Program};
 use ot_race::{Race, run_events};
-use ot_raceless::laws::checked_races_on_no_way_by;
+use ot_raceless::laws::accepted_races_on_no_way_by;
 use ot_ways::laws::{runs_are_ways, straight_ways_are_runs};
 use ot_ways::{Verdict as WaysVerdict, any_way, is_straight};
 use std::alloc::{AllocError, Global};
@@ -27,28 +29,45 @@ pub(crate) enum Finding {
     OnlyRun,
 }
 
-/// Looks for a race in a program that a check accepts. Where this orders its tasks as the language does it races on no way, and none is
-/// judged.
-pub(crate) fn find_in_checked(
+/// Looks for a race in a program of which this is the first offence, with its place, if it has one.
+pub(crate) fn find(
     alloc: Global,
     order: Order,
-    checked: &Checked,
+    program: &Program,
+    cells: Cells,
+    first: Option<(u32, Offence)>,
+) -> Result<Finding, AllocError>
+    requires { NamedIn (lengths cells) (stmts_of program.now.body.items) }
+    ensures { IsFirstOf (Offends (stmts_of program.now.body.items)) first → IfOk result (Finds order (stmts_of program.now.body.items) cells) }
+{
+    match first {
+        None => find_in_accepted(alloc, order, program, cells),
+        Some(_) => find_in_refused(alloc, order, program, cells),
+    }
+}
+
+/// Looks for a race in a program that a check accepts. Where this orders its tasks as the language does it races on no way, and none is
+/// judged.
+fn find_in_accepted(
+    alloc: Global,
+    order: Order,
+    program: &Program,
     cells: Cells,
 ) -> Result<Finding, AllocError>
-    requires { NamedIn (lengths cells) (stmts_of checked.now.program.body.items) }
-    ensures { IfOk result (Finds order (stmts_of checked.now.program.body.items) cells) }
+    requires { NamedIn (lengths cells) (stmts_of program.now.body.items) }
+    ensures { OffendsNowhere (stmts_of program.now.body.items) → IfOk result (Finds order (stmts_of program.now.body.items) cells) }
 {
-    if is_alike(order, &checked.program.body) {
-        checked_races_on_no_way_by(order, checked);
+    if is_alike(order, &program.body) {
+        accepted_races_on_no_way_by();
         runs_are_ways();
         Ok(Finding::Nowhere)
     } else {
-        find_race(alloc, order, &checked.program, cells)
+        find_race(alloc, order, program, cells)
     }
 }
 
 /// Looks for a race in the run of a program that begins with these cells, and then on all ways, where this orders tasks.
-pub(crate) fn find_in_refused(
+fn find_in_refused(
     alloc: Global,
     order: Order,
     program: &Program,

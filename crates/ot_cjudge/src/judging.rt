@@ -3,7 +3,6 @@ ghost use Rattle.std.specs.Prelude.{◌≡◌, ◌++◌, ℕ, List, IfOk, Some, 
 ghost use Rattle.serde_json.specs.View.{view};
 ghost use Rattle.ot_model.specs.View.{stmts_of};
 ghost use Rattle.ot_model.specs.Cells.{lengths};
-ghost use Rattle.ot_model.specs.Names.{NamedIn};
 ghost use Rattle.ot_model.specs.Programs.{Expanded, IsNamedIn, expanded_of, array_lengths};
 ghost use Rattle.ot_check.specs.Offences.{Offends, IsFirstOf};
 ghost use Rattle.ot_file.specs.Positions.{position_of};
@@ -16,7 +15,7 @@ ghost use Rattle.ot_cjudge.specs.Fits.{Fits};
 ghost use Rattle.ot_cjudge.specs.Lacks.{lacks};
 ghost use Rattle.ot_cjudge.specs.Reports.{Reports, ReportsRead, ReportsProgram, ReportsRun, ReportsFinding, race_text, warning_text, only_run_line, faulty, outside_line, overlaps, reason_of, run_of};
 
-use crate::finding::{Finding, find_in_checked, find_in_refused};
+use crate::finding::{Finding, find};
 use crate::found::find_in;
 use crate::lacks::lacks_by;
 use crate::line::put_cell;
@@ -27,7 +26,7 @@ use crate::start::{MAX_TASKS, cells_of, shape_of};
 use crate::telling::{
     put_advice, put_here, put_only_run, put_other, put_outside, put_warning, reason_of,
 };
-use ot_check::{CheckFault, Checked, Offence, check};
+use ot_check::{Offence, first_offence};
 use ot_fault::first_fault;
 use ot_model::{Cells, Program, Shape, Use};
 use ot_overlap::first_overlap;
@@ -124,7 +123,7 @@ fn report_program(
 {
     match first_overlap(alloc, source.request, source.arrays)? {
         Some(entry) => report_overlap(alloc, source, entry),
-        None => report_run(alloc, source, shape, program, cells),
+        None => report_run(alloc, source, shape, &program, cells),
     }
 }
 
@@ -149,56 +148,21 @@ fn report_overlap(alloc: Global, source: &Source<'_>, entry: u32) -> Result<Repo
 }
 
 /// What is written of a program in which no items of which one writes overlap in part. What a server refuses is asked first: a
-/// program that isn't refused may race nowhere. That takes the program, and gives up one that offends, so a copy is kept.
+/// program that isn't refused may race nowhere.
 fn report_run(
     alloc: Global,
     source: &Source<'_>,
     shape: &Shape,
-    program: Program,
-    cells: Cells,
-) -> Result<Report, AllocError>
-    requires named { IsNamedIn (array_lengths shape.now) (expanded_of program) }
-    requires cells { lengths cells ≡ array_lengths shape.now }
-    ensures { IfOk result (λ report. ReportsRun (source_by source.now) cells (stmts_of program.body.items) report.verdict report.text.items) }
-{
-    let kept = program.copy(alloc)?;
-    match check(alloc, program, shape) {
-        Ok(checked) => report_accepted(alloc, source, &checked, cells),
-        Err(CheckFault::Offence(offence, place)) => {
-            report_offending(alloc, source, &kept, cells, (place, offence))
-        }
-        Err(CheckFault::Memory) => Err(AllocError),
-    }
-}
-
-/// What is written of a program that a server accepts.
-fn report_accepted(
-    alloc: Global,
-    source: &Source<'_>,
-    checked: &Checked,
-    cells: Cells,
-) -> Result<Report, AllocError>
-    requires { NamedIn (lengths cells) (stmts_of checked.now.program.body.items) }
-    ensures { IfOk result (λ report. ReportsRun (source_by source.now) cells (stmts_of checked.now.program.body.items) report.verdict report.text.items) }
-{
-    let finding = find_in_checked(alloc, source.order, checked, cells)?;
-    report_finding(alloc, source, &checked.program, None, finding)
-}
-
-/// What is written of a program that a server refuses for this first offence, with its place.
-fn report_offending(
-    alloc: Global,
-    source: &Source<'_>,
     program: &Program,
     cells: Cells,
-    first: (u32, Offence),
 ) -> Result<Report, AllocError>
-    requires { NamedIn (lengths cells) (stmts_of program.now.body.items) }
-    ensures { IsFirstOf (Offends (stmts_of program.now.body.items)) (Some first)
-        → IfOk result (λ report. ReportsRun (source_by source.now) cells (stmts_of program.now.body.items) report.verdict report.text.items) }
+    requires named { IsNamedIn (array_lengths shape.now) (expanded_of program.now) }
+    requires cells { lengths cells ≡ array_lengths shape.now }
+    ensures { IfOk result (λ report. ReportsRun (source_by source.now) cells (stmts_of program.now.body.items) report.verdict report.text.items) }
 {
-    let finding = find_in_refused(alloc, source.order, program, cells)?;
-    report_finding(alloc, source, program, Some(first), finding)
+    let first = first_offence(alloc, program, shape)?;
+    let finding = find(alloc, source.order, program, cells, first)?;
+    report_finding(alloc, source, program, first, finding)
 }
 
 /// What is written of what is found, and of the first offence, with its place.

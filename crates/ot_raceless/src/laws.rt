@@ -1,17 +1,14 @@
 //! Laws of programs that a check accepts. Each is the contract of a function that does nothing: a
 //! caller that needs the law calls it.
-ghost use Rattle.std.specs.Prelude.{◌≡◌, true};
 ghost use Rattle.ot_model.specs.View.{stmts_of};
 ghost use Rattle.ot_race.specs.Events.{events_of, this_way};
 ghost use Rattle.ot_race.specs.Races.{NothingRaces};
-ghost use Rattle.ot_corder.specs.Orders.{is_alike};
 ghost use Rattle.ot_corder.specs.declared.order.Order.TheVariants.{OfLanguage};
 ghost use Rattle.ot_ways.specs.Verdicts.{NoWayRaces};
 ghost use Rattle.ot_raceless.specs.Laws.{AcceptedRacesInNoRun, AcceptedRacesOnNoWay, AcceptedRacesOnNoWayBy};
 
 use ot_check::laws::disciplined_is_fine;
 use ot_check::{Checked, JobSpec};
-use ot_corder::Order;
 use ot_corder::laws::alike_is_same;
 use ot_ways::laws::runs_are_ways;
 
@@ -43,14 +40,6 @@ pub fn checked_races_on_no_way(checked: &Checked)
     ensures { NoWayRaces OfLanguage (stmts_of checked.now.program.body.items) }
 {
     accepted_races_on_no_way();
-}
-
-/// So it is where this orders its tasks as the language does.
-pub fn checked_races_on_no_way_by(order: Order, checked: &Checked)
-    requires { is_alike order (stmts_of checked.now.program.body.items) ≡ true }
-    ensures { NoWayRaces order (stmts_of checked.now.program.body.items) }
-{
-    accepted_races_on_no_way_by();
 }
 
 /// Nothing races in the run of a job.
