@@ -4,8 +4,7 @@
 ghost use Rattle.std.specs.Prelude.{◌≡◌, ◌≢◌};
 ghost use Rattle.std.specs.Process.{exit_status};
 ghost use Rattle.clap.specs.Words.{kind_of};
-ghost use Rattle.ot_serve.specs.Faults.{status_of};
-ghost use Rattle.ot_serve.specs.Serving.{IsInRange};
+ghost use Rattle.ot_serve.specs.Serving.{status_of, IsInRange};
 ghost use Rattle.omptaskd.specs.Faults.{sim_fault};
 
 pub mod asked;

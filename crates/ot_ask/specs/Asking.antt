@@ -1,16 +1,40 @@
--- How many lines of a client were answered.
-use Rattle.std.specs.Prelude.{◌≡◌, ◌⊎◌, ◌-◌, ◌^◌, ◌&&◌, ℕ, Bool, true, false, if◌then◌else◌, List, [], ◌∷◌, ◌++◌, length, map, take, Result, Ok, Err, ◌||◌, ◌+◌, Option, Some, None}
+-- The greeting.
+use Rattle.std.specs.Prelude.{◌≡◌, ◌⊎◌, ◌-◌, ◌^◌, ◌&&◌, ℕ, Bool, true, false, if◌then◌else◌, List, [], ◌∷◌, ◌++◌, length, map, take, Result, Ok, Err, ◌||◌, ◌+◌, Option, Some, None, ◌≢◌, ⊤}
 use Rattle.std.specs.List.{All, AllZip, concat, list_any, filter, position_from}
 use Rattle.std.specs.Io.KnownBytes.{Consumes}
-use Rattle.ot_ask.specs.Greeting.{GreetsServer}
-use Rattle.ot_ask.specs.Streams.{IsWhole, goodbye, is_last, is_refusal, says_bye, sent_for, BreaksOff, Gives, GivesLine, HasFailed, Incoming, IsLost, IsStreamOver, Link, Outgoing, Writes, link}
+use Rattle.ot_ask.specs.Streams.{IsWhole, goodbye, is_last, is_refusal, says_bye, sent_for, BreaksOff, Gives, GivesLine, HasFailed, Incoming, IsLost, IsStreamOver, Link, Outgoing, Writes, link, busy_text, hello_line, is_welcome, unknown_text, IsUnanswered}
 use Rattle.ot_ask.specs.declared.asked.Tally.{Tally}
 use Rattle.ot_ask.specs.declared.asked.Asked.{Asked}
 use Rattle.ot_ask.specs.declared.asked.Asked.TheVariants.{AllTaken, SomeRefused, CutShort}
 use Rattle.ot_ask.specs.declared.asked.AskFault.{AskFault}
-use Rattle.ot_ask.specs.declared.asked.AskFault.TheVariants.{Closed, Memory, ReadFailed, TooManyLines, WriteFailed}
+use Rattle.ot_ask.specs.declared.asked.AskFault.TheVariants.{Closed, Memory, ReadFailed, TooManyLines, WriteFailed, Busy, StrangeGreeting, UnknownTenant}
 use Rattle.ot_ask.specs.declared.exchange.Step.{Step}
 use Rattle.ot_ask.specs.declared.exchange.Step.TheVariants as step
+use Rattle.ot_program.specs.Meanings.{is_name}
+
+-- the server's answer to a greeting is this line
+pub record IsGreeted (name : List ℕ) (old new : Link) (reply : List ℕ) : Type 0 where
+  pub named : is_name name ≡ true
+  pub sends : Writes old.sent new.sent (hello_line name)
+  pub hears : GivesLine old.heard new.heard reply
+
+-- a line that answers no greeting
+pub record IsStrange (reply : List ℕ) : Type 0 where
+  pub no_welcome : is_welcome reply ≡ false
+  pub not_busy : reply ≢ busy_text
+  pub not_unknown : reply ≢ unknown_text
+
+-- a greeting, by what it came to
+abbrev pub GreetsServer : List ℕ → Link → Link → Result ⊤ AskFault → Type 0
+GreetsServer name old new (Ok done) = (reply : List ℕ) × IsGreeted name old new reply × (is_welcome reply ≡ true)
+GreetsServer name old new (Err Busy) = IsGreeted name old new busy_text
+GreetsServer name old new (Err UnknownTenant) = ((is_name name ≡ false) × (new ≡ old)) ⊎ IsGreeted name old new unknown_text
+GreetsServer name old new (Err StrangeGreeting) = (reply : List ℕ) × IsGreeted name old new reply × IsStrange reply
+GreetsServer name old new (Err Closed) = IsUnanswered (hello_line name) old new
+GreetsServer name old new (Err Memory) = ⊤
+GreetsServer name old new (Err fault) = ⊥
+
+-- How many lines of a client were answered.
 
 -- a reply says that its line isn't taken
 abbrev pub is_untaken : List ℕ → Bool
@@ -192,3 +216,19 @@ module _ (Says : List ℕ → List ℕ → Type 0) where
       × (new.typed ≡ old.typed)
       × (new.printed ≡ old.printed)
       × (tally ≡ none_counted))
+
+-- A line that is read to be sent, and a reply that is heard.
+
+-- what was read, and what is to be sent for it
+abbrev pub ReadsToSend : Incoming → Incoming → List ℕ → Result ⊤ AskFault → Type 0
+ReadsToSend old new line (Ok done) = (given : List ℕ) × Gives old new given × (line ≡ sent_for given)
+ReadsToSend old new line (Err ReadFailed) = HasFailed old new
+ReadsToSend old new line (Err Memory) = ⊤
+ReadsToSend old new line (Err fault) = ⊥
+
+-- a whole reply, or none
+abbrev pub HearsReply : Incoming → Incoming → List ℕ → Result ⊤ AskFault → Type 0
+HearsReply old new reply (Ok done) = GivesLine old new reply
+HearsReply old new reply (Err Closed) = IsLost old new
+HearsReply old new reply (Err Memory) = ⊤
+HearsReply old new reply (Err fault) = ⊥

@@ -1,4 +1,2 @@
 pub mod Streams
-pub mod Hearing
-pub mod Greeting
 pub mod Asking

@@ -1,5 +1,5 @@
 //! The greeting.
-ghost use Rattle.ot_ask.specs.Greeting.{GreetsServer};
+ghost use Rattle.ot_ask.specs.Asking.{GreetsServer};
 ghost use Rattle.ot_ask.specs.Streams.{link, outgoing};
 
 use crate::asked::AskFault;

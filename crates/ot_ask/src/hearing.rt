@@ -1,6 +1,6 @@
 //! One line that is read, and one that is heard.
 ghost use Rattle.std.specs.Prelude.{◌≡◌, [], Ok, Err, Option, List, ℕ};
-ghost use Rattle.ot_ask.specs.Hearing.{HearsReply, ReadsToSend};
+ghost use Rattle.ot_ask.specs.Asking.{HearsReply, ReadsToSend};
 
 use crate::asked::AskFault;
 use crate::line::complete;

@@ -1,2 +1,1 @@
 pub mod Races
-pub mod Named

@@ -8,13 +8,15 @@ use Rattle.ot_model.specs.Cells.{same_cell, conflicts}
 use Rattle.ot_model.specs.declared.expr.Cell.{Cell}
 use Rattle.ot_model.specs.declared.stmt.Mode.{Mode}
 use Rattle.ot_model.specs.declared.stmt.Use.{Use}
-use Rattle.ot_check.specs.Offences.{Step, PassesOne, Passes, awaits, clashes, Create, At, touches, use_as, stays_within, is_awaited}
+use Rattle.ot_check.specs.Offences.{Step, PassesOne, Passes, awaits, clashes, Create, At, touches, use_as, stays_within, is_awaited, Offends}
 use Rattle.ot_check.specs.Discipline.{through}
 use Rattle.ot_blame.specs.declared.child.Child.{Child}
 use Rattle.ot_blame.specs.declared.walk.Search.{Search}
 use Rattle.ot_blame.specs.declared.walk.Arrived.{Arrived}
 use Rattle.ot_blame.specs.declared.walk.Behind.{Behind}
 use Rattle.ot_model.specs.declared.stmt.Mode.TheVariants.{Writes}
+use Rattle.ot_check.specs.declared.fault.Offence.{Offence}
+use Rattle.ot_check.specs.declared.fault.Offence.TheVariants.{NotDeclared, ChildBeyond, ReductionMisuse, ConflictsWithChild, EndsWithChildren}
 
 -- ---- who is pending
 
@@ -205,3 +207,16 @@ IsSpared place task body =
 -- whether a use is one of the cell, in conflict with this mode
 abbrev pub is_against : Mode → Cell → Use → Bool
 is_against mode cell u = same_cell u.cell cell && conflicts mode u.mode
+
+-- Which other statement is named beside one that offends.
+
+-- Of a conflict a child that is unawaited there on some path and conflicts at some cell; of a task a child that is unawaited
+-- where some path through it ends. Nobody is named only where there is none. Of other offences nothing is said.
+abbrev pub IsNamed : Body → ℕ → Offence → Option ℕ → Type 0
+IsNamed body place ConflictsWithChild (Some child) = (x : S) × (declared : List Use) × (cell : Cell) × Races body place x child declared cell
+IsNamed body place ConflictsWithChild None = Offends body place ConflictsWithChild → ⊥
+IsNamed body place EndsWithChildren (Some child) = (declared : List Use) × LeavesChild body place child declared
+IsNamed body place EndsWithChildren None = Offends body place EndsWithChildren → ⊥
+IsNamed body place NotDeclared other = Unit {0}
+IsNamed body place ChildBeyond other = Unit {0}
+IsNamed body place ReductionMisuse other = Unit {0}

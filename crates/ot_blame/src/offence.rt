@@ -2,7 +2,7 @@
 ghost use Rattle.std.specs.Prelude.{◌≡◌, None, IfOk, MatchOption, option_and_then};
 ghost use Rattle.ot_model.specs.View.{stmts_of};
 ghost use Rattle.ot_check.specs.Offences.{Offends};
-ghost use Rattle.ot_blame.specs.Named.{IsNamed};
+ghost use Rattle.ot_blame.specs.Races.{IsNamed};
 
 use crate::around::{Around, seek_around};
 use crate::left::find_left;

@@ -14,8 +14,7 @@ use Rattle.ot_c.specs.Programs.{Declared, before, arrays_in_c, up_to_last, initi
 use Rattle.ot_c.specs.Laws.{is_identifier, AreIdentifiers, ShowsFit, NumbersFit, ListsFit, told_array, ProgramIsDetermined}
 use Rattle.ot_c.specs.Named.{names, body_calls}
 use Rattle.ot_c.specs.Programs as written
-use Rattle.ot_c.specs.Statements.{line, deeper, block, body}
-use Rattle.ot_c.specs.Values.{constant}
+use Rattle.ot_c.specs.Statements.{line, deeper, block, body, constant}
 use Rattle.ot_c.specs.declared.named.Call.TheVariants as call
 use Rattle.ot_c.proofs.NameLemmas.{is_one}
 use Rattle.ot_c.proofs.WordLemmas.{starts, split, same_number, name_word, one_cell}

@@ -13,9 +13,8 @@ use Rattle.ot_print.specs.Shown.{Text, name, cell}
 use Rattle.ot_print.specs.Laws.{Fits, CellsFit}
 use Rattle.ot_print.proofs.WordLemmas.{and_true, head_of, tail_of}
 use Rattle.ot_cnames.specs.Names.{name_in_c}
-use Rattle.ot_c.specs.Statements.{declared, pointer, reduction, fold, deeper, block, otherwise, put, put_all, each_once, pointers, statement, body}
+use Rattle.ot_c.specs.Statements.{declared, pointer, reduction, fold, deeper, block, otherwise, put, put_all, each_once, pointers, statement, body, value}
 use Rattle.ot_c.specs.Laws.{in_identifier, all_identifier, is_identifier, AreIdentifiers, normal_fold, is_nothing, normal_statement, normal, UsesFit, StatementFits, BodyFits, BodyIsDetermined, CalledFoldIsWrittenAsSet}
-use Rattle.ot_c.specs.Values.{value}
 use Rattle.ot_c.proofs.WordLemmas.{name_word}
 use Rattle.ot_c.proofs.DependenceLemmas.{HoldOfClauses}
 use Rattle.ot_c.proofs.ClauseLemmas.{in_declared, same_line, declared_line, pointer_is_word, declaration_law}

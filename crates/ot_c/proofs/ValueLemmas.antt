@@ -14,7 +14,7 @@ use Rattle.ot_print.specs.Shown.{Text, name, is_nested}
 use Rattle.ot_print.specs.Laws.{is_digit, Fits}
 use Rattle.ot_print.proofs.WordLemmas.{and_true, head_of, tail_of, front_digit, digits_are}
 use Rattle.ot_print.proofs.ValueLemmas.{same_section, same_op, pick_eq, apply_eq}
-use Rattle.ot_c.specs.Values.{suffix, constant, is_comparison, is_number, first_of, value, operand, left_side}
+use Rattle.ot_c.specs.Statements.{suffix, constant, is_comparison, is_number, first_of, value, operand, left_side}
 use Rattle.ot_c.specs.Laws.{in_identifier, all_identifier, is_identifier, AreIdentifiers, ValueIsDetermined}
 use Rattle.ot_c.proofs.WordLemmas.{starts, goes, no_start, number_word, IsSuffix, no_suffix, long_suffix, word_append, same_constant, same_number, name_word, same_array, one_cell}
 

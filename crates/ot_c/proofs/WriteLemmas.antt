@@ -15,9 +15,8 @@ use Rattle.ot_print.specs.Laws.{is_name, in_word, all_word, is_digit, AreNames, 
 use Rattle.ot_print.proofs.WordLemmas.{and_true, tail_of}
 use Rattle.ot_print.proofs.WriteLemmas.{kind_at, kind_back}
 use Rattle.ot_cnames.specs.Names.{is_taken, name_in_c}
-use Rattle.ot_c.specs.Statements.{pointer, only_folds, fold}
+use Rattle.ot_c.specs.Statements.{pointer, only_folds, fold, value}
 use Rattle.ot_c.specs.Laws.{in_identifier, AreIdentifiers, normal_fold}
-use Rattle.ot_c.specs.Values.{value}
 use Rattle.ot_c.proofs.NameLemmas.{name_of, names_law}
 use Rattle.ot_c.proofs.WordLemmas.{starts, one_cell}
 use Rattle.ot_c.proofs.ValueLemmas.{determined}

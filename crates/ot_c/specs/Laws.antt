@@ -9,12 +9,11 @@ use Rattle.ot_model.specs.declared.fold.Fold.TheVariants as f
 use Rattle.ot_model.specs.Signs.{is_called}
 use Rattle.ot_model.specs.Cells.{AreInOrder}
 use Rattle.ot_model.specs.declared.stmt.Use.{Use}
-use Rattle.ot_c.specs.Statements.{declared, only_folds, each_once, block, statement, body, deeper}
+use Rattle.ot_c.specs.Statements.{declared, only_folds, each_once, block, statement, body, deeper, value}
 use Rattle.ot_model.specs.Programs.{Expanded}
 use Rattle.ot_model.specs.declared.expr.Section.{Section}
 use Rattle.ot_cnames.specs.Names.{is_taken, name_in_c}
 use Rattle.ot_c.specs.Programs.{Declared, arrays_in_c, up_to_last, IsProgram, declared_from}
-use Rattle.ot_c.specs.Values.{value}
 
 -- ---- names
 

@@ -1,4 +1,3 @@
-pub mod Values
 pub mod Statements
 pub mod Programs
 pub mod Named

@@ -3,12 +3,11 @@ use Rattle.std.specs.Prelude.{Vec, ◌≡◌, ℕ, ◌+◌, Bool, true, false, i
 use Rattle.ot_model.specs.declared.expr.Section.{Section}
 use Rattle.ot_model.specs.Programs.{Expanded}
 use Rattle.ot_print.specs.Shown.{Text, cell}
-use Rattle.ot_c.specs.Statements.{line, deeper, block, body}
+use Rattle.ot_c.specs.Statements.{line, deeper, block, body, constant}
 use Rattle.ot_c.specs.Named.{names, body_calls}
 use Rattle.ot_c.specs.declared.named.Call.TheVariants as call
 use Rattle.ot_model.specs.declared.shape.ArrayShape.{ArrayShape}
 use Rattle.ot_cnames.specs.Names.{name_in_c}
-use Rattle.ot_c.specs.Values.{constant}
 
 -- arrays, each with its name and its length, by their names in C
 abbrev pub arrays_in_c : List (Text × ℕ) → List (Text × ℕ)

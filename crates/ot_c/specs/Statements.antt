@@ -1,17 +1,66 @@
--- The C of clauses: dependences (OpenMP API 5.2, section 15.9.5) and reductions (5.5.9 and 5.5.10).
-use Rattle.std.specs.Prelude.{ℕ, Bool, true, false, if◌then◌else◌, List, [], ◌∷◌, ◌++◌, Option, Some, None, codes, zero, suc, ◌+◌, nat_lt, decimal}
+-- The C of values. All is computed in unsigned numbers of 64 bits.
+use Rattle.std.specs.Prelude.{ℕ, Bool, true, false, if◌then◌else◌, List, [], ◌∷◌, ◌++◌, Option, Some, None, codes, zero, suc, ◌+◌, nat_lt, decimal, ◌==◌}
 use Rattle.ot_model.specs.Cells.{is_before, same_cell, mode_in, same_mode}
 use Rattle.ot_model.specs.declared.expr.Cell.{Cell}
 use Rattle.ot_model.specs.declared.fold.Fold.{Fold as Operation}
 use Rattle.ot_model.specs.declared.stmt.Mode.{Mode}
 use Rattle.ot_model.specs.declared.stmt.Mode.TheVariants as m
 use Rattle.ot_model.specs.declared.stmt.Use.{Use}
-use Rattle.ot_model.specs.Tree.{E, S, Set, Fold, If, Task, Wait, Group, Body, End, Next}
-use Rattle.ot_model.specs.Signs.{is_called, fold_sign, identifier}
-use Rattle.ot_print.specs.Shown.{Text, cell, name, cells_in, sections_of}
-use Rattle.ot_c.specs.Values.{value}
+use Rattle.ot_model.specs.Tree.{E, S, Set, Fold, If, Task, Wait, Group, Body, End, Next, Literal, CellAt, Apply, PickFrom}
+use Rattle.ot_model.specs.Signs.{is_called, fold_sign, identifier, is_call, sign}
+use Rattle.ot_print.specs.Shown.{Text, cell, name, cells_in, sections_of, as_side}
 use Rattle.ot_model.specs.declared.expr.Section.{Section}
 use Rattle.ot_model.specs.declared.fold.Fold.TheVariants as f
+use Rattle.ot_model.specs.declared.expr.Op.{Op}
+use Rattle.ot_model.specs.declared.expr.Op.TheVariants as o
+
+-- what a constant alone, or beside unsigned numbers, has behind it: a signed number can't hold each
+abbrev pub suffix : ℕ → Text
+suffix n = if nat_lt 9223372036854775807 n then codes "ULL" else []
+
+abbrev pub constant : ℕ → Text
+constant n = decimal n ++ suffix n
+
+abbrev pub is_comparison : Op → Bool
+is_comparison o.Less = true
+is_comparison o.Equal = true
+is_comparison _ = false
+
+-- whether a value is an `int` in C
+abbrev pub is_int : E → Bool
+is_int (Apply op a b) = is_comparison op
+is_int _ = false
+
+-- a value's text as a side of an operation
+abbrev pub as_operand : E → Text → Text
+as_operand e t = if is_int e then codes "(uint64_t)(" ++ t ++ codes ")" else as_side e t
+
+abbrev pub is_number : E → Bool
+is_number (Literal n) = true
+is_number _ = false
+
+-- a value's text before a sign: of two constants the first is made unsigned
+abbrev pub as_left : E → E → Text → Text
+as_left (Literal n) b t = if is_number b then decimal n ++ codes "ULL" else t
+as_left a b t = as_operand a t
+
+-- the first cell of a section, where it isn't the array's own first
+abbrev pub first_of : ℕ → Text
+first_of start = if start == 0 then [] else decimal start ++ codes " + "
+
+abbrev pub value : List Text → E → Text
+value names (Literal n) = constant n
+value names (CellAt c) = cell names c
+value names (Apply op a b) = if is_call op then sign op ++ value names a ++ codes ", " ++ value names b ++ codes ")" else as_left a b (value names a) ++ sign op ++ as_operand b (value names b)
+value names (PickFrom s e) = name names s.array ++ codes "[" ++ first_of s.start ++ as_operand e (value names e) ++ codes " % " ++ decimal s.len ++ codes "]"
+
+abbrev pub operand : List Text → E → Text
+operand names e = as_operand e (value names e)
+
+abbrev pub left_side : List Text → E → E → Text
+left_side names a b = as_left a b (value names a)
+
+-- The C of clauses: dependences (OpenMP API 5.2, section 15.9.5) and reductions (5.5.9 and 5.5.10).
 
 -- a cell behind words
 abbrev pub item : List Text → Text → ℕ → ℕ → Text

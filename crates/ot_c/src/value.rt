@@ -1,7 +1,7 @@
 //! Values. All is computed in unsigned numbers of 64 bits, which wrap as those of the language do.
 ghost use Rattle.std.specs.Prelude.{◌≡◌, ◌++◌, OnOk};
 ghost use Rattle.ot_model.specs.View.{expr_of};
-ghost use Rattle.ot_c.specs.Values as written;
+ghost use Rattle.ot_c.specs.Statements as written;
 
 use ot_model::{Expr, Op};
 use ot_print::{Printer, is_nested};

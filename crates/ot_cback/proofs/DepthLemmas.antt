@@ -4,7 +4,7 @@ use Rattle.std.specs.Prelude.{max, if◌then◌else◌}
 use Rattle.std.proofs.Math.Nat.{le-max_left, le-max_right, max-le}
 use Rattle.ot_model.specs.Tree.{E, Literal, CellAt, Apply, PickFrom}
 use Rattle.ot_print.specs.Shown.{is_nested}
-use Rattle.ot_c.specs.Values.{is_int}
+use Rattle.ot_c.specs.Statements.{is_int}
 use Rattle.ot_program.specs.Limits.{depth_of}
 use Rattle.ot_cback.specs.Values.{Form, Between, Before, form, beside, applied_depth, depth}
 

@@ -4,7 +4,7 @@ use Rattle.ot_model.specs.declared.expr.Op.{Op}
 use Rattle.ot_model.specs.declared.expr.Op.TheVariants as o
 use Rattle.ot_model.specs.Tree.{E, Literal, CellAt, Apply, PickFrom}
 use Rattle.ot_print.specs.Shown.{Text, name, is_nested}
-use Rattle.ot_c.specs.Values.{is_int, is_number}
+use Rattle.ot_c.specs.Statements.{is_int, is_number}
 use Rattle.ot_words.specs.declared.known.Known.TheVariants as means
 use Rattle.ot_words.specs.declared.mark.Mark.TheVariants as m
 use Rattle.ot_words.specs.declared.word.IntegerType.{IntegerType}

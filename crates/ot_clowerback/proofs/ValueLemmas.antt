@@ -12,7 +12,7 @@ use Rattle.ot_model.specs.declared.expr.Section.{Section}
 use Rattle.ot_print.specs.Shown.{Text, name}
 use Rattle.ot_program.specs.Printed.{three, num, name_at, value_text}
 use Rattle.ot_c.specs.Named.{is_array, value_names}
-use Rattle.ot_c.specs.Values.{is_int, is_number, is_comparison}
+use Rattle.ot_c.specs.Statements.{is_int, is_number, is_comparison}
 use Rattle.ot_words.specs.declared.word.IntegerType.{IntegerType}
 use Rattle.ot_words.specs.declared.word.IntegerType.TheVariants as t
 use Rattle.ot_words.specs.declared.word.Name.{Name}

@@ -8,9 +8,8 @@ use Rattle.ot_model.specs.declared.fold.Fold.{Fold as Operation}
 use Rattle.ot_model.specs.declared.stmt.Use.{Use}
 use Rattle.ot_print.specs.Shown.{Text, name}
 use Rattle.ot_program.specs.Printed.{name_at}
-use Rattle.ot_c.specs.Statements.{pointer, each_once}
+use Rattle.ot_c.specs.Statements.{pointer, each_once, is_comparison}
 use Rattle.ot_c.specs.Named.{value_names, uses_name, statement_names, body_names}
-use Rattle.ot_c.specs.Values.{is_comparison}
 use Rattle.ot_words.specs.declared.word.IntegerType.{IntegerType}
 use Rattle.ot_words.specs.declared.word.IntegerType.TheVariants as t
 use Rattle.ot_words.specs.declared.word.Name.{Name}

@@ -7,8 +7,7 @@ use Rattle.ot_model.specs.declared.stmt.Use.{Use}
 use Rattle.ot_model.specs.Signs.{is_called, fold_sign}
 use Rattle.ot_model.specs.Tree.{E, CellAt}
 use Rattle.ot_print.specs.Shown.{Text, name, cell}
-use Rattle.ot_c.specs.Statements.{pointer, only_folds, target, fold, set}
-use Rattle.ot_c.specs.Values.{value}
+use Rattle.ot_c.specs.Statements.{pointer, only_folds, target, fold, set, value}
 use Rattle.ot_words.specs.declared.mark.Mark.TheVariants as m
 use Rattle.ot_words.specs.declared.piece.Line.TheVariants as line
 use Rattle.ot_words.specs.Words.{Spoken, Marked}

@@ -11,7 +11,7 @@ use Rattle.ot_c.specs.Programs.{Declared, declared, before, up_to_last, initial,
 use Rattle.ot_c.specs.Laws.{is_identifier, NumbersFit, ListsFit}
 use Rattle.ot_c.specs.Named.{names as named_by}
 use Rattle.ot_c.specs.Programs as programs
-use Rattle.ot_c.specs.Values.{suffix}
+use Rattle.ot_c.specs.Statements.{suffix}
 use Rattle.ot_words.specs.declared.piece.Line.TheVariants as line
 use Rattle.ot_cback.specs.Assignments.{place_words}
 use Rattle.ot_cfileback.specs.Parts as w

@@ -10,8 +10,8 @@ use Rattle.ot_model.specs.Tree.{E, Literal, CellAt, Apply, PickFrom}
 use Rattle.ot_model.specs.Signs.{is_call, sign}
 use Rattle.ot_print.specs.Shown.{Text, name, cell, is_nested}
 use Rattle.ot_c.specs.Laws.{is_identifier}
-use Rattle.ot_c.specs.Values as c
-use Rattle.ot_c.specs.Values.{is_int, is_number}
+use Rattle.ot_c.specs.Statements as c
+use Rattle.ot_c.specs.Statements.{is_int, is_number}
 use Rattle.ot_words.specs.declared.known.Known.TheVariants as means
 use Rattle.ot_words.specs.declared.mark.Mark.TheVariants as m
 use Rattle.ot_words.specs.declared.piece.Line.{Line}

@@ -17,8 +17,7 @@ use Rattle.ot_program.proofs.Firsts.{first_of, foremost_is, merged, first-append
 use Rattle.ot_program.proofs.StatementsRead.{first-swap}
 use Rattle.ot_place.specs.Spots.{program_spots}
 use Rattle.ot_place.specs.Texts.{Profile}
-use Rattle.ot_fault.specs.Counting.{counts_of, past_limits}
-use Rattle.ot_fault.specs.Walk.{mixed_whys, whys_behind, first_behind, first_among, first_fault}
+use Rattle.ot_fault.specs.Walk.{counts_of, past_limits, mixed_whys, whys_behind, first_behind, first_among, first_fault}
 use Rattle.ot_fault.specs.Laws.{refused}
 use Rattle.ot_fault.specs.Whys.{Why, long, short, refusal_of, earlier, after, text_whys}
 use Rattle.ot_fault.proofs.FirstLemmas.{placed_of, program_placed, none_among}

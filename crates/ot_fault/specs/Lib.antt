@@ -1,4 +1,3 @@
 pub mod Whys
-pub mod Counting
 pub mod Walk
 pub mod Laws

@@ -1,13 +1,11 @@
--- The first fault of a program, and which of its entries has it. The entries are those of `ot_place`, in its order: the program
--- itself, statements, loops with each of their turns, and what is of no form.
-use Rattle.std.specs.Prelude.{ℕ, ◌+◌, List, [], ◌∷◌, ◌++◌, Option, Some, None, length, map, option_map}
+-- What statements and values count, as it is told.
+use Rattle.std.specs.Prelude.{ℕ, ◌+◌, List, [], ◌∷◌, ◌++◌, Option, Some, None, length, map, option_map, nat_le}
 use Rattle.ot_model.specs.Programs.{Arrays}
 use Rattle.ot_program.specs.Copies.{Text, Placed, in_order, TaskText}
-use Rattle.ot_program.specs.Limits.{own_tally, total}
+use Rattle.ot_program.specs.Limits.{own_tally, total, max_statements, max_turns, max_nodes, max_cells, depth_of, nodes_of, picked_of, Tally}
 use Rattle.ot_program.specs.Meanings.{Bindings}
 use Rattle.ot_place.specs.Texts.{Profile, first_copies, second_copies}
-use Rattle.ot_fault.specs.Counting.{counts_of, counts_with, past_limits}
-use Rattle.ot_fault.specs.Whys.{why_by, shape_of, Why, short, after, Form, Mixed, text_whys}
+use Rattle.ot_fault.specs.Whys.{why_by, shape_of, Why, short, after, Form, Mixed, text_whys, TooMany, TooManyTasks, long, unless}
 use Rattle.ot_fault.specs.declared.find.Finder.{Finder}
 use Rattle.ot_fault.specs.declared.find.Found.{Found}
 use Rattle.ot_fault.specs.declared.find.Passed.{Passed as CodePassed}
@@ -19,6 +17,43 @@ use Rattle.serde_json.specs.Data.{Data, array, no_items, item}
 use Rattle.ot_place.specs.Spots.{text_spots}
 use Rattle.ot_mixed.specs.Mixed.{mixed_of}
 use Rattle.ot_fault.specs.declared.why.Wanted.TheVariants as wanted
+use Rattle.ot_model.specs.Tree.{E}
+use Rattle.ot_fault.specs.declared.look.Measure.{Measure}
+use Rattle.ot_fault.specs.declared.why.Count.{Count}
+use Rattle.ot_fault.specs.declared.why.Count.TheVariants.{Statements, Turns, Nodes, Cells}
+
+-- of a value its depth, its nodes, and the cells of its picks
+abbrev pub measure_of : E → Measure
+measure_of e = record { depth = long (depth_of e); nodes = long (nodes_of e); cells = long (picked_of e) }
+
+-- the counts that these stand for
+abbrev pub counts_of : Tally → CodeTally
+counts_of n =
+    record { statements = long n.statements; tasks = long n.tasks; turns = long n.turns; nodes = long n.nodes; cells = long n.cells }
+
+abbrev pub counts_with : CodeTally → CodeTally → CodeTally
+counts_with n m =
+    record {
+      statements = long (n.statements + m.statements);
+      tasks = long (n.tasks + m.tasks);
+      turns = long (n.turns + m.turns);
+      nodes = long (n.nodes + m.nodes);
+      cells = long (n.cells + m.cells);
+    }
+
+-- a count that is past its limit
+abbrev pub more_than : Count → ℕ → ℕ → List Why
+more_than count has may = unless (nat_le has may) (TooMany count has may)
+
+-- the counts that are past their limits, in the order in which they are looked at
+abbrev pub past_limits : ℕ → CodeTally → List Why
+past_limits tasks n =
+    more_than Statements n.statements max_statements ++ (more_than Turns n.turns max_turns
+    ++ (more_than Nodes n.nodes max_nodes ++ (more_than Cells n.cells max_cells
+    ++ unless (nat_le n.tasks tasks) (TooManyTasks n.tasks tasks))))
+
+-- The first fault of a program, and which of its entries has it. The entries are those of `ot_place`, in its order: the program
+-- itself, statements, loops with each of their turns, and what is of no form.
 
 -- ---- the faults of an entry
 

@@ -9,8 +9,7 @@ ghost use Rattle.ot_place.specs.Spots.{bindings_of, text_spots};
 ghost use Rattle.ot_place.specs.Texts.{Profile as Defined, text_by};
 ghost use Rattle.ot_fault.specs.Whys.{Form, short, after, text_whys, IsProfile, why_by, told_by, shape_of};
 ghost use Rattle.ot_fault.specs.declared.why.Wanted.TheVariants.{Program};
-ghost use Rattle.ot_fault.specs.Counting.{counts_of, more_than, past_limits};
-ghost use Rattle.ot_fault.specs.Walk.{mixed_whys, first_among, first_fault, walk, step_by, found_by, walk_on, in_bodies};
+ghost use Rattle.ot_fault.specs.Walk.{counts_of, more_than, past_limits, mixed_whys, first_among, first_fault, walk, step_by, found_by, walk_on, in_bodies};
 
 use crate::look::Look;
 use crate::own::Tally;

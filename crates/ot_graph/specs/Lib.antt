@@ -1,6 +1,5 @@
 pub mod Created
 pub mod Links
 pub mod Passing
-pub mod Graphs
 pub mod Dot
 pub mod Drawn

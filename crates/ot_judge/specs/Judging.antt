@@ -1,5 +1,5 @@
--- Which requests of a file are refused, where no program is run.
-use Rattle.std.specs.Prelude.{ℕ, zero, suc, ◌-◌, List, [], ◌∷◌, length, slice_range, codes, Bool, true, false, if◌then◌else◌, Option, Some, None, option_map, option_and_then, Result, Ok, Err, ◌≡◌, ◌≤◌, ◌+◌, drop, unwrap_or, ◌⊎◌}
+-- The requests of a file as lines.
+use Rattle.std.specs.Prelude.{ℕ, zero, suc, ◌-◌, List, [], ◌∷◌, length, slice_range, codes, Bool, true, false, if◌then◌else◌, Option, Some, None, option_map, option_and_then, Result, Ok, Err, ◌≡◌, ◌≤◌, ◌+◌, drop, unwrap_or, ◌⊎◌, ◌||◌, ◌++◌, bytes_eq, nat_eq}
 use Rattle.ot_file.specs.Cuts.{piece_from}
 use Rattle.ot_file.specs.declared.request.Piece.{Piece}
 use Rattle.ot_store.specs.Arrays.{Named, created}
@@ -9,7 +9,6 @@ use Rattle.ot_book.specs.Answers as r
 use Rattle.ot_book.specs.Answers.{Step, Now, Runs, value_of}
 use Rattle.ot_book.specs.Books.{Register, new_register, next_step, logged, reply_at}
 use Rattle.ot_book.specs.Room.{room_in, takes}
-use Rattle.ot_judge.specs.Lines.{is_goodbye, line_of, is_program}
 use Rattle.ot_judge.specs.declared.verdict.Verdict.{Verdict}
 use Rattle.ot_judge.specs.declared.verdict.Verdict.TheVariants.{Taken, Refused, Full}
 use Rattle.ot_file.specs.Items.{offset_of}
@@ -18,6 +17,48 @@ use Rattle.ot_file.specs.declared.position.Position.{Position}
 use Rattle.ot_place.specs.Spots.{Path, Spot, statements_of, numbered}
 use Rattle.ot_judge.specs.declared.findings.Found.{Found}
 use Rattle.ot_judge.specs.declared.findings.Finding.{Finding}
+use Rattle.std.specs.List.{starts_with}
+use Rattle.ot_file.specs.Comments.{blanked}
+use Rattle.ot_file.specs.OneLine.{one_line}
+
+-- the first item of an array is the word of a program
+abbrev pub begins_program : List ℕ → Bool
+begins_program item = starts_with nat_eq item (codes "\"program\"") || starts_with nat_eq item (codes "\"program2\"")
+
+abbrev pub begins_at : List ℕ → Option ℕ → Bool
+begins_at piece (Some offset) = begins_program (drop offset piece)
+begins_at piece None = false
+
+-- a piece is an array that begins with the word of a program
+abbrev pub is_program : List ℕ → Bool
+is_program piece = begins_at piece (offset_of piece (0 ∷ []))
+
+-- the line of a piece: a program stands for the request that runs it
+abbrev pub line_of : List ℕ → List ℕ
+line_of piece = if is_program piece then (codes "[\"run\"," ++ one_line piece) ++ codes "]" else one_line piece
+
+abbrev pub is_goodbye : List ℕ → Bool
+is_goodbye line = bytes_eq line (codes "[\"bye\"]")
+
+-- a piece that was found, and those behind it
+abbrev pub lines_by : List ℕ → Option Piece → (ℕ → List (List ℕ)) → List (List ℕ)
+lines_by blank None more = []
+lines_by blank (Some p) more = line_of (slice_range blank p.start p.end) ∷ more p.end
+
+-- the lines of a file without comments from a byte on, so many at most
+abbrev pub lines_from : ℕ → List ℕ → ℕ → List (List ℕ)
+lines_from zero blank from = []
+lines_from (suc most) blank from = lines_by blank (piece_from blank from) (λ at. lines_from most blank at)
+
+-- the lines of a file: each of its pieces has a byte at least
+abbrev pub lines_in : List ℕ → List (List ℕ)
+lines_in text = let blank = blanked text in lines_from (length blank) blank 0
+
+-- a line with its LF
+abbrev pub with_end : List ℕ → List ℕ
+with_end line = line ++ 10 ∷ []
+
+-- Which requests of a file are refused, where no program is run.
 
 -- ---- one request
 

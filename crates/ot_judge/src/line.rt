@@ -1,6 +1,6 @@
 //! The requests of a file as lines.
 ghost use Rattle.std.specs.Prelude.{◌≡◌, [], ◌∷◌, IfOk, OnOk};
-ghost use Rattle.ot_judge.specs.Lines.{is_goodbye, is_program, begins_program, line_of};
+ghost use Rattle.ot_judge.specs.Judging.{is_goodbye, is_program, begins_program, line_of};
 
 use ot_file::{offset_of, one_line};
 use std::alloc::{AllocError, Global};

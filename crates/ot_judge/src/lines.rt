@@ -1,6 +1,6 @@
 //! The requests of a file, one a line.
 ghost use Rattle.std.specs.Prelude.{◌≡◌, ◌++◌, IfOk, OnOk, flat_map};
-ghost use Rattle.ot_judge.specs.Lines.{lines_in, with_end};
+ghost use Rattle.ot_judge.specs.Judging.{lines_in, with_end};
 
 use crate::line::line_of;
 use ot_file::{blanked, next_piece};

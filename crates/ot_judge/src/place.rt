@@ -59,7 +59,7 @@ fn offset_in(piece: &[u8], place: &Place<'_>) -> usize
 }
 
 ghost use Rattle.ot_file.specs.Items.{offset_of};
-ghost use Rattle.ot_judge.specs.Lines.{is_program};
+ghost use Rattle.ot_judge.specs.Judging.{is_program};
 
 /// The path in a piece to what a path in its line leads to.
 fn path_in(is_program: bool, path: &[usize]) -> &[usize]

@@ -5,15 +5,14 @@ use Rattle.std.proofs.lemmas.List.{map-append, take_more}
 use Rattle.ot_model.specs.Programs.{arrays_of}
 use Rattle.ot_model.specs.declared.shape.ArrayShape.{ArrayShape}
 use Rattle.ot_store.specs.Arrays.{Named, listed}
-use Rattle.ot_ask.specs.Greeting.{GreetsServer}
+use Rattle.ot_ask.specs.Asking.{GreetsServer}
 use Rattle.ot_ask.specs.Streams.{Link}
 use Rattle.ot_keep.specs.Replies.{sized_by, Reply, Listed, Taken}
 use Rattle.ot_keep.specs.Arrays.{named_by}
 use Rattle.ot_keep.specs.declared.array.Array.{Array}
 use Rattle.ot_keep.specs.Files.{file_text}
-use Rattle.ot_keep.specs.Questions.{Question, Arrays, Checkpoint, TurnFails, StopsAsking, AsksInTurn, Turn}
+use Rattle.ot_keep.specs.Questions.{Question, Arrays, Checkpoint, TurnFails, StopsAsking, AsksInTurn, Turn, arrays_turns, cells_turn, sized}
 use Rattle.ot_keep.specs.Saving.{Clears, Compares, IsClear, IsTaken, Restores, TakesSession}
-use Rattle.ot_keep.specs.Tenants.{arrays_turns, cells_turn, sized}
 use Rattle.ot_keep.specs.declared.fault.KeepFault.{KeepFault}
 use Rattle.ot_keep.specs.declared.fault.KeepFault.TheVariants.{Ask, Differs, HasArrays, NotWhole, Refused, StrangeReply, WriteFailed}
 

@@ -1,10 +1,12 @@
 -- What is asked of a server, and what it answers.
-use Rattle.std.specs.Prelude.{◌≡◌, ◌==◌, ℕ, Bool, true, false, if◌then◌else◌, List, [], ◌∷◌, ◌++◌, length, codes, decimal, Option, Some, None, option_and_then, ⊤}
-use Rattle.ot_ask.specs.Streams.{GivesLine, IsUnanswered, Link, Writes}
+use Rattle.std.specs.Prelude.{◌≡◌, ◌==◌, ℕ, Bool, true, false, if◌then◌else◌, List, [], ◌∷◌, ◌++◌, length, codes, decimal, Option, Some, None, option_and_then, ⊤, ◌⊎◌, map}
+use Rattle.ot_ask.specs.Streams.{GivesLine, IsUnanswered, Link, Writes, BreaksOff, IsStreamOver}
 use Rattle.ot_ask.specs.declared.asked.AskFault.TheVariants as ask
 use Rattle.ot_keep.specs.Replies.{Reply, Taken, Used, Listed, Cells, reply_in}
 use Rattle.ot_keep.specs.declared.fault.KeepFault.{KeepFault}
 use Rattle.ot_keep.specs.declared.fault.KeepFault.TheVariants.{Ask, StrangeReply}
+use Rattle.ot_store.specs.Arrays.{Named, listed}
+use Rattle.ot_keep.specs.Files.{bye_line}
 
 pub data Question : Type 0 where
   Checkpoint : Question
@@ -70,3 +72,21 @@ pub record StopsAsking (old new : Link) (fault : KeepFault) : Type 0 where
   pub talk : AsksInTurn old last turns
   pub question : Question
   pub fails : TurnFails question last new fault
+
+-- How a tenant's arrays are asked for, and how a session ends.
+
+abbrev pub sized : Named → List ℕ × ℕ
+sized array = (array.0, length array.1)
+
+-- all cells of an array are asked for, and these are told
+abbrev pub cells_turn : Named → Question × Reply
+cells_turn array = (CellsOf array.0 (length array.1), Cells array.1)
+
+-- the names are asked for, and then the cells of each array, and these are told
+abbrev pub arrays_turns : List Named → List (Question × Reply)
+arrays_turns arrays = (Arrays, Listed (listed arrays)) ∷ map cells_turn arrays
+
+-- A goodbye, or a front of it where the server has gone, is sent, and then the server's stream is over.
+pub record SaysBye (old new : Link) : Type 0 where
+  pub sends : Writes old.sent new.sent bye_line ⊎ BreaksOff old.sent new.sent bye_line
+  pub waits : IsStreamOver old.heard new.heard

@@ -5,8 +5,7 @@ ghost use Rattle.ot_model.specs.Programs.{arrays_of};
 ghost use Rattle.ot_store.specs.Arrays.{listed};
 ghost use Rattle.ot_keep.specs.Replies.{sized_by};
 ghost use Rattle.ot_keep.specs.Arrays.{named_by};
-ghost use Rattle.ot_keep.specs.Questions.{TurnFails, StopsAsking, AsksInTurn, Turn};
-ghost use Rattle.ot_keep.specs.Tenants.{arrays_turns, cells_turn, SaysBye, sized};
+ghost use Rattle.ot_keep.specs.Questions.{TurnFails, StopsAsking, AsksInTurn, Turn, arrays_turns, cells_turn, SaysBye, sized};
 
 use crate::array::Array;
 use crate::fault::KeepFault;

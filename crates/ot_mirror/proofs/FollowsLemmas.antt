@@ -17,8 +17,7 @@ use Rattle.ot_book.specs.Books.{Register, state_in, logged}
 use Rattle.ot_book.specs.Answers as r
 use Rattle.ot_book.specs.Requests.{Request, New, Free, Put, Get, Arrays, Used, Checkpoint, Run, request_of, size_in}
 use Rattle.ot_book.proofs.BookLemmas.{state-logged}
-use Rattle.ot_mirror.specs.Heard.{all_sized, told_in, told_in_data}
-use Rattle.ot_mirror.specs.Mirrors.{Sizes, left_by, sent, behind, MirrorFollows}
+use Rattle.ot_mirror.specs.Mirrors.{all_sized, told_in, told_in_data, Sizes, left_by, sent, behind, MirrorFollows}
 use Rattle.ot_mirror.proofs.SizesLemmas.{left-sent}
 use Rattle.ot_mirror.proofs.GivenLemmas.{listed-finished}
 

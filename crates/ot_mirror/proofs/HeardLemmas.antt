@@ -3,7 +3,7 @@ use Rattle.std.proofs.Common.{◌≡◌, ◌≢◌, ◌⊎◌, ◌<◌, List, []
 use Rattle.std.specs.Prelude.{None}
 use Rattle.serde_json.specs.View.{items_view}
 use Rattle.serde_json.specs.declared.value.Value.{Value}
-use Rattle.ot_mirror.specs.Heard.{told_in_list, sized_of}
+use Rattle.ot_mirror.specs.Mirrors.{told_in_list, sized_of}
 
 pub no_reply : (vs : List Value) → (length vs < 2) ⊎ (4 < length vs) → told_in_list (items_view vs) ≡ None
 no_reply [] other = refl

@@ -1,3 +1,2 @@
-pub mod Heard
-pub mod HeardView
 pub mod Mirrors
+pub mod HeardView

@@ -5,7 +5,7 @@ ghost use Rattle.serde_json.specs.View.{view, items_view};
 ghost use Rattle.ot_model.specs.Programs.{arrays_of};
 ghost use Rattle.ot_book.specs.Answers.{value_of};
 ghost use Rattle.ot_book.specs.Requests.{name_in, size_in};
-ghost use Rattle.ot_mirror.specs.Heard.{all_sized, one_behind, sized_in, sized_of, told_in_list, told_in, told_in_data, two_behind};
+ghost use Rattle.ot_mirror.specs.Mirrors.{all_sized, one_behind, sized_in, sized_of, told_in_list, told_in, told_in_data, two_behind};
 ghost use Rattle.ot_mirror.specs.HeardView.{sized_as, told_as};
 
 use ot_model::ArrayShape;

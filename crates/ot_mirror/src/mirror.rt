@@ -27,7 +27,7 @@ impl Mirror {
     ghost use Rattle.std.specs.Prelude.{◌≡◌, IfOk, OnOk, OnErr, MatchOption, Some, option_and_then};
     ghost use Rattle.ot_explain.specs.Remarks.{AreOn, code_in};
     ghost use Rattle.ot_book.specs.Answers.{Arrays};
-    ghost use Rattle.ot_mirror.specs.Heard.{told_in};
+    ghost use Rattle.ot_mirror.specs.Mirrors.{told_in};
 
     /// The arrays that the reply to `["list"]` tells, where it is such a reply, and a tenant with the usual limits may have
     /// such arrays.

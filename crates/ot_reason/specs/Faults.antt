@@ -7,6 +7,8 @@ use Rattle.ot_book.specs.Answers.{Step, Now, Runs, performed, Told, Accepted, Ce
 use Rattle.ot_book.specs.Answers as told
 use Rattle.ot_book.specs.Requests.{Request, New, Free, Put, Get, Arrays, Checkpoint, Run}
 use Rattle.ot_book.specs.Requests as asks
+use Rattle.ot_reason.specs.declared.fault.Fault.{Fault}
+use Rattle.ot_reason.specs.declared.fault.Fault.TheVariants as v
 
 -- names and lengths
 abbrev pub Lengths : Type 0
@@ -87,3 +89,12 @@ IsDue limits arrays used request = IsRefusedBy (option_map code_of (fault_in lim
 -- so of every request over any arrays, after done replies of so many units
 abbrev pub FaultsAreDue : Type 0
 FaultsAreDue = (limits : Limits) (arrays : List Named) (used : ℕ) (request : Request) → IsDue limits arrays used request
+
+-- The fault that a value of the code stands for.
+
+abbrev pub fault_by : Fault → f.Fault
+fault_by (v.Unknown name) = f.Unknown name.now
+fault_by (v.Taken name has) = f.Taken name.now has
+fault_by (v.Beyond name start count has) = f.Beyond name.now start count has
+fault_by (v.TooManyCells has more may) = f.TooManyCells has more may
+fault_by (v.TooManyArrays has may) = f.TooManyArrays has may

@@ -1,4 +1,3 @@
 pub mod Faults
-pub mod FaultView
 pub mod Sentences
 pub mod Runs

@@ -4,8 +4,7 @@ ghost use Rattle.std.specs.Map.{lookup};
 ghost use Rattle.serde_json.specs.View.{view, items_view};
 ghost use Rattle.ot_model.specs.Programs.{arrays_of};
 ghost use Rattle.ot_book.specs.Requests.{request_of, form_of, new_of, free_of, put_of, get_of};
-ghost use Rattle.ot_reason.specs.Faults.{cells_of, fault_in, free_fault, new_fault, reach_fault};
-ghost use Rattle.ot_reason.specs.FaultView.{fault_by};
+ghost use Rattle.ot_reason.specs.Faults.{cells_of, fault_in, free_fault, new_fault, reach_fault, fault_by};
 
 use crate::form::{read_name, read_numbers, read_size};
 use ot_model::ArrayShape;

@@ -4,8 +4,7 @@ use Rattle.std.specs.Prelude.{Option, option_and_then}
 use Rattle.ot_file.specs.declared.position.Position.{Position}
 use Rattle.ot_judge.specs.Judging.{Refusal, code_in, told_in, IsPlaced, Standing, Goes, IsSeen}
 use Rattle.ot_judge.specs.declared.findings.Finding.{Finding}
-use Rattle.ot_report.specs.Report.{Names, place_text, words_of, error_line, notes_text, AreNotes, Reports}
-use Rattle.ot_report.specs.NoteView.{note_by, stands_of}
+use Rattle.ot_report.specs.Report.{Names, place_text, words_of, error_line, notes_text, AreNotes, Reports, note_by, stands_of}
 use Rattle.ot_report.specs.declared.note.Note.{Note}
 use Rattle.ot_report.proofs.NoteLemmas.{stands-notes}
 

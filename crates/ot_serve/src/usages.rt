@@ -1,6 +1,6 @@
 //! The lines that a server prints when it ends.
 ghost use Rattle.std.specs.Prelude.{◌≡◌, ◌++◌, length, map, string_bytes, sum, vec_len, OnOk, IfOk};
-ghost use Rattle.ot_serve.specs.Usages.{usage_line, usage_lines, usage_text};
+ghost use Rattle.ot_serve.specs.Serving.{usage_line, usage_lines, usage_text};
 
 use ot_pool::Usage;
 use std::alloc::{AllocError, Global};

@@ -1,5 +1,5 @@
 use Rattle.std.proofs.Common.{◌≡◌, ◌<◌, ◌≤◌, [], sym, ap, ◌∙◌, arith, refl}
-use Rattle.ot_judge.specs.Lines.{is_goodbye}
+use Rattle.ot_judge.specs.Judging.{is_goodbye}
 use Rattle.ot_judge.proofs.GoingLemmas.{at_end, at_goodbye, at_full, at_last, at_refused, at_taken}
 use Rattle.ot_judge.proofs.findings.next_in.Goals as goal
 

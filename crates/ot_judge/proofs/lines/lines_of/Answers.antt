@@ -1,7 +1,7 @@
 use Rattle.std.proofs.Common.{◌≡◌, ◌<◌, ◌≤◌, length, sym, ap, ◌∙◌, arith}
 use Rattle.std.specs.Prelude.{slice_range}
 use Rattle.ot_file.specs.Cuts.{piece_from}
-use Rattle.ot_judge.specs.Lines.{line_of}
+use Rattle.ot_judge.specs.Judging.{line_of}
 use Rattle.ot_judge.proofs.GoingLemmas.{written}
 use Rattle.ot_judge.proofs.lines.lines_of.Goals as goal
 

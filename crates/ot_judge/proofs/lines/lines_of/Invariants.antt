@@ -1,6 +1,6 @@
 use Rattle.std.proofs.Common.{◌≡◌, ◌≤◌, ◌-◌, List, length}
 use Rattle.std.specs.Prelude.{flat_map}
-use Rattle.ot_judge.specs.Lines.{lines_from, with_end}
+use Rattle.ot_judge.specs.Judging.{lines_from, with_end}
 use Rattle.ot_judge.proofs.GoingLemmas.{Writing}
 use Rattle.ot_judge.proofs.lines.lines_of.Given as goal
 

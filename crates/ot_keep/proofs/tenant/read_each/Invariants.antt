@@ -3,8 +3,7 @@ use Rattle.ot_store.specs.Arrays.{listed}
 use Rattle.ot_model.specs.Programs.{arrays_of}
 use Rattle.ot_ask.specs.Streams.{link, outgoing}
 use Rattle.ot_keep.specs.Arrays.{named_by}
-use Rattle.ot_keep.specs.Questions.{AsksInTurn}
-use Rattle.ot_keep.specs.Tenants.{cells_turn}
+use Rattle.ot_keep.specs.Questions.{AsksInTurn, cells_turn}
 use Rattle.ot_keep.proofs.tenant.read_each.Given as goal
 
 -- the cells of the arrays so far are told

@@ -1,6 +1,6 @@
 use Rattle.std.proofs.Common.{◌≡◌, ◌++◌, length, map}
 use Rattle.std.specs.Prelude.{string_bytes}
-use Rattle.ot_serve.specs.Usages.{usage_lines}
+use Rattle.ot_serve.specs.Serving.{usage_lines}
 use Rattle.ot_serve.proofs.usages.write_lines.Given as goal
 
 -- what is written and the lines of what is left make the whole
