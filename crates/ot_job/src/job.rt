@@ -1,16 +1,21 @@
+ghost use Rattle.std.specs.Prelude.{◌↔◌, IsTrue, ◌≡◌, [], ◌∷◌, IfOk, ◌<◌, ◌≤◌, ◌+◌, ◌*◌, Some, IsSome, length, OnErr, IfErr};
+ghost use Rattle.ot_job.specs.Taken.{IsOut};
+ghost use Rattle.ot_model.specs.Cells.{lengths, cell_of};
+ghost use Rattle.ot_model.specs.Names.{NamedIn};
+ghost use Rattle.ot_model.specs.Programs.{expanded_of};
+ghost use Rattle.ot_task.specs.Regions.{root_region, weight_of};
+
 use crate::lending::{lend, room_for, take_back};
 use crate::piece::{Done, Piece, Refused};
-use crate::settle::is_out;
-use crate::start::beginning;
 use crate::state::State;
-use crate::tasks::Tasks;
-use crate::weigh::weigh_tasks;
+use crate::tasks::{Tasks, weigh_tasks};
 use ot_check::{JobSpec, Outcome};
 use ot_model::{Cell, Cells, Counts, Look};
 use ot_owner::Owners;
-use ot_task::{Prepared, Running, prepare};
+use ot_task::{Prepared, Running, Task, prepare};
 use std::alloc::{AllocError, Global};
 use std::marker::Model;
+use std::sync::Arc;
 
 /// A live job: what it was asked to run, its cells, who holds which of them, its tasks, and what it has
 /// executed. As long as it hasn't failed, what is left of it, run serially from what its cells are worth,
@@ -43,8 +48,6 @@ impl Model for Job {
 }
 
 impl Job {
-    ghost use Rattle.std.specs.Prelude.{◌≡◌, ◌<◌, ◌≤◌, ◌+◌, ◌*◌, ◌↔◌, Some, IsSome, IsTrue, length, OnErr, IfOk, IfErr};
-    ghost use Rattle.ot_model.specs.Cells.{cell_of, lengths};
     ghost use Rattle.ot_model.specs.Tree.{size};
     ghost use Rattle.ot_owner.specs.Owning.{NoTwoShare};
     ghost use Rattle.ot_owner.specs.Worth.{worth};
@@ -53,7 +56,6 @@ impl Job {
     ghost use Rattle.ot_job.specs.Dealings.{Starts, Fails, state_in, claimable_in, aborted, state_of, IsOver, NoneOut, IsOf};
     ghost use Rattle.ot_job.specs.declared.state.State.TheVariants.{Working, Failing, Ended, Failed};
     ghost use Rattle.ot_check.specs.Jobs.{Spec, IsMeaning};
-    ghost use Rattle.ot_task.specs.Regions.{weight_of};
     ghost use Rattle.ot_job.specs.Kept.{IsKeptIn};
     ghost use Rattle.ot_job.specs.Holding.{AllHold, HavePresent, AreApart};
 
@@ -282,4 +284,27 @@ impl Job {
     {
         self.spec
     }
+}
+
+/// Whether that task runs these assigns with this condition on these inputs.
+pub fn is_out(tasks: &[Task], done: &Done) -> bool
+    ensures { IsTrue result ↔ IsOut tasks.now done.now }
+{
+    let task = done.task() as usize;
+    if task >= tasks.len() {
+        return false;
+    }
+    done.is_of(&tasks[task])
+}
+
+/// The cells as a job begins with them, and its root task.
+pub(crate) fn beginning(alloc: Global, spec: &JobSpec) -> Result<(Cells, Tasks), AllocError>
+    ensures cells { IfOk result (λ parts. parts.0 ≡ spec.now.before) }
+    ensures named { IfOk result (λ parts. NamedIn (lengths spec.now.before) (expanded_of spec.now.checked.program).body) }
+    ensures root { IfOk result (λ parts. parts.1 ≡ root_region (expanded_of spec.now.checked.program).body ∷ []) }
+{
+    let cells = spec.before().copy(alloc)?;
+    let body = Arc::try_clone(&spec.checked().parts)?;
+    let tasks = Tasks::root(alloc, body)?;
+    Ok((cells, tasks))
 }

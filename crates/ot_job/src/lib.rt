@@ -7,17 +7,12 @@
 //! from what its cells are worth, is the serial meaning of its program.
 #![tactic(auto)]
 
-mod arena;
 mod job;
 mod lending;
-mod listing;
 mod pick;
 mod piece;
-mod settle;
-mod start;
 mod state;
 mod tasks;
-mod weigh;
 
 pub use job::Job;
 pub use piece::{Done, Piece, Refused};

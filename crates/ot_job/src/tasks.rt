@@ -1,8 +1,9 @@
-ghost use Rattle.ot_task.specs.Regions.{executed, over, stopped, tasks_next, without, root_region};
+ghost use Rattle.ot_task.specs.Regions.{executed, over, stopped, tasks_next, without, root_region, weight_of};
+ghost use Rattle.std.specs.Prelude.{◌≡◌, ◌<◌, ◌≤◌, length, vec_len, OnOk, OnErr, ◌^◌, [], ◌∷◌, None, false, slice_index_or, IfOk};
+ghost use Rattle.ot_job.specs.Numbered.{at, parent_of};
+ghost use Rattle.ot_job.specs.Moves.{CreatesInOrder, closed, moved_on, settled};
 
-use crate::arena::execute;
-use crate::listing::refresh_children;
-use crate::pick::is_claimable;
+use crate::pick::{is_claimable, refresh_children};
 use ot_parts::Part;
 use ot_roster::Roster;
 use ot_task::{Running, Task};
@@ -36,13 +37,10 @@ impl Model for Tasks {
 }
 
 impl Tasks {
-    ghost use Rattle.std.specs.Prelude.{◌≡◌, ◌<◌, [], ◌∷◌, None, false, length, slice_index_or, OnOk, OnErr, IfOk};
     ghost use Rattle.std.specs.Arc.{arc_value};
     ghost use Rattle.ot_model.specs.Cells.{updated};
     ghost use Rattle.ot_parts.specs.Parts.{parts_of};
-    ghost use Rattle.ot_job.specs.Numbered.{at, parent_of};
     ghost use Rattle.ot_task.specs.Pieces.{leading, awake, begun};
-    ghost use Rattle.ot_job.specs.Moves.{CreatesInOrder, closed, moved_on, settled};
     ghost use Rattle.ot_job.specs.Claiming.{claimable_of, picked};
     ghost use Rattle.ot_job.specs.Dealings.{any_out, all_ended};
     ghost use Rattle.ot_job.specs.Calls.{HasPiece, MayEnd, MayFinish};
@@ -233,4 +231,38 @@ impl Tasks {
         self.roster.add(alloc, i, claimable);
         Ok(())
     }
+}
+
+/// Executes the control statement that comes next for task `i`, if one does: the one body or the other
+/// of an `if`, the group under this number. Where memory is refused, nothing changes.
+pub fn execute(
+    tasks: &mut Vec<Task>,
+    alloc: Global,
+    i: usize,
+    taken: bool,
+    group: u32,
+) -> Result<(), AllocError>
+    requires known { i < vec_len tasks.old }
+    ensures executed { OnOk result (tasks.new.items ≡ executed taken group i tasks.old.items) }
+    ensures ordered { OnOk result (CreatesInOrder (at tasks.old.items i)) }
+    ensures refused { OnErr result (tasks.new.items ≡ tasks.old.items) }
+    ensures long { length tasks.old.items ≤ length tasks.new.items }
+{
+    tasks.reserve(1)?;
+    if let Some(child) = tasks[i].step(alloc, i, taken, group)? {
+        tasks.push_reserved(child);
+    }
+    Ok(())
+}
+
+/// The weight of all tasks.
+pub fn weigh_tasks(tasks: &[Task]) -> u64
+    requires { weight_of tasks.now < 2 ^ 64 }
+    ensures { result ≡ weight_of tasks.now }
+{
+    let mut sum = 0;
+    for task in tasks {
+        sum += task.weigh();
+    }
+    sum
 }

@@ -2,8 +2,8 @@ use Rattle.std.proofs.Common.{◌<◌, ◌∙◌, List, length, get_or, ap, sym,
 use Rattle.ot_job.proofs.Common.{Region, executed, at, CreatesInOrder}
 use Rattle.ot_job.proofs.ClaimableLemmas.{at-here}
 use Rattle.ot_job.proofs.StepLemmas.{executed-alone, executed-beside}
-use Rattle.ot_job.proofs.arena.execute.Goals.{After-step}
-use Rattle.ot_job.proofs.arena.execute.Goals as goal
+use Rattle.ot_job.proofs.tasks.execute.Goals.{After-step}
+use Rattle.ot_job.proofs.tasks.execute.Goals as goal
 
 within : (c : After-step) → c.args.i < length c.reserve.new.self.items
 within c = omega (arith, c.requires.known, ap length c.reserve.ensures.items, c.args.tasks.now.ok.0)

@@ -1,6 +1,6 @@
 use Rattle.std.proofs.Common.{◌∙◌}
 use Rattle.ot_job.proofs.Common.{IfOk-from_err}
-use Rattle.ot_job.proofs.start.beginning.Goals as goal
+use Rattle.ot_job.proofs.job.beginning.Goals as goal
 
 pub returns-in_err-cells : goal.returns-in_err-cells
 returns-in_err-cells c =

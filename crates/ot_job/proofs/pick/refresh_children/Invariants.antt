@@ -1,6 +1,6 @@
 use Rattle.std.proofs.Common.{ℕ, Bool, length, take}
 use Rattle.ot_job.proofs.Common.{Tells, IsRefreshed, members}
-use Rattle.ot_job.proofs.listing.refresh_children.Given as goal
+use Rattle.ot_job.proofs.pick.refresh_children.Given as goal
 
 abbrev pub invariant-loop-child : goal.invariant-loop-child
 invariant-loop-child l =

@@ -1,7 +1,7 @@
 use Rattle.std.proofs.Common.{◌≡◌, ◌∙◌, ◌||◌, ◌==◌, Bool, ap, sym, subst, arith, inl, inr, take, get_or, true, false, true≢false, []}
 use Rattle.ot_job.proofs.Common.{cases_eq, eqb-true, has, at, is_claimable, members, put, put-here, put-other}
 use Rattle.std.proofs.lemmas.List.Folds.{list_any_more}
-use Rattle.ot_job.proofs.listing.refresh_children.Goals as goal
+use Rattle.ot_job.proofs.pick.refresh_children.Goals as goal
 
 -- what is among the first of a list and one more, and isn't that one, is among the first
 first-or : (a b : Bool) → (a || b) ≡ true → (b ≡ true → ⊥) → a ≡ true

@@ -1,6 +1,6 @@
 use Rattle.std.proofs.Common.{◌≡◌, ◌+◌, drop}
 use Rattle.ot_job.proofs.Common.{weight_of}
-use Rattle.ot_job.proofs.weigh.weigh_tasks.Given as goal
+use Rattle.ot_job.proofs.tasks.weigh_tasks.Given as goal
 
 -- what is weighed and what is not yet weigh what all do
 abbrev pub invariant-loop-task : goal.invariant-loop-task
