@@ -7,7 +7,7 @@ use Rattle.std.proofs.lemmas.Bool.{eqb-true}
 use Rattle.ot_model.specs.Cells.{one_writes}
 use Rattle.ot_model.specs.declared.stmt.Mode.{Mode}
 use Rattle.ot_model.specs.declared.stmt.Mode.TheVariants.{Reads, Writes, Folds}
-use Rattle.ot_check.specs.walk.States.{awaited_as, is_awaited_by, users_below, users_of_block}
+use Rattle.ot_check.specs.walk.Rows.{awaited_as, is_awaited_by, users_below, users_of_block}
 use Rattle.ot_check.specs.declared.block.Block.{Block}
 use Rattle.ot_check.proofs.Bits.{and_left, and_right, and_true}
 use Rattle.ot_check.proofs.SameLemmas.{eq_itself}

@@ -9,7 +9,7 @@ use Rattle.std.proofs.lemmas.Nat.Bits.{bit_at-zero, bit_at_set_same, bit_at_set_
 use Rattle.ot_model.specs.declared.fold.Fold.{Fold as Operation}
 use Rattle.ot_model.specs.declared.stmt.Mode.{Mode}
 use Rattle.ot_model.specs.declared.stmt.Mode.TheVariants.{Reads, Writes, Folds}
-use Rattle.ot_check.specs.walk.States.{is_by, user_at, users_below, users_of_block}
+use Rattle.ot_check.specs.walk.Rows.{is_by, user_at, users_below, users_of_block}
 use Rattle.ot_check.specs.declared.block.Block.{Block}
 use Rattle.ot_check.specs.declared.users.User.{User}
 use Rattle.ot_model.proofs.EqualLemmas.{fold-decides}

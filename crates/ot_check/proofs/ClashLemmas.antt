@@ -10,7 +10,7 @@ use Rattle.ot_model.specs.declared.fold.Fold.{Fold as Operation}
 use Rattle.ot_model.specs.declared.stmt.Mode.{Mode}
 use Rattle.ot_model.specs.declared.stmt.Mode.TheVariants.{Reads, Writes, Folds}
 use Rattle.ot_sets.specs.Sets.{bit_in}
-use Rattle.ot_check.specs.walk.States.{users_below, users_of_block, users_of_row, is_against}
+use Rattle.ot_check.specs.walk.Rows.{users_below, users_of_block, users_of_row, is_against}
 use Rattle.ot_check.specs.declared.block.Block.{Block}
 use Rattle.ot_check.specs.declared.users.User.{User}
 use Rattle.ot_check.specs.declared.users.Row.{Row}

@@ -4,7 +4,7 @@ use Rattle.std.proofs.lemmas.List.{length-set, length-replicate}
 use Rattle.std.specs.Prelude.{Option, Some, None, IsSome, option_and_then, slice_get, replicate}
 use Rattle.ot_model.specs.declared.expr.Cell.{Cell}
 use Rattle.ot_model.proofs.CellsLemmas.{cells_apart}
-use Rattle.ot_check.specs.walk.States.{found_at, widths, filled}
+use Rattle.ot_check.specs.walk.Rows.{found_at, widths, filled}
 
 pub slice_get-set_same : {A : Type 0} (xs : List A) (i : ℕ) (y : A) → IsSome (slice_get xs i) → slice_get (set xs i y) i ≡ Some y
 slice_get-set_same [] i y there = cc

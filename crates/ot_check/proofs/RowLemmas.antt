@@ -6,7 +6,8 @@ use Rattle.std.proofs.lemmas.Option.{slice_get-map, slice_get_within}
 use Rattle.ot_model.specs.Cells.{same_cell, number_of, same_fold}
 use Rattle.ot_model.specs.declared.expr.Cell.{Cell}
 use Rattle.ot_model.specs.declared.fold.Fold.{Fold as Operation}
-use Rattle.ot_check.specs.walk.States.{found_at, filled, widths, users_of, users_of_row, users_in, HaveRows, holds, row_has, rows_of, set_has, users_at}
+use Rattle.ot_check.specs.walk.States.{holds, row_has, rows_of, set_has, users_at}
+use Rattle.ot_check.specs.walk.Rows.{users_of, users_of_row, users_in, HaveRows, found_at, filled, widths}
 use Rattle.ot_sets.specs.Sets.{bit_in, has, words_of}
 use Rattle.ot_check.specs.declared.cell_set.CellSet.{CellSet}
 use Rattle.ot_sets.specs.declared.numbers.Numbers.{Numbers}

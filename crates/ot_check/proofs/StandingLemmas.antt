@@ -16,7 +16,7 @@ use Rattle.ot_check.specs.Offences.{Enter, use_as, Declared, Openings, allows, c
 use Rattle.ot_check.specs.Discipline.{Children, may_break}
 use Rattle.ot_check.specs.declared.fault.Offence.{Offence}
 use Rattle.ot_check.specs.declared.fault.Offence.TheVariants.{NotDeclared, ChildBeyond, ReductionMisuse, ConflictsWithChild, EndsWithChildren}
-use Rattle.ot_check.specs.walk.States.{found_at, widths}
+use Rattle.ot_check.specs.walk.Rows.{found_at, widths}
 use Rattle.ot_check.specs.declared.users.User.{User}
 use Rattle.ot_check.proofs.Bits.{or_none, any-same, none_any}
 

@@ -8,7 +8,8 @@ use Rattle.ot_model.specs.declared.expr.Cell.{Cell}
 use Rattle.ot_model.specs.declared.stmt.Mode.{Mode}
 use Rattle.ot_model.specs.declared.stmt.Use.{Use}
 use Rattle.ot_check.specs.Offences.{clashes}
-use Rattle.ot_check.specs.walk.States.{found_at, filled, awaited_as, AreOf, Tells, among, met, some_task, user_has, users_at}
+use Rattle.ot_check.specs.walk.States.{AreOf, Tells, among, met, some_task, user_has, users_at}
+use Rattle.ot_check.specs.walk.Rows.{awaited_as, found_at, filled}
 use Rattle.ot_sets.specs.Sets.{has}
 use Rattle.ot_sets.specs.declared.numbers.Numbers.{Numbers}
 use Rattle.ot_check.specs.declared.tasks.Tasks.{Tasks}

@@ -4,7 +4,7 @@ ghost use Rattle.std.specs.List.{list_any};
 ghost use Rattle.ot_model.specs.Cells.{conflicts};
 ghost use Rattle.ot_check.specs.declared.users.User.{User};
 ghost use Rattle.ot_sets.specs.Sets.{has};
-ghost use Rattle.ot_check.specs.walk.States.{awaited_as, is_against, is_awaited_by, is_by, users_of_block};
+ghost use Rattle.ot_check.specs.walk.Rows.{awaited_as, is_against, is_awaited_by, is_by, users_of_block};
 
 use crate::modes::is_by;
 use crate::users::User;

@@ -1,7 +1,7 @@
 ghost use Rattle.std.specs.Prelude.{◌≡◌, ◌<◌};
 ghost use Rattle.ot_model.specs.Cells.{number_of};
 ghost use Rattle.ot_check.specs.Offences.{covers, folds_by};
-ghost use Rattle.ot_check.specs.walk.States.{is_by};
+ghost use Rattle.ot_check.specs.walk.Rows.{is_by};
 
 use ot_model::{Fold, Mode};
 

@@ -1,5 +1,5 @@
 ghost use Rattle.std.specs.Prelude.{◌≡◌, IfOk, map, ◌≢◌, IsSome, Some};
-ghost use Rattle.ot_check.specs.walk.States.{widths, found_at, filled};
+ghost use Rattle.ot_check.specs.walk.Rows.{widths, found_at, filled};
 
 use ot_model::{ArrayShape, Cell};
 use std::alloc::{AllocError, Global};

@@ -3,7 +3,8 @@ ghost use Rattle.std.specs.List.{list_any};
 ghost use Rattle.ot_model.specs.Programs.{array_lengths};
 ghost use Rattle.ot_model.specs.Names.{IsInShape, AreDeclaredIn};
 ghost use Rattle.ot_model.specs.declared.expr.Cell.{Cell};
-ghost use Rattle.ot_check.specs.walk.States.{widths, awaited_as, Tells, met, user_has, users_at};
+ghost use Rattle.ot_check.specs.walk.States.{Tells, met, user_has, users_at};
+ghost use Rattle.ot_check.specs.walk.Rows.{awaited_as, widths};
 ghost use Rattle.ot_sets.specs.Sets.{has};
 ghost use Rattle.ot_check.specs.declared.users.User.{User};
 

@@ -1,8 +1,7 @@
-ghost use Rattle.std.specs.Prelude.{◌≡◌, ◌||◌, Bool, IfOk, OnOk, ◌&&◌, ℕ, not, IfSome, slice_get, ◌≢◌, [], IsSome, map};
+ghost use Rattle.std.specs.Prelude.{◌≡◌, ◌||◌, Bool, IfOk, OnOk};
 ghost use Rattle.std.specs.List.{list_any};
 ghost use Rattle.ot_check.specs.declared.users.User.{User};
-ghost use Rattle.ot_check.specs.walk.States.{found_at, filled, widths, awaited_as, users_of_row, IsRoom, met, users_at};
-ghost use Rattle.ot_sets.specs.Sets.{has};
+ghost use Rattle.ot_check.specs.walk.Rows.{found_at, filled, widths};
 
 use crate::block::Block;
 use crate::table::Table;
@@ -29,7 +28,10 @@ pub(crate) struct Row {
 }
 
 impl Row {
+    ghost use Rattle.std.specs.Prelude.{◌&&◌, ℕ, not, IfSome, slice_get};
     ghost use Rattle.ot_model.specs.Cells.{conflicts};
+    ghost use Rattle.ot_sets.specs.Sets.{has};
+    ghost use Rattle.ot_check.specs.walk.Rows.{awaited_as, users_of_row, IsRoom};
 
     /// One task alone. It takes no memory.
     fn of(alloc: Global, cell: Cell, user: User) -> Row
@@ -118,7 +120,7 @@ pub(crate) struct Users {
 impl Model for Users {
     ghost use Rattle.std.specs.Prelude.{List, map};
     ghost use Rattle.ot_check.specs.declared.users.User.{User};
-    ghost use Rattle.ot_check.specs.walk.States.{users_in, HaveRows};
+    ghost use Rattle.ot_check.specs.walk.Rows.{users_in, HaveRows};
 
     ghost Value = { List (List (List User)) };
 
@@ -128,8 +130,12 @@ impl Model for Users {
 }
 
 impl Users {
+    ghost use Rattle.std.specs.Prelude.{◌≢◌, ◌&&◌, ℕ, [], IsSome, map, not};
     ghost use Rattle.ot_model.specs.Programs.{arrays_of};
     ghost use Rattle.ot_model.specs.declared.expr.Cell.{Cell};
+    ghost use Rattle.ot_sets.specs.Sets.{has};
+    ghost use Rattle.ot_check.specs.walk.Rows.{awaited_as};
+    ghost use Rattle.ot_check.specs.walk.States.{met, users_at};
 
     /// No task declares a cell of these arrays.
     pub(crate) fn new(alloc: Global, arrays: &[ArrayShape]) -> Result<Users, AllocError>

@@ -7,7 +7,7 @@ use Rattle.ot_print.specs.Shown.{names_of}
 use Rattle.ot_last.specs.Going.{Finds}
 use Rattle.ot_last.specs.declared.found.LastRun.{LastRun}
 use Rattle.ot_graph.specs.Passing.{families, marks}
-use Rattle.ot_graph.specs.Dot.{families_of, marks_of}
+use Rattle.ot_graph.specs.Graphs.{families_of, marks_of}
 use Rattle.ot_graph.specs.Dot as dot
 use Rattle.ot_graph.specs.declared.drawing.Drawing.{Drawing}
 use Rattle.ot_graph.specs.declared.graph.Graph.{Graph}

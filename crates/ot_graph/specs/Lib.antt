@@ -1,5 +1,6 @@
 pub mod Created
 pub mod Links
 pub mod Passing
+pub mod Graphs
 pub mod Dot
 pub mod Drawn

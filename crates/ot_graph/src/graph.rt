@@ -3,7 +3,7 @@ ghost use Rattle.std.specs.Prelude.{◌≡◌, IfOk};
 ghost use Rattle.ot_model.specs.Programs.{expanded_of};
 ghost use Rattle.ot_check.specs.Jobs.{meaning_of};
 ghost use Rattle.ot_graph.specs.Passing.{families, marks, AwaitExactly};
-ghost use Rattle.ot_graph.specs.Dot.{families_of, marks_of};
+ghost use Rattle.ot_graph.specs.Graphs.{families_of, marks_of};
 
 use crate::family::Family;
 use crate::mark::Mark;

@@ -1,7 +1,8 @@
 use Rattle.std.proofs.Common.{◌++◌, sym, ap, ◌∙◌}
 use Rattle.std.specs.Prelude.{codes}
 use Rattle.ot_check.proofs.Cited.{on_ok}
-use Rattle.ot_graph.specs.Dot.{creation, words_numbered, passed_of}
+use Rattle.ot_graph.specs.Dot.{creation, words_numbered}
+use Rattle.ot_graph.specs.Graphs.{passed_of}
 use Rattle.ot_graph.proofs.DotLemmas.{in_three}
 use Rattle.ot_graph.proofs.dot.creation.Goals as goal
 

@@ -1,5 +1,6 @@
 use Rattle.std.proofs.Common.{◌≡◌, ◌≤◌, ◌++◌, drop}
-use Rattle.ot_graph.specs.Dot.{marks_of, creations}
+use Rattle.ot_graph.specs.Graphs.{marks_of}
+use Rattle.ot_graph.specs.Dot.{creations}
 use Rattle.ot_graph.proofs.dot.creations.Given as goal
 
 -- those of the marks that are left follow

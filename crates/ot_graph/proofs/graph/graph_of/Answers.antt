@@ -1,7 +1,7 @@
 use Rattle.std.proofs.Common.{◌≡◌, sym, subst, arith, rules}
 use Rattle.ot_model.specs.View.{stmts_of}
 use Rattle.ot_model.proofs.CountsLemmas.{tasks_in-≤-size}
-use Rattle.ot_graph.specs.Dot.{marks_of}
+use Rattle.ot_graph.specs.Graphs.{marks_of}
 use Rattle.ot_graph.specs.Passing.{marks, AwaitExactly}
 use Rattle.ot_graph.proofs.UnawaitedLemmas.{await-exactly}
 use Rattle.ot_graph.proofs.graph.graph_of.Goals as goal

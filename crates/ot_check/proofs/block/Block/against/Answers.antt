@@ -1,5 +1,5 @@
 use Rattle.std.proofs.Common.{ap, sym, ◌∙◌}
-use Rattle.ot_check.specs.walk.States.{is_against, is_by}
+use Rattle.ot_check.specs.walk.Rows.{is_against, is_by}
 use Rattle.ot_check.proofs.ClashLemmas.{against-reads, against-writes, against-same, against-other}
 use Rattle.ot_check.proofs.block.Block.against.Goals as goal
 

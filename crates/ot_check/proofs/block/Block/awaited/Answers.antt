@@ -1,5 +1,5 @@
 use Rattle.std.proofs.Common.{ap, sym, ◌∙◌}
-use Rattle.ot_check.specs.walk.States.{is_awaited_by}
+use Rattle.ot_check.specs.walk.Rows.{is_awaited_by}
 use Rattle.ot_check.proofs.AwaitedLemmas.{awaited-writes}
 use Rattle.ot_check.proofs.block.Block.awaited.Goals as goal
 

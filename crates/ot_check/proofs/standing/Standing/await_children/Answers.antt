@@ -2,7 +2,8 @@ use Rattle.std.proofs.Common.{◌&&◌, not, sym, ap, ◌∙◌}
 use Rattle.std.specs.List.{list_any}
 use Rattle.ot_check.specs.Offences.{awaits}
 use Rattle.ot_sets.specs.Sets.{has}
-use Rattle.ot_check.specs.walk.States.{awaited_as, users_at}
+use Rattle.ot_check.specs.walk.States.{users_at}
+use Rattle.ot_check.specs.walk.Rows.{awaited_as}
 use Rattle.ot_check.proofs.Bits.{and_false}
 use Rattle.ot_check.proofs.RegionLemmas.{behind-wait}
 use Rattle.ot_check.proofs.TaskLemmas.{awaited-told}

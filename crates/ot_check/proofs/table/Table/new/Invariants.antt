@@ -1,6 +1,6 @@
 use Rattle.std.proofs.Common.{◌≡◌, map, take}
 use Rattle.ot_model.specs.Programs.{arrays_of}
-use Rattle.ot_check.specs.walk.States.{filled}
+use Rattle.ot_check.specs.walk.Rows.{filled}
 use Rattle.ot_check.proofs.table.Table.new.Given as goal
 
 abbrev pub invariant-loop-array : goal.invariant-loop-array

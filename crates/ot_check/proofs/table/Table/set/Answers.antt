@@ -1,7 +1,7 @@
 use Rattle.std.proofs.Common.{map, sym, ap, subst, ◌∙◌, IsSome}
 use Rattle.std.proofs.lemmas.List.{map-set}
 use Rattle.std.proofs.Math.ListN.{get_or-map}
-use Rattle.ot_check.specs.walk.States.{found_at, widths}
+use Rattle.ot_check.specs.walk.Rows.{found_at, widths}
 use Rattle.ot_check.proofs.GridLemmas.{found_at-written, found_at-others, widths-set, row_of_cell}
 use Rattle.ot_check.proofs.table.Table.set.Goals as goal
 

@@ -1,5 +1,5 @@
 use Rattle.std.proofs.Common.{◌≡◌, take}
-use Rattle.ot_check.specs.walk.States.{widths}
+use Rattle.ot_check.specs.walk.Rows.{widths}
 use Rattle.ot_check.proofs.TaskLemmas.{AreEntered}
 use Rattle.ot_check.proofs.tasks.Tasks.add.Given as goal
 

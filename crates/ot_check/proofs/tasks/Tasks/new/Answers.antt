@@ -1,6 +1,6 @@
 use Rattle.std.proofs.Common.{ap, ◌∙◌, map}
 use Rattle.ot_model.specs.Programs.{arrays_of}
-use Rattle.ot_check.specs.walk.States.{widths}
+use Rattle.ot_check.specs.walk.Rows.{widths}
 use Rattle.ot_check.proofs.GridLemmas.{widths-filled}
 use Rattle.ot_check.proofs.TaskLemmas.{told-first}
 use Rattle.ot_check.proofs.tasks.Tasks.new.Goals as goal

@@ -1,7 +1,8 @@
 use Rattle.std.proofs.Common.{◌≡◌, ◌&&◌, ℕ, not, take}
 use Rattle.std.specs.List.{list_any}
 use Rattle.ot_sets.specs.Sets.{has}
-use Rattle.ot_check.specs.walk.States.{awaited_as, users_at}
+use Rattle.ot_check.specs.walk.States.{users_at}
+use Rattle.ot_check.specs.walk.Rows.{awaited_as}
 use Rattle.ot_check.proofs.tasks.Tasks.take_awaited.Given as goal
 
 abbrev pub invariant-loop-used : goal.invariant-loop-used

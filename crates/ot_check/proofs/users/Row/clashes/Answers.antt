@@ -1,7 +1,7 @@
 use Rattle.std.proofs.Common.{◌||◌, Bool, ap, sym, ◌∙◌}
 use Rattle.std.specs.List.{list_any}
 use Rattle.ot_sets.specs.Sets.{words_of}
-use Rattle.ot_check.specs.walk.States.{users_of_block}
+use Rattle.ot_check.specs.walk.Rows.{users_of_block}
 use Rattle.ot_check.specs.declared.block.Block.{Block}
 use Rattle.ot_check.proofs.Bits.{true_or}
 use Rattle.ot_check.proofs.StandingLemmas.{any-at, any-none, any-step}

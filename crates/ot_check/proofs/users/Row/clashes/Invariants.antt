@@ -1,7 +1,7 @@
 use Rattle.std.proofs.Common.{◌≡◌, false, take}
 use Rattle.std.specs.List.{list_any}
 use Rattle.ot_sets.specs.Sets.{words_of}
-use Rattle.ot_check.specs.walk.States.{users_of_block}
+use Rattle.ot_check.specs.walk.Rows.{users_of_block}
 use Rattle.ot_check.proofs.ClashLemmas.{clashing}
 use Rattle.ot_check.proofs.users.Row.clashes.Given as goal
 

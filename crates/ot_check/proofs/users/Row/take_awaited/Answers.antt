@@ -2,7 +2,7 @@ use Rattle.std.proofs.Common.{◌&&◌, Bool, not, ap, sym, ◌∙◌}
 use Rattle.std.specs.List.{list_any}
 use Rattle.ot_check.specs.declared.block.Block.{Block}
 use Rattle.ot_sets.specs.Sets.{has}
-use Rattle.ot_check.specs.walk.States.{awaited_as, users_of_block}
+use Rattle.ot_check.specs.walk.Rows.{awaited_as, users_of_block}
 use Rattle.ot_check.proofs.AwaitedLemmas.{kept-both}
 use Rattle.ot_check.proofs.ClashLemmas.{row-any}
 use Rattle.ot_check.proofs.StandingLemmas.{taken}

@@ -1,7 +1,7 @@
 use Rattle.std.proofs.Common.{◌≡◌, ◌&&◌, ℕ, not, take}
 use Rattle.std.specs.List.{list_any}
 use Rattle.ot_sets.specs.Sets.{has}
-use Rattle.ot_check.specs.walk.States.{awaited_as, users_of_block}
+use Rattle.ot_check.specs.walk.Rows.{awaited_as, users_of_block}
 use Rattle.ot_check.proofs.users.Row.take_awaited.Given as goal
 
 abbrev pub invariant-loop-block : goal.invariant-loop-block

@@ -1,6 +1,7 @@
 use Rattle.std.proofs.Common.{◌≡◌, ◌||◌, [], suc, length, map, Some, ap, sym, subst, ◌∙◌, arith}
 use Rattle.std.specs.List.{list_any}
-use Rattle.ot_check.specs.walk.States.{found_at, widths, users_in, HaveRows, users_at}
+use Rattle.ot_check.specs.walk.States.{users_at}
+use Rattle.ot_check.specs.walk.Rows.{users_in, HaveRows, found_at, widths}
 use Rattle.ot_check.proofs.WalkLemmas.{on_ok}
 use Rattle.ot_check.proofs.RowLemmas.{widths-map, widths-rows, users-read, have-set, set-here, set-old, set-others, have-pushed, pushed-here, pushed-others}
 use Rattle.ot_check.proofs.users.Users.enter.Goals as goal

@@ -1,6 +1,6 @@
 use Rattle.std.proofs.Common.{[], ap, sym, subst, map, ◌∙◌}
 use Rattle.ot_model.specs.Programs.{arrays_of}
-use Rattle.ot_check.specs.walk.States.{users_in, HaveRows}
+use Rattle.ot_check.specs.walk.Rows.{users_in, HaveRows}
 use Rattle.ot_check.proofs.RowLemmas.{have-none, map-filled}
 use Rattle.ot_check.proofs.users.Users.new.Goals as goal
 
