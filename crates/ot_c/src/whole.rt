@@ -1,7 +1,6 @@
 //! Programs of C, from their first line to their last.
 ghost use Rattle.std.specs.Prelude.{◌≡◌, ◌++◌, OnOk, IfOk, string_bytes};
 ghost use Rattle.ot_model.specs.Programs.{expanded_of, arrays_of};
-ghost use Rattle.ot_c.specs.Programs as shape;
 ghost use Rattle.ot_c.specs.Programs as written;
 ghost use Rattle.ot_c.specs.Programs.{IsProgram, lists_of};
 
@@ -121,7 +120,7 @@ fn any_shown(shows: &[Section]) -> bool
 }
 
 fn words_if(out: &mut Printer<'_>, wanted: bool, words: &str) -> Result<(), AllocError>
-    ensures text { OnOk result (out.new.text ≡ out.old.text ++ shape.words_if wanted words.now) }
+    ensures text { OnOk result (out.new.text ≡ out.old.text ++ written.words_if wanted words.now) }
     ensures names { out.new.names ≡ out.old.names }
 {
     if wanted {
@@ -138,7 +137,7 @@ fn declarations(
     arrays: &[ArrayShape],
     before: &[Vec<u64>],
 ) -> Result<(), AllocError>
-    ensures text { OnOk result (out.new.text ≡ out.old.text ++ shape.declarations margin.now (written.declared_from (expanded_of program.now) 0 (arrays_of arrays.now) (lists_of before.now))) }
+    ensures text { OnOk result (out.new.text ≡ out.old.text ++ written.declarations margin.now (written.declared_from (expanded_of program.now) 0 (arrays_of arrays.now) (lists_of before.now))) }
     ensures names { out.new.names ≡ out.old.names }
 {
     let mut any = false;
@@ -157,7 +156,7 @@ fn declaration_if(
     array: &ArrayShape,
     numbers: &[u64],
 ) -> Result<(), AllocError>
-    ensures text { OnOk result (out.new.text ≡ out.old.text ++ shape.words_if wanted (shape.declaration margin.now (shape.declared (shape.array_of array.now) numbers.now))) }
+    ensures text { OnOk result (out.new.text ≡ out.old.text ++ written.words_if wanted (written.declaration margin.now (written.declared (written.array_of array.now) numbers.now))) }
     ensures names { out.new.names ≡ out.old.names }
 {
     if wanted {

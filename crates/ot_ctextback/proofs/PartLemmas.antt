@@ -10,7 +10,6 @@ use Rattle.ot_c.specs.Programs as c
 use Rattle.ot_c.specs.Programs.{Declared, declared, before, up_to_last, initial, sized, declaration, each_declared, any_declared, words_if, declarations, show, lists, shows, declared_from}
 use Rattle.ot_c.specs.Laws.{is_identifier, NumbersFit, ListsFit}
 use Rattle.ot_c.specs.Named.{names as named_by}
-use Rattle.ot_c.specs.Programs as programs
 use Rattle.ot_c.specs.Statements.{suffix}
 use Rattle.ot_words.specs.declared.piece.Line.TheVariants as line
 use Rattle.ot_cback.specs.Assignments.{place_words}
@@ -114,7 +113,7 @@ module _ (names : List Text) (each : AreNamed names) where
       joined (led (joined (led_by_mark (joined (margin_spelled margin is) (λ rest fits. refl) show_front) (cell_leads names each c fit.0) (cell_spelled names each line.Inside line.Inside c refl fit.0 fit.1)) (λ rest fits. refl) comma)
       (decimal_leads s.len (omega (arith, fit.2))) (place_spelled line.Inside line.Inside s.len refl fit.2)) (λ rest fits. refl) end_call
 
-  further_shown : (margin : Text) (ss : List Section) → is_margin margin ≡ true → ShowsFit names ss → OnLines (programs.further names margin ss) (all_part_words names (shown_behind ss))
+  further_shown : (margin : Text) (ss : List Section) → is_margin margin ≡ true → ShowsFit names ss → OnLines (c.further names margin ss) (all_part_words names (shown_behind ss))
   further_shown margin [] is fit = nothing line.Fresh anything
   further_shown margin (s ∷ ss) is fit = beside (beside (beside (joined (margin_spelled margin is) (λ rest fits. refl) print_comma) feed) (show_spelled margin s is fit.0)) (further_shown margin ss is fit.1)
 

@@ -5,7 +5,7 @@ use Rattle.ot_model.specs.Cells.{DependsOn, depends_on}
 use Rattle.ot_model.specs.declared.stmt.Use.{Use}
 use Rattle.ot_depend.proofs.ReadyLemmas.{same_answer, DependsOn-from_test, depends_on-from_DependsOn}
 use Rattle.ot_graph.specs.Created.{Created}
-use Rattle.ot_graph.specs.Graphs.{created_of, all_of}
+use Rattle.ot_graph.specs.Children.{created_of, all_of}
 use Rattle.ot_graph.specs.declared.child.Child.{Child}
 
 -- the test of a dependence is what it tests

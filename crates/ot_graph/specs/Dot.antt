@@ -6,7 +6,8 @@ use Rattle.ot_model.specs.declared.stmt.Use.{Use}
 use Rattle.ot_print.specs.Shown.{Text, group, sections, task, wait, sections_of}
 use Rattle.ot_graph.specs.Created.{Created, Passed, Creates, Awaits, Enters, Leaves}
 use Rattle.ot_graph.specs.Links.{between, cells_at}
-use Rattle.ot_graph.specs.Graphs.{decls_of, marks_of}
+use Rattle.ot_graph.specs.Children.{decls_of}
+use Rattle.ot_graph.specs.Graphs.{marks_of}
 use Rattle.ot_graph.specs.declared.child.Child.{Child}
 use Rattle.ot_graph.specs.declared.family.Family.{Family}
 use Rattle.ot_graph.specs.declared.graph.Graph.{Graph}

@@ -1,23 +1,10 @@
--- What the children of a body stand for.
+-- What the families and marks of a graph stand for.
 use Rattle.std.specs.Prelude.{List, map, option_copied}
-use Rattle.ot_graph.specs.Created.{Kin, Passed, Creates, Awaits, Enters, Leaves, Created}
+use Rattle.ot_graph.specs.Created.{Kin, Passed, Creates, Awaits, Enters, Leaves}
+use Rattle.ot_graph.specs.Children.{created_of, all_of}
 use Rattle.ot_graph.specs.declared.family.Family.{Family}
 use Rattle.ot_graph.specs.declared.mark.Mark.{Mark}
 use Rattle.ot_graph.specs.declared.mark.Mark.TheVariants as m
-use Rattle.ot_model.specs.declared.stmt.Use.{Use}
-use Rattle.ot_graph.specs.declared.child.Child.{Child}
-
-abbrev pub created_of : Child → Created
-created_of c = record { number = c.number; place = c.place; uses = c.decl.now }
-
-abbrev pub all_of : List Child → List Created
-all_of children = map created_of children
-
--- what they declare
-abbrev pub decls_of : List Child → List (List Use)
-decls_of children = map (λ c. c.decl.now) children
-
--- What the families and marks of a graph stand for.
 
 abbrev pub kin_of : Family → Kin
 kin_of family = record { parent = family.parent; children = all_of family.children.items }

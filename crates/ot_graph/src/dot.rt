@@ -1,7 +1,8 @@
 //! A task graph in the language of `dot`.
 ghost use Rattle.std.specs.Prelude.{◌≡◌, ◌+◌, ◌++◌, ◌<◌, ◌^◌, IfOk, OnOk, decimal, length, map, option_copied, string_bytes};
 ghost use Rattle.ot_print.specs.Shown.{names_of};
-ghost use Rattle.ot_graph.specs.Graphs.{created_of, all_of, decls_of, marks_of, passed_of};
+ghost use Rattle.ot_graph.specs.Children.{created_of, all_of, decls_of};
+ghost use Rattle.ot_graph.specs.Graphs.{marks_of, passed_of};
 ghost use Rattle.ot_graph.specs.Links.{AreRows};
 ghost use Rattle.ot_print.specs.Shown as shown;
 ghost use Rattle.ot_graph.specs.Dot as dot;

@@ -1,6 +1,6 @@
 //! The children of one body.
 ghost use Rattle.ot_graph.specs.Links.{AreLinks};
-ghost use Rattle.ot_graph.specs.Graphs.{decls_of};
+ghost use Rattle.ot_graph.specs.Children.{decls_of};
 
 use crate::child::Child;
 use crate::link::{Link, links_of};

@@ -8,7 +8,8 @@ ghost use Rattle.ot_model.specs.Names.{NamedIn, OneNamedIn};
 ghost use Rattle.ot_model.specs.Serial.{state_of, serial, serial_one};
 ghost use Rattle.ot_check.specs.Offences.{awaits};
 ghost use Rattle.ot_graph.specs.Created.{Creates, Awaits, Enters, Leaves};
-ghost use Rattle.ot_graph.specs.Graphs.{created_of, all_of, families_of, marks_of};
+ghost use Rattle.ot_graph.specs.Children.{created_of, all_of};
+ghost use Rattle.ot_graph.specs.Graphs.{families_of, marks_of};
 ghost use Rattle.ot_graph.specs.Passing.{children_in, children_one, created, entered, inside, inside_one, kin_within, is_within, passes, passes_one, spares, takes, unawaited, unawaited_one};
 
 use crate::child::Child;

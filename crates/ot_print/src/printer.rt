@@ -2,7 +2,6 @@
 ghost use Rattle.std.specs.Prelude.{◌≡◌, ◌++◌, OnOk, Some, None, [], string_bytes};
 ghost use Rattle.std.specs.Fmt.{decimal};
 ghost use Rattle.ot_print.specs.Shown as shown;
-ghost use Rattle.ot_print.specs.Shown as rows;
 ghost use Rattle.ot_model.specs.Signs.{identifier};
 ghost use Rattle.ot_model.specs.View.{expr_of, stmt_of};
 
@@ -114,7 +113,7 @@ impl<'a> Printer<'a> {
 
     /// Cells with commas between them: those that stand in a row as one section, as `a[0:2], b[1]`.
     pub fn cells(&mut self, cells: &[Cell]) -> Result<(), AllocError>
-        ensures text { OnOk result (self.new.text ≡ self.old.text ++ shown.sections self.old.names (rows.sections_of cells.now)) }
+        ensures text { OnOk result (self.new.text ≡ self.old.text ++ shown.sections self.old.names (shown.sections_of cells.now)) }
         ensures names { self.new.names ≡ self.old.names }
     {
         let sections = sections_of(self.alloc, cells)?;

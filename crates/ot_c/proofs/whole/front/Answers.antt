@@ -4,7 +4,6 @@ use Rattle.std.proofs.lemmas.Result.{on_ok_weaker}
 use Rattle.ot_model.specs.Programs.{expanded_of, arrays_of}
 use Rattle.ot_print.specs.Shown.{Text}
 use Rattle.ot_print.proofs.WordLemmas.{grown}
-use Rattle.ot_c.specs.Programs as arrays
 use Rattle.ot_c.specs.Programs as written
 use Rattle.ot_c.proofs.whole.front.Goals as goal
 
@@ -16,7 +15,7 @@ returns-clause-text c =
     let head : List Text → Text = λ n. written.head in
     let called : List Text → Text = λ n. written.functions p in
     let main : List Text → Text = λ n. written.main_text in
-    let declared : List Text → Text = λ n. arrays.declarations (codes "    ") ds in
+    let declared : List Text → Text = λ n. written.declarations (codes "    ") ds in
     let t1 = grown head called a c.words.new.self c.functions.new.out c.in_ok-words.ensures.text c.words.ensures.names c.in_ok-functions.ensures.text in
     let n1 : c.functions.new.out.names ≡ a.names = c.functions.ensures.names ∙ c.words.ensures.names in
     let t2 = grown (λ n. head n ++ called n) main a c.functions.new.out c.words-2.new.self t1 n1 c.in_ok-words-2.ensures.text in

@@ -1,5 +1,5 @@
 use Rattle.std.proofs.Common.{◌≡◌, ◌++◌, drop}
-use Rattle.ot_graph.specs.Graphs.{all_of}
+use Rattle.ot_graph.specs.Children.{all_of}
 use Rattle.ot_graph.specs.Dot.{awaited_edges}
 use Rattle.ot_graph.proofs.dot.awaited_edges.Given as goal
 

@@ -2,7 +2,7 @@ use Rattle.std.proofs.Common.{take, ◌++◌, sym, ap, ◌∙◌}
 use Rattle.std.specs.Prelude.{codes}
 use Rattle.ot_check.proofs.Cited.{on_ok}
 use Rattle.ot_print.specs.Shown.{sections, sections_of}
-use Rattle.ot_graph.specs.Graphs.{decls_of}
+use Rattle.ot_graph.specs.Children.{decls_of}
 use Rattle.ot_graph.specs.Links.{between, cells_at}
 use Rattle.ot_graph.specs.Dot.{words_numbered}
 use Rattle.ot_graph.proofs.DotLemmas.{in_five, row_at, edge_is}

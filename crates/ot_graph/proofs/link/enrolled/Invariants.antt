@@ -1,6 +1,6 @@
 use Rattle.std.proofs.Common.{◌≡◌, take}
 use Rattle.ot_graph.specs.Links.{siblings_with}
-use Rattle.ot_graph.specs.Graphs.{decls_of}
+use Rattle.ot_graph.specs.Children.{decls_of}
 use Rattle.ot_graph.proofs.link.enrolled.Given as goal
 
 abbrev pub invariant-loop-child : goal.invariant-loop-child

@@ -2,7 +2,7 @@ use Rattle.std.proofs.Common.{◌≡◌, ◌+◌, ◌<◌, ◌≤◌, ◌++◌, 
 use Rattle.std.proofs.Math.ListN.{length-map}
 use Rattle.ot_depend.specs.Siblings.{IsReady, IsUnfinished}
 use Rattle.ot_graph.specs.Links.{link_from}
-use Rattle.ot_graph.specs.Graphs.{decls_of}
+use Rattle.ot_graph.specs.Children.{decls_of}
 use Rattle.ot_graph.specs.declared.child.Child.{Child}
 use Rattle.ot_graph.proofs.LinkLemmas.{ready, unfinished, one_on, all_links}
 use Rattle.ot_graph.proofs.link.links_of.Goals as goal

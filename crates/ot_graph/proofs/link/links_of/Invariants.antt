@@ -1,4 +1,4 @@
-use Rattle.ot_graph.specs.Graphs.{decls_of}
+use Rattle.ot_graph.specs.Children.{decls_of}
 use Rattle.ot_graph.proofs.LinkLemmas.{AreSoFar}
 use Rattle.ot_graph.proofs.link.links_of.Given as goal
 

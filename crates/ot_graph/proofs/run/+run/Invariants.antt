@@ -5,7 +5,8 @@ use Rattle.ot_model.specs.Serial.{serial, state_of}
 use Rattle.ot_model.specs.Names.{NamedIn}
 use Rattle.ot_model.specs.Cells.{lengths}
 use Rattle.ot_graph.specs.Passing.{children_in, inside, passes, unawaited}
-use Rattle.ot_graph.specs.Graphs.{all_of, families_of, marks_of}
+use Rattle.ot_graph.specs.Children.{all_of}
+use Rattle.ot_graph.specs.Graphs.{families_of, marks_of}
 use Rattle.ot_graph.proofs.run.+run.Given as goal
 
 -- what is left of the body, run from the cells and counts as they are now, gives what the whole body gives

@@ -1,6 +1,6 @@
 use Rattle.std.proofs.Common.{rules, ap, ◌∙◌}
 use Rattle.std.proofs.lemmas.Fn.{filter_same}
-use Rattle.ot_graph.specs.Graphs.{created_of, all_of}
+use Rattle.ot_graph.specs.Children.{created_of, all_of}
 use Rattle.ot_graph.specs.Passing.{is_within}
 use Rattle.ot_graph.proofs.RunLemmas.{all_of-filter}
 use Rattle.ot_graph.proofs.run.keep_before.Goals as goal

@@ -1,7 +1,7 @@
 use Rattle.std.proofs.Common.{◌≡◌, take}
 use Rattle.std.specs.Prelude.{option_copied}
 use Rattle.std.specs.List.{filter}
-use Rattle.ot_graph.specs.Graphs.{all_of}
+use Rattle.ot_graph.specs.Children.{all_of}
 use Rattle.ot_graph.specs.Passing.{spares, takes}
 use Rattle.ot_graph.proofs.run.parted.Given as goal
 
