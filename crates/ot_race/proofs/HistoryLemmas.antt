@@ -2,7 +2,7 @@
 use Rattle.std.proofs.Common.{◌≡◌, ◌≢◌, ℕ, ◌+◌, Bool, true, false, List, [], ◌∷◌, ◌++◌, refl, sym, ap, subst, ◌∙◌, inl, inr, arith}
 use Rattle.std.specs.Prelude.{◌⊎◌, ◌↔◌, All, Contains, Some, None, slice_get, if◌then◌else◌}
 use Rattle.std.proofs.lemmas.Bool.{cases_eq}
-use Rattle.std.proofs.lemmas.List.Elements.{All-contains, Contains-append_left, Contains-push, Contains-push_cases}
+use Rattle.std.proofs.lemmas.List.Elements.{All-weaker, All-contains, All-contains_itself, Contains-append_left, Contains-push, Contains-push_cases}
 use Rattle.ot_model.specs.Cells.{conflicts, same_fold}
 use Rattle.ot_model.specs.declared.expr.Cell.{Cell}
 use Rattle.ot_model.specs.declared.stmt.Mode.{Mode}
@@ -15,7 +15,7 @@ use Rattle.ot_race.specs.Events.{Event}
 use Rattle.ot_race.specs.Races.{IsUsed, IsRace}
 use Rattle.ot_sets.specs.Sets.{has}
 use Rattle.ot_race.specs.Standings.{IsUpTo}
-use Rattle.ot_race.specs.Histories.{Phases, phases_at, AreHistories, AllBehind, RacesWith, Touched, TouchedAgainst, IsHistory, behind_of, touched_by}
+use Rattle.ot_race.specs.Histories.{Phases, phases_at, AreHistories, AllBehind, RacesWith, Touched, TouchedAgainst, IsHistory, behind_of, HasBefore, touched_by}
 use Rattle.ot_race.specs.declared.histories.Row.{Row}
 use Rattle.ot_sets.specs.declared.numbers.Numbers.{Numbers}
 use Rattle.ot_race.proofs.OrderLemmas.{some_is, up_trans}
@@ -212,6 +212,21 @@ histories_more es n front u rows new known h up all here others = λ c.
           subst (IsHistory es n (front ++ u ∷ []) c) (sym (others c apart))
           (moved es n n front (front ++ u ∷ []) c (phases_at rows c) (more_touched es n front u c) (other_touched es n front u c apart) (h c))
     ]
+
+-- where the last phase goes on, each of its events is behind all of the phase before
+pub before_had : (es : List Event) (n : ℕ) (front : List Use) (u : Use) (rows : List Row) (known : Numbers) → AreHistories es n front rows
+    → IsUpToIn es n known → HasBefore (phases_at rows u.cell) u.mode known
+before_had es n front u rows known h up = λ alike e l there.
+    let ph = phases_at rows u.cell in
+    All-weaker (Contains ph.before) (λ b. has known b ≡ true)
+    (λ b k.
+    let t = (h u.cell).before b k in
+    elim ((h u.cell).all b t.other t.touched) [
+      | inl here ↦
+          false_true (conflicts t.other ph.mode) t.conflict (ap (λ m. conflicts m ph.mode) here.1 ∙ ap (conflicts ph.mode) (not_apart ph.mode u.mode alike) ∙ alike)
+      | inr earlier ↦ (up b).1 (up_trans es b e n (earlier.each e l) ((up e).0 there))
+    ])
+    ph.before (All-contains_itself ph.before)
 
 pub behind_more : (es : List Event) (n : ℕ) (front : List Use) (u : Use) (rows : List Row) (known : Numbers) → AreHistories es n front rows
     → IsUpToIn es n known → All (λ e. has known e ≡ true) (behind_of (phases_at rows u.cell) u.mode) → AllBehind es n known u

@@ -1,6 +1,6 @@
 -- What happens when a program goes one way: its events, in the order of the serial run, each task where it is created.
 use Rattle.std.specs.Prelude.{ℕ, ◌+◌, ◌%◌, ◌++◌, length, if◌then◌else◌, List, [], ◌∷◌, map, Option, Some, None}
-use Rattle.ot_model.specs.Tree.{E, Literal, CellAt, Apply, PickFrom, S, Set, Fold, If, Task, Wait, Group, Body, End, Next, size, size_one, val, cell_at}
+use Rattle.ot_model.specs.Tree.{E, Literal, CellAt, Apply, PickFrom, S, Set, Fold, If, Task, Wait, Group, Body, End, Next, val, cell_at, size, size_one}
 use Rattle.ot_model.specs.Cells.{cell_of}
 use Rattle.ot_model.specs.Joining.{join_by}
 use Rattle.ot_model.specs.Serial.{State, bump, change, either}

@@ -1,5 +1,5 @@
 -- What a judge keeps of cells while it goes along a list of events.
-use Rattle.std.specs.Prelude.{◌≡◌, ◌<◌, ◌⊎◌, ℕ, true, List, [], ◌∷◌, ◌++◌, map, get_or, Contains, Option, Some, None, if◌then◌else◌}
+use Rattle.std.specs.Prelude.{◌≡◌, ◌<◌, ◌⊎◌, ℕ, true, false, List, [], ◌∷◌, ◌++◌, map, get_or, All, Contains, Option, Some, None, if◌then◌else◌}
 use Rattle.ot_model.specs.Cells.{conflicts}
 use Rattle.ot_model.specs.declared.expr.Cell.{Cell}
 use Rattle.ot_model.specs.declared.stmt.Mode.{Mode}
@@ -36,6 +36,11 @@ phases_at rows c = get_or (get_or (map row_of rows) c.array []) c.index untouche
 -- the events that a touch in this mode is to be behind: where it conflicts with the last phase that phase, else the one before
 abbrev pub behind_of : Phases → Mode → List ℕ
 behind_of phases mode = if conflicts phases.mode mode then phases.last else phases.before
+
+-- where a touch in this mode goes on with the last phase: a set that has an event of that has all of the phase before
+abbrev pub HasBefore : Phases → Mode → Numbers → Type 0
+HasBefore phases mode known =
+    conflicts phases.mode mode ≡ false → (e : ℕ) → Contains phases.last e → has known e ≡ true → All (λ b. has known b ≡ true) phases.before
 
 -- the phases after one touch more, which is behind those
 abbrev pub touched_by : Phases → Mode → ℕ → Phases

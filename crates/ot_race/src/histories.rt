@@ -1,8 +1,8 @@
 //! The histories of all cells that were touched.
-ghost use Rattle.std.specs.Prelude.{◌≡◌, ◌≢◌, ◌<◌, OnOk, length, get_or, [], map, ℕ};
+ghost use Rattle.std.specs.Prelude.{◌≡◌, ◌≢◌, ◌<◌, OnOk, length, get_or, [], ℕ};
 ghost use Rattle.ot_model.specs.declared.expr.Cell.{Cell};
 ghost use Rattle.ot_race.specs.Missing.{IsMissing};
-ghost use Rattle.ot_race.specs.Histories.{row_of, phases_at, behind_of, touched_by, untouched};
+ghost use Rattle.ot_race.specs.Histories.{row_of, phases_at, behind_of, HasBefore, touched_by, untouched};
 
 use crate::history::History;
 use ot_model::{Cell, Mode};
@@ -33,6 +33,7 @@ impl Histories {
 
     /// An earlier event that touched the cell, conflicts with this mode and isn't in the set.
     pub(crate) fn racing(&self, cell: Cell, mode: Mode, known: &Numbers) -> Option<u32>
+        requires { HasBefore (phases_at self.now.rows.items cell) mode known.now }
         ensures { IsMissing (behind_of (phases_at self.now.rows.items cell) mode) known.now result }
     {
         let row = self.rows.get(cell.array as usize)?;

@@ -1,13 +1,7 @@
 //! What a judge keeps of a cell: the last two phases of its touches.
-ghost use Rattle.std.specs.Prelude.{◌≡◌, ◌↔◌, ◌++◌, ℕ, OnOk, false, true, List, [], ◌∷◌, Some, None};
-ghost use Rattle.ot_model.specs.declared.stmt.Use.{Use};
-ghost use Rattle.ot_check.specs.Offences.{use_as};
-ghost use Rattle.ot_model.specs.declared.expr.Cell.{Cell};
-ghost use Rattle.ot_race.specs.Events.{Event};
-ghost use Rattle.ot_sets.specs.Sets.{has};
+ghost use Rattle.std.specs.Prelude.{◌≡◌, OnOk};
 ghost use Rattle.ot_race.specs.Missing.{IsMissing};
-ghost use Rattle.ot_race.specs.Standings.{IsUpTo};
-ghost use Rattle.ot_race.specs.Histories.{phases_of, untouched, IsHistory, TouchedAgainst, behind_of, touched_by};
+ghost use Rattle.ot_race.specs.Histories.{phases_of, untouched, behind_of, HasBefore, touched_by};
 
 use ot_model::Mode;
 use ot_sets::Numbers;
@@ -39,14 +33,18 @@ impl History {
     }
 
     /// An earlier event that touched the cell, conflicts with this mode and isn't among these, which are
-    /// all up to an event.
+    /// all up to an event. Where the newest of a phase that goes on is among them, that event is behind
+    /// all of the phase before, and these are looked at no more.
     pub(crate) fn racing(&self, mode: Mode, known: &Numbers) -> Option<u32>
+        requires { HasBefore (phases_of self.now) mode known.now }
         ensures { IsMissing (behind_of (phases_of self.now) mode) known.now result }
     {
         if self.mode.conflicts(mode) {
-            missing(&self.last, known)
-        } else {
-            missing(&self.before, known)
+            return missing(&self.last, known);
+        }
+        match self.last.last() {
+            Some(newest) if known.has(*newest as usize) => None,
+            _ => missing(&self.before, known),
         }
     }
 

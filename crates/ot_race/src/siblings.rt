@@ -1,7 +1,6 @@
 //! What a judge keeps of tasks by the cells that they declare, as `ot_depend` keeps a body's children.
 ghost use Rattle.std.specs.Prelude.{◌≡◌, ◌<◌, ◌⊎◌, ◌++◌, ℕ, IfOk, OnOk, false, true, [], ◌∷◌, Contains, length};
 ghost use Rattle.ot_model.specs.Cells.{one_writes};
-ghost use Rattle.ot_model.specs.declared.expr.Cell.{Cell};
 ghost use Rattle.ot_model.specs.declared.stmt.Mode.{Mode};
 ghost use Rattle.ot_model.specs.declared.stmt.Use.{Use};
 ghost use Rattle.ot_race.specs.Ends.{goes_on};

@@ -34,14 +34,8 @@ pub(crate) fn join_task(
     ensures whole { OnOk result (IsWhole tasks.now known.new) }
 {
     match tasks.get(task as usize) {
-        Some(standing) => {
-            if known.has(standing.last as usize) {
-                Ok(())
-            } else {
-                known.join(&standing.known)
-            }
-        }
-        None => Ok(()),
+        Some(standing) if !known.has(standing.last as usize) => known.join(&standing.known),
+        _ => Ok(()),
     }
 }
 

@@ -1,8 +1,5 @@
 //! The touches of an event, beside those before it.
-ghost use Rattle.std.specs.Prelude.{◌≡◌, ◌<◌, ◌≤◌, ◌+◌, ◌↔◌, ℕ, IfOk, OnOk, Result, true, length, Option, Some, None, []};
-ghost use Rattle.ot_model.specs.declared.expr.Cell.{Cell};
-ghost use Rattle.ot_race.specs.Order.{IsBefore};
-ghost use Rattle.ot_race.specs.Races.{IsRace};
+ghost use Rattle.std.specs.Prelude.{◌≡◌, ◌<◌, ◌+◌, ◌↔◌, ℕ, IfOk, true, length, None, []};
 ghost use Rattle.ot_sets.specs.Sets.{has};
 ghost use Rattle.ot_race.specs.Standings.{IsUpTo};
 ghost use Rattle.ot_race.specs.Histories.{AreHistories, RacesWith};

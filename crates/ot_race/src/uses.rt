@@ -57,14 +57,8 @@ pub fn fold_as(own: Option<&Decl>, op: Fold, cell: Cell) -> Mode
     ensures { result ≡ fold_as (option_map (λ d. d.now) own.entry) op cell }
 {
     match own {
-        Some(decl) => {
-            if folds_to(decl, op, cell) {
-                Mode::Folds(op)
-            } else {
-                Mode::Writes
-            }
-        }
-        None => Mode::Writes,
+        Some(decl) if folds_to(decl, op, cell) => Mode::Folds(op),
+        _ => Mode::Writes,
     }
 }
 

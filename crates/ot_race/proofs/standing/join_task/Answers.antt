@@ -5,8 +5,8 @@ use Rattle.ot_race.proofs.PlaceLemmas.{place_found}
 use Rattle.ot_race.proofs.StandingLemmas.{whole_join, known_at}
 use Rattle.ot_race.proofs.standing.join_task.Goals as goal
 
-pub returns-else-has-clause-whole : goal.returns-else-has-clause-whole
-returns-else-has-clause-whole c =
+pub returns-in-Some-clause-whole : goal.returns-in-Some-clause-whole
+returns-in-Some-clause-whole c =
     let tasks = c.args.tasks.now in
     let t = c.args.task in
     let st = c.in-Some.standing.now in

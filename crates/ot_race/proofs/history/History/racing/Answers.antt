@@ -9,9 +9,9 @@ returns-then-conflicts c =
     subst (λ events. IsMissing events c.args.known.now c.missing.result)
     (c.deref.ensures.value ∙ sym (ap (λ b. if b then h.last.items else h.before.items) (sym c.conflicts.ensures ∙ c.if-conflicts.true))) c.missing.ensures
 
-pub returns-else-conflicts : goal.returns-else-conflicts
-returns-else-conflicts c =
+pub returns-in_default : goal.returns-in_default
+returns-in_default c =
     let h = c.args.self.now in
-    subst (λ events. IsMissing events c.args.known.now c.missing-else-conflicts.result)
-    (c.deref-else-conflicts.ensures.value ∙ sym (ap (λ b. if b then h.last.items else h.before.items) (sym c.conflicts.ensures ∙ c.if-conflicts.false)))
-    c.missing-else-conflicts.ensures
+    subst (λ events. IsMissing events c.args.known.now c.missing-in_default.result)
+    (c.deref-in_default.ensures.value ∙ sym (ap (λ b. if b then h.last.items else h.before.items) (sym c.conflicts.ensures ∙ c.if-conflicts.false)))
+    c.missing-in_default.ensures
