@@ -3,7 +3,8 @@ use Rattle.std.specs.Prelude.{◌≡◌, ℕ, ◌+◌, List, ◌++◌, [], ◌�
 use Rattle.std.specs.Str.{is_utf8}
 use Rattle.serde_json.specs.Data.{Data, number, string, array, unsigned, no_items, item}
 use Rattle.serde_json.specs.Read.{read}
-use Rattle.ot_model.specs.Programs.{Expanded, expanded_of, IsNamedIn, Arrays, array_lengths}
+use Rattle.ot_model.specs.Programs.{Expanded, expanded_of, IsNamedIn, array_lengths}
+use Rattle.ot_model.specs.Programs as shapes
 use Rattle.ot_model.specs.Serial.{serial_run}
 use Rattle.ot_model.specs.declared.expr.Section.{Section}
 use Rattle.ot_program.specs.Programs.{program_of}
@@ -201,13 +202,13 @@ RepliesGoOn = (limits : Limits) (s : State) (xs ys : List (List ℕ × Bool)) �
 -- What is known of a line that was read once.
 
 -- over arrays of this shape the line runs this program, whatever their cells hold
-abbrev pub RunsOver : Arrays → List ℕ → Expanded → Type 0
+abbrev pub RunsOver : shapes.Arrays → List ℕ → Expanded → Type 0
 RunsOver shape line program = (limits : Limits) (arrays : List Named) (used : ℕ) → shape_in limits arrays ≡ shape → ∥ step_of limits arrays used line ≡ Runs program ∥₁
 
 -- a line, what it could name, and the program that it was read as
 pub record Reading : Type 0 where
   pub line : List ℕ
-  pub shape : Arrays
+  pub shape : shapes.Arrays
   pub checked : Checked
 
 -- it is read as that program again wherever the shape is the same

@@ -186,7 +186,7 @@ abbrev comma_line : Text
 comma_line = line (codes "    ") (codes "printf(\",\");")
 
 abbrev more_lists : List Text → List Section → Text
-more_lists names ss = written.further names (codes "    ") ss
+more_lists names ss = written.further_lists names (codes "    ") ss
 
 more_shown : (names : List Text) (s : Section) (ss : List Section) (t : Text) → more_lists names (s ∷ ss) ++ t ≡ comma_line ++ (show names (codes "    ") s ++ (more_lists names ss ++ t))
 more_shown names s ss t = simp append_assoc refl

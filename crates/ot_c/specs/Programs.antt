@@ -77,13 +77,13 @@ abbrev pub show : List Text → Text → Section → Text
 show names margin s = margin ++ codes "show(&" ++ cell names (record { array = s.array; index = s.start }) ++ codes ", " ++ decimal s.len ++ codes ");\n"
 
 -- lists behind others, a comma before each
-abbrev pub further : List Text → Text → List Section → Text
-further names margin [] = []
-further names margin (s ∷ ss) = line margin (codes "printf(\",\");") ++ show names margin s ++ further names margin ss
+abbrev pub further_lists : List Text → Text → List Section → Text
+further_lists names margin [] = []
+further_lists names margin (s ∷ ss) = line margin (codes "printf(\",\");") ++ show names margin s ++ further_lists names margin ss
 
 abbrev pub lists : List Text → Text → List Section → Text
 lists names margin [] = []
-lists names margin (s ∷ ss) = show names margin s ++ further names margin ss
+lists names margin (s ∷ ss) = show names margin s ++ further_lists names margin ss
 
 -- prints the lists of the reply
 abbrev pub shows : List Text → Text → List Section → Text

@@ -113,7 +113,7 @@ module _ (names : List Text) (each : AreNamed names) where
       joined (led (joined (led_by_mark (joined (margin_spelled margin is) (λ rest fits. refl) show_front) (cell_leads names each c fit.0) (cell_spelled names each line.Inside line.Inside c refl fit.0 fit.1)) (λ rest fits. refl) comma)
       (decimal_leads s.len (omega (arith, fit.2))) (place_spelled line.Inside line.Inside s.len refl fit.2)) (λ rest fits. refl) end_call
 
-  further_shown : (margin : Text) (ss : List Section) → is_margin margin ≡ true → ShowsFit names ss → OnLines (c.further names margin ss) (all_part_words names (shown_behind ss))
+  further_shown : (margin : Text) (ss : List Section) → is_margin margin ≡ true → ShowsFit names ss → OnLines (c.further_lists names margin ss) (all_part_words names (shown_behind ss))
   further_shown margin [] is fit = nothing line.Fresh anything
   further_shown margin (s ∷ ss) is fit = beside (beside (beside (joined (margin_spelled margin is) (λ rest fits. refl) print_comma) feed) (show_spelled margin s is fit.0)) (further_shown margin ss is fit.1)
 

@@ -7,7 +7,7 @@ use Rattle.ot_book.specs.Answers.{Step, Now, Runs, performed, Told, Accepted, Ce
 use Rattle.ot_book.specs.Answers as told
 use Rattle.ot_book.specs.Requests.{Request, New, Free, Put, Get, Arrays, Checkpoint, Run}
 use Rattle.ot_book.specs.Requests as asks
-use Rattle.ot_reason.specs.declared.fault.Fault.{Fault}
+use Rattle.ot_reason.specs.declared.fault.Fault as code
 use Rattle.ot_reason.specs.declared.fault.Fault.TheVariants as v
 
 -- names and lengths
@@ -92,9 +92,9 @@ FaultsAreDue = (limits : Limits) (arrays : List Named) (used : ℕ) (request : R
 
 -- The fault that a value of the code stands for.
 
-abbrev pub fault_by : Fault → f.Fault
-fault_by (v.Unknown name) = f.Unknown name.now
-fault_by (v.Taken name has) = f.Taken name.now has
-fault_by (v.Beyond name start count has) = f.Beyond name.now start count has
-fault_by (v.TooManyCells has more may) = f.TooManyCells has more may
-fault_by (v.TooManyArrays has may) = f.TooManyArrays has may
+abbrev pub fault_by : code.Fault → Fault
+fault_by (v.Unknown name) = Unknown name.now
+fault_by (v.Taken name has) = Taken name.now has
+fault_by (v.Beyond name start count has) = Beyond name.now start count has
+fault_by (v.TooManyCells has more may) = TooManyCells has more may
+fault_by (v.TooManyArrays has may) = TooManyArrays has may
