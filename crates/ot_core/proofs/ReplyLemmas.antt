@@ -6,8 +6,7 @@ use Rattle.std.proofs.lemmas.Option.{same_Some, slice_get_cases, slice_get-map}
 use Rattle.ot_book.specs.Answers.{numbered, Told}
 use Rattle.ot_book.specs.Books.{number_at, reply_at}
 use Rattle.ot_book.specs.Room.{Room}
-use Rattle.ot_core.specs.Accounts.{Account, IsSound, told, answered, first_room}
-use Rattle.ot_core.specs.Given.{reply_in, replies_from}
+use Rattle.ot_core.specs.Accounts.{Account, IsSound, told, answered, first_room, reply_in, replies_from}
 use Rattle.ot_core.proofs.AccountLemmas.{length-told, next_after}
 
 length-numbered : (n : ℕ) (says : List Told) → length (numbered n says) ≡ length says

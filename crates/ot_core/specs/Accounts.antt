@@ -1,9 +1,9 @@
 -- One tenant: its book, the arrays that it began with, all lines that it asked, what it was told before the book's log, and
 -- the spec of its open request.
-use Rattle.std.specs.Prelude.{◌≡◌, ◌≤◌, ◌<◌, ◌^◌, ◌+◌, ◌++◌, ◌↔◌, ℕ, List, [], ◌∷◌, map, length, take, Bool, false, Option, Some, IsSome, slice_get, ◌⊎◌, true, if◌then◌else◌, None, unwrap_or}
+use Rattle.std.specs.Prelude.{◌≡◌, ◌≤◌, ◌<◌, ◌^◌, ◌+◌, ◌++◌, ◌↔◌, ℕ, List, [], ◌∷◌, map, length, take, Bool, false, Option, Some, IsSome, slice_get, ◌⊎◌, true, if◌then◌else◌, None, unwrap_or, drop, option_map}
 use Rattle.ot_check.specs.Jobs.{Spec, AreSame}
 use Rattle.ot_store.specs.Arrays.{Named}
-use Rattle.ot_book.specs.Answers.{opening, answers, Told, is_lost, Now, is_checkpoint}
+use Rattle.ot_book.specs.Answers.{opening, answers, Told, is_lost, Now, is_checkpoint, numbered}
 use Rattle.ot_book.specs.Books.{Register, IsOpenFor, state_in, max_number, logged, opened, next_step}
 use Rattle.ot_book.specs.Room.{Room, empty_room, room_in, room_after, TakesAll, takes}
 
@@ -107,3 +107,17 @@ pub record IsAnswered (old : Account) (new : Account) : Type 0 where
 abbrev pub OpensNext : Account → Option Spec → Account → Type 0
 OpensNext old None new = IsAnswered old new
 OpensNext old (Some job) new = Waits old job new
+
+-- The replies given, with their numbers.
+
+-- the reply at a place, counted from 0
+abbrev pub reply_in : Account → ℕ → Option (ℕ × Told)
+reply_in a n = option_map (λ said. (n + 1, said)) (slice_get (told a) n)
+
+-- the replies from a place on
+abbrev pub replies_from : Account → ℕ → List (ℕ × Told)
+replies_from a n = numbered (n + 1) (drop n (told a))
+
+-- all replies given, from number 1 on
+abbrev pub replies_of : Account → List (ℕ × Told)
+replies_of a = numbered 1 (told a)

@@ -2,9 +2,7 @@ pub mod Marking
 pub mod Floors
 pub mod Lending
 pub mod FloorView
-pub mod Turns
 pub mod Accounts
-pub mod Given
 pub mod AccountView
 pub mod Scenes
 pub mod SceneView

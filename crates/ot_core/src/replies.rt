@@ -19,8 +19,7 @@ impl<'a> Model for Replies<'a> {
 
     ghost Value = { List (ℕ × Told) };
 
-    ghost use Rattle.ot_core.specs.Given.{replies_from};
-    ghost use Rattle.ot_core.specs.Accounts.{answered};
+    ghost use Rattle.ot_core.specs.Accounts.{replies_from, answered};
 
     ghost view = { λ r. replies_from r.tenant.now r.place };
 
@@ -28,7 +27,7 @@ impl<'a> Model for Replies<'a> {
 }
 
 impl<'a> Replies<'a> {
-    ghost use Rattle.ot_core.specs.Given.{replies_of};
+    ghost use Rattle.ot_core.specs.Accounts.{replies_of};
 
     /// All that this tenant was given.
     pub(crate) fn new(tenant: &'a Tenant) -> Replies<'a>

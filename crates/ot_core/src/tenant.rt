@@ -44,8 +44,7 @@ impl Tenant {
     ghost use Rattle.ot_check.specs.Jobs.{IsMeaning};
     ghost use Rattle.ot_book.specs.Answers.{is_checkpoint};
     ghost use Rattle.ot_book.specs.Books.{new_register};
-    ghost use Rattle.ot_core.specs.Accounts.{Account, IsSound, answered, AdmitsLine, OpensNext, with_reply, new_account, next_line, MayAsk, IsUnopened};
-    ghost use Rattle.ot_core.specs.Given.{reply_in};
+    ghost use Rattle.ot_core.specs.Accounts.{Account, IsSound, answered, AdmitsLine, OpensNext, with_reply, new_account, next_line, MayAsk, IsUnopened, reply_in};
     ghost use Rattle.ot_core.specs.Headline.{IsTold};
 
     /// A tenant that asked nothing yet.

@@ -41,7 +41,6 @@ impl Model for World {
 
 impl World {
     ghost use Rattle.ot_core.specs.Floors.{units_of, total_of, job_of};
-    ghost use Rattle.ot_core.specs.Given.{replies_of};
     ghost use Rattle.std.specs.List.{sum_by};
     ghost use Rattle.ot_core.specs.Draining.{free_hand, Drains, DrainsPart, AllAnswered, count_of, moves_at, opens_of, full_hand, IsMove, IsFreeWorker, MayFinish, LivelyAt};
 
@@ -447,7 +446,7 @@ impl World {
     }
 }
 
-ghost use Rattle.ot_core.specs.Accounts.{MayAsk, IsSound};
+ghost use Rattle.ot_core.specs.Accounts.{replies_of, MayAsk, IsSound};
 ghost use Rattle.ot_core.specs.Openings.{new_scene, opening_of};
 
 // Tenants who asked nothing yet.

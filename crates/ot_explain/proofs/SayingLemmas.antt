@@ -2,7 +2,7 @@
 use Rattle.std.proofs.Common.{◌≡◌, ℕ, List, sym, subst}
 use Rattle.std.specs.Prelude.{Option, Some, Result, Ok, Err, IfOk, Vec}
 use Rattle.std.specs.declared.alloc.Global.{Global}
-use Rattle.ot_explain.specs.Remarks.{AreOn, OpensWith, with_code}
+use Rattle.ot_explain.specs.Explaining.{AreOn, OpensWith, with_code}
 
 -- each line of a text that begins with the code
 pub on_known : {E : Type 0} (code : Option ℕ) (bytes : List ℕ) (result : Result (Vec ℕ Global) E) → (n : ℕ) → code ≡ Some n → (first : List ℕ) → bytes ≡ with_code n first →

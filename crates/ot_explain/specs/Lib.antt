@@ -1,2 +1,1 @@
-pub mod Remarks
 pub mod Explaining

@@ -2,7 +2,7 @@
 ghost use Rattle.std.specs.Prelude.{◌≡◌, ℕ, List, IfOk, MatchOption, None, Some, string_bytes};
 ghost use Rattle.ot_book.specs.Codes.{code_number};
 ghost use Rattle.ot_check.specs.Offences.{code_of};
-ghost use Rattle.ot_explain.specs.Remarks.{last_code, with_code};
+ghost use Rattle.ot_explain.specs.Explaining.{last_code, with_code};
 
 use ot_blame::{Blame, Blamed, find_blame};
 use ot_book::{Book, Code, Entry, Told};

@@ -1,6 +1,6 @@
 //! Remarks for whoever writes them himself.
 ghost use Rattle.std.specs.Prelude.{◌≡◌, IfOk};
-ghost use Rattle.ot_explain.specs.Remarks.{last_code, AreOn, OpensWith};
+ghost use Rattle.ot_explain.specs.Explaining.{last_code, AreOn, OpensWith};
 
 use crate::remarks::{remarks_on_last, sentence};
 use crate::telling::remarked;

@@ -3,7 +3,7 @@ ghost use Rattle.std.specs.Prelude.{◌≡◌, ◌⊎◌, ℕ, List, [], ◌++�
 ghost use Rattle.std.specs.Io.KnownBytes.{Appends};
 ghost use Rattle.ot_front.specs.Session.{HasNoEnd};
 ghost use Rattle.ot_front.specs.declared.fault.FrontFault.TheVariants as fault;
-ghost use Rattle.ot_explain.specs.Remarks.{without_remarks, remark_line, with_code, last_code, OpensWith, AreOn};
+ghost use Rattle.ot_explain.specs.Explaining.{without_remarks, remark_line, with_code, last_code, OpensWith, AreOn};
 
 use crate::remarks::remarks_on_last;
 use memchr::memchr;

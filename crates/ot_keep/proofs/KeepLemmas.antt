@@ -7,10 +7,9 @@ use Rattle.ot_model.specs.declared.shape.ArrayShape.{ArrayShape}
 use Rattle.ot_store.specs.Arrays.{Named, listed}
 use Rattle.ot_ask.specs.Asking.{GreetsServer}
 use Rattle.ot_ask.specs.Streams.{Link}
-use Rattle.ot_keep.specs.Replies.{sized_by, Reply, Listed, Taken}
+use Rattle.ot_keep.specs.Files.{sized_by, Reply, Listed, Taken, file_text}
 use Rattle.ot_keep.specs.Arrays.{named_by}
 use Rattle.ot_keep.specs.declared.array.Array.{Array}
-use Rattle.ot_keep.specs.Files.{file_text}
 use Rattle.ot_keep.specs.Questions.{Question, Arrays, Checkpoint, TurnFails, StopsAsking, AsksInTurn, Turn, arrays_turns, cells_turn, sized}
 use Rattle.ot_keep.specs.Saving.{Clears, Compares, IsClear, IsTaken, Restores, TakesSession}
 use Rattle.ot_keep.specs.declared.fault.KeepFault.{KeepFault}

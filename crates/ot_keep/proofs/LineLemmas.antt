@@ -9,9 +9,8 @@ use Rattle.std.proofs.lemmas.List.Folds.{concat-append}
 use Rattle.std.proofs.lemmas.Option.{unwrap_or-slice_get}
 use Rattle.memchr.specs.Find.{IsFirstByte, is_byte}
 use Rattle.ot_ask.specs.Streams.{IsWhole, Link}
-use Rattle.ot_keep.specs.Files.{AreLines}
+use Rattle.ot_keep.specs.Files.{AreLines, Taken}
 use Rattle.ot_keep.specs.Questions.{Line, Turn}
-use Rattle.ot_keep.specs.Replies.{Taken}
 use Rattle.ot_keep.specs.Saving.{AreTaken}
 use Rattle.ot_keep.proofs.KeepLemmas.{talks_append, talks_one}
 

@@ -5,7 +5,7 @@ use Rattle.std.proofs.lemmas.List.{at_drop_more}
 use Rattle.serde_json.specs.View.{view, items_view}
 use Rattle.serde_json.specs.declared.value.Value.{Value}
 use Rattle.ot_book.specs.Requests.{all_numbers, number_in}
-use Rattle.ot_keep.specs.Replies.{list_in, sized_of}
+use Rattle.ot_keep.specs.Files.{list_in, sized_of}
 
 pub no_reply : (vs : List Value) → length vs ≢ 2 → length vs ≢ 3 → list_in (items_view vs) ≡ None
 no_reply [] two three = refl

@@ -1,6 +1,5 @@
-pub mod Replies
+pub mod Files
 pub mod Questions
 pub mod Asked
 pub mod Arrays
-pub mod Files
 pub mod Saving

@@ -2,11 +2,10 @@
 use Rattle.std.specs.Prelude.{◌≡◌, ◌==◌, ℕ, Bool, true, false, if◌then◌else◌, List, [], ◌∷◌, ◌++◌, length, codes, decimal, Option, Some, None, option_and_then, ⊤, ◌⊎◌, map}
 use Rattle.ot_ask.specs.Streams.{GivesLine, IsUnanswered, Link, Writes, BreaksOff, IsStreamOver}
 use Rattle.ot_ask.specs.declared.asked.AskFault.TheVariants as ask
-use Rattle.ot_keep.specs.Replies.{Reply, Taken, Used, Listed, Cells, reply_in}
+use Rattle.ot_keep.specs.Files.{Reply, Taken, Used, Listed, Cells, reply_in, bye_line}
 use Rattle.ot_keep.specs.declared.fault.KeepFault.{KeepFault}
 use Rattle.ot_keep.specs.declared.fault.KeepFault.TheVariants.{Ask, StrangeReply}
 use Rattle.ot_store.specs.Arrays.{Named, listed}
-use Rattle.ot_keep.specs.Files.{bye_line}
 
 pub data Question : Type 0 where
   Checkpoint : Question

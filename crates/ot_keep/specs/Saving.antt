@@ -4,9 +4,8 @@ use Rattle.ot_store.specs.Arrays.{Named}
 use Rattle.ot_ask.specs.Asking.{GreetsServer}
 use Rattle.ot_ask.specs.Streams.{BreaksOff, Link, Outgoing, Writes, IsWhole}
 use Rattle.ot_ask.specs.declared.asked.AskFault.{AskFault}
-use Rattle.ot_keep.specs.Files.{Makes, file_text, AreLines, IsNoFile}
+use Rattle.ot_keep.specs.Files.{Makes, file_text, AreLines, IsNoFile, Reply, Taken, Used, Listed}
 use Rattle.ot_keep.specs.Questions.{Question, Checkpoint, Units, StopsAsking, AsksInTurn, Arrays, Line, TurnFails, Turn, SaysBye, arrays_turns}
-use Rattle.ot_keep.specs.Replies.{Reply, Taken, Used, Listed}
 use Rattle.ot_keep.specs.declared.fault.KeepFault.{KeepFault}
 use Rattle.ot_keep.specs.declared.fault.KeepFault.TheVariants.{Ask, WriteFailed, Differs, HasArrays, NotWhole, Refused, StrangeReply}
 use Rattle.ot_keep.specs.declared.saving.Saved.{Saved}

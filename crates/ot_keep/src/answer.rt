@@ -5,7 +5,7 @@ ghost use Rattle.serde_json.specs.View.{view, items_view};
 ghost use Rattle.ot_model.specs.Programs.{arrays_of};
 ghost use Rattle.ot_book.specs.Answers.{value_of};
 ghost use Rattle.ot_book.specs.Requests.{all_numbers, name_in, size_in};
-ghost use Rattle.ot_keep.specs.Replies.{all_sized, list_in, listed_of, reply_in, reply_of, sized_in, sized_of, sized_by, reply_by};
+ghost use Rattle.ot_keep.specs.Files.{all_sized, list_in, listed_of, reply_in, reply_of, sized_in, sized_of, sized_by, reply_by};
 
 use ot_model::ArrayShape;
 use ot_program::{is_name, is_word};

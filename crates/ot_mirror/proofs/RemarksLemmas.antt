@@ -4,7 +4,7 @@ use Rattle.std.specs.Prelude.{Option, Some, None, Result, Ok, Err, IfOk, Vec, op
 use Rattle.std.specs.declared.alloc.Global.{Global}
 use Rattle.ot_book.specs.Books.{Register}
 use Rattle.ot_book.specs.Answers.{Told}
-use Rattle.ot_explain.specs.Remarks.{AreOn, OpensWith, code_in, last_code}
+use Rattle.ot_explain.specs.Explaining.{AreOn, OpensWith, code_in, last_code}
 use Rattle.ot_mirror.specs.Mirrors.{last_told}
 use Rattle.ot_mirror.specs.HeardView.{refused_at, told_as_refusal}
 use Rattle.ot_mirror.specs.declared.heard.Refusal.{Refusal}

@@ -25,7 +25,7 @@ impl Model for Mirror {
 
 impl Mirror {
     ghost use Rattle.std.specs.Prelude.{◌≡◌, IfOk, OnOk, OnErr, MatchOption, Some, option_and_then};
-    ghost use Rattle.ot_explain.specs.Remarks.{AreOn, code_in};
+    ghost use Rattle.ot_explain.specs.Explaining.{AreOn, code_in};
     ghost use Rattle.ot_book.specs.Answers.{Arrays};
     ghost use Rattle.ot_mirror.specs.Mirrors.{told_in};
 

@@ -1,7 +1,7 @@
 //! What is said of a refusal.
 ghost use Rattle.std.specs.Prelude.{◌≡◌, IfOk, IsTrue, Some};
 ghost use Rattle.ot_book.specs.ReplyView.{told_of};
-ghost use Rattle.ot_explain.specs.Remarks.{OpensWith, last_code};
+ghost use Rattle.ot_explain.specs.Explaining.{OpensWith, last_code};
 ghost use Rattle.ot_mirror.specs.HeardView.{told_as_refusal};
 
 use crate::heard::Refusal;

@@ -9,9 +9,8 @@ use Rattle.ot_job.specs.Taken.{Came as Done}
 use Rattle.ot_job.specs.declared.piece.Refused.{Refused}
 use Rattle.ot_book.specs.declared.executor.NotDone.{NotDone}
 use Rattle.ot_book.specs.declared.executor.NotDone.TheVariants.{Memory, Closed, Stranger}
-use Rattle.ot_core.specs.Floors.{job_of, Floor, new_floor, total_of, IsFree, IsWorking, NothingAt, RefusesIn, FailsIn, AbortsJob}
+use Rattle.ot_core.specs.Floors.{job_of, Floor, new_floor, total_of, IsFree, IsWorking, NothingAt, RefusesIn, FailsIn, AbortsJob, ClaimsSome, NothingAnywhere}
 use Rattle.ot_core.specs.Floors as floors
-use Rattle.ot_core.specs.Turns.{ClaimsSome, NothingAnywhere}
 use Rattle.ot_core.specs.declared.hall.Collected.TheVariants as collected
 use Rattle.ot_pool.specs.declared.hub.Claimed.{Claimed}
 use Rattle.ot_pool.specs.declared.hub.Claimed.TheVariants as claimed

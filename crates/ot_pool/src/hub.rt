@@ -63,7 +63,7 @@ impl<L: Ledger> Model for Hub<L> {
 }
 
 impl<L: Ledger> Hub<L> {
-    ghost use Rattle.ot_core.specs.Turns.{NothingAnywhere};
+    ghost use Rattle.ot_core.specs.Floors.{NothingAnywhere};
 
     /// Nobody has a job, nothing was settled, and the mark isn't set.
     pub fn new(alloc: Global, tenants: u32, book: Book<L>) -> Result<Hub<L>, AllocError>

@@ -8,7 +8,7 @@ use Rattle.std.proofs.lemmas.Str.{IsUtf8-from_ascii}
 use Rattle.std.specs.Str.{IsAscii, IsUtf8}
 use Rattle.std.specs.List.{list_all}
 use Rattle.ot_program.specs.Meanings.{is_digit, is_name, is_name_byte, is_letter}
-use Rattle.ot_sim.specs.Words.{word, behind}
+use Rattle.ot_sim.specs.Lines.{word, behind}
 
 below : (b : ℕ) (bs : List ℕ) (j : ℕ) → Nowhere (Passes (is_byte 32) (b ∷ bs)) 0 (suc j) → Nowhere (Passes (is_byte 32) bs) 0 j
 below b bs j none = λ k low high. none (suc k) (omega arith) (omega (arith, high))

@@ -1,11 +1,10 @@
--- What a line asks of a world, and what it is answered.
-use Rattle.std.specs.Prelude.{◌≡◌, ℕ, ◌+◌, ◌-◌, ◌^◌, min, List, [], ◌∷◌, ◌++◌, map, length, drop, replicate, codes, is_some, ◌||◌, if◌then◌else◌, Bool, Option, Some, None, option_map, unwrap_or, slice_get}
+-- What a line is answered.
+use Rattle.std.specs.Prelude.{◌≡◌, ℕ, ◌+◌, ◌-◌, ◌^◌, min, List, [], ◌∷◌, ◌++◌, map, length, drop, replicate, codes, is_some, ◌||◌, if◌then◌else◌, Bool, Option, Some, None, option_map, unwrap_or, slice_get, suc, bytes_eq, nat_le, true, false}
 use Rattle.ot_store.specs.Refusals.{usual_limits}
 use Rattle.ot_book.specs.Books.{new_register}
 use Rattle.ot_book.specs.Answers.{Told, text_of as reply_text}
-use Rattle.ot_core.specs.Accounts.{Account, new_account}
+use Rattle.ot_core.specs.Accounts.{Account, new_account, replies_of}
 use Rattle.ot_core.specs.Floors.{new_floor, units_of, total_of}
-use Rattle.ot_core.specs.Given.{replies_of}
 use Rattle.ot_core.specs.Scenes.{Scene, Steps}
 use Rattle.ot_core.specs.Draining.{Drains, AllAnswered}
 use Rattle.ot_core.specs.declared.event.Event.{Event}
@@ -17,10 +16,44 @@ use Rattle.ot_sim.specs.declared.play.Play.{Play}
 use Rattle.ot_sim.specs.declared.play.Saying.{Saying}
 use Rattle.ot_sim.specs.declared.play.Saying.TheVariants as saying
 use Rattle.ot_sim.specs.Lines.{said_of, said_in}
-use Rattle.ot_sim.specs.Texts.{is_barred, place_of, answer_text}
 use Rattle.ot_core.specs.declared.event.Event.TheVariants as event
 use Rattle.ot_core.specs.declared.event.Stepped.TheVariants as stepped
 use Rattle.ot_sim.specs.declared.answer.Answer.{Answer}
+use Rattle.std.specs.Fmt.{decimal}
+
+-- an answer as text, ended by one LF
+abbrev pub answer_text : Answer → List ℕ
+answer_text (answer.Tenant t) = codes "tenant " ++ t.now ++ codes "\n"
+answer_text (answer.Asked t) = codes "asked " ++ t.now ++ codes "\n"
+answer_text (answer.Full t) = codes "full " ++ t.now ++ codes "\n"
+answer_text (answer.Reply t reply) = t.now ++ codes " " ++ reply.now ++ codes "\n"
+answer_text (answer.Job t) = t.now ++ codes " job\n"
+answer_text (answer.Started w t task) = codes "start " ++ decimal w ++ codes " " ++ t.now ++ codes " task " ++ decimal task ++ codes "\n"
+answer_text (answer.Finished w units) = codes "finish " ++ decimal w ++ codes " units " ++ decimal units ++ codes "\n"
+answer_text (answer.FinishedFailed w) = codes "finish " ++ decimal w ++ codes " failed\n"
+answer_text (answer.Aborted t) = codes "abort " ++ t.now ++ codes "\n"
+answer_text answer.Drained = codes "drained\n"
+answer_text (answer.Usage t units total) = codes "usage " ++ t.now ++ codes " " ++ decimal units ++ codes " of " ++ decimal total ++ codes "\n"
+answer_text answer.NotNow = codes "notnow\n"
+answer_text answer.BadLine = codes "badline\n"
+
+-- The tenants by name, in the order made.
+
+-- the number of a tenant, from 0
+abbrev pub place_of : List (List ℕ) → List ℕ → Option ℕ
+place_of [] name = None
+place_of (n ∷ ns) name = if bytes_eq n name then Some 0 else option_map suc (place_of ns name)
+
+-- no tenant can be made of this name: it is there, or 64 are
+abbrev pub is_barred : List (List ℕ) → List ℕ → Bool
+is_barred names name = nat_le 64 (length names) || is_some (place_of names name)
+
+-- a tenant is made behind the others, or not
+abbrev pub Adds : List (List ℕ) → List ℕ → Bool → List (List ℕ) → Type 0
+Adds old name false new = (is_barred old name ≡ true) × (new ≡ old)
+Adds old name true new = (is_barred old name ≡ false) × (new ≡ old ++ name ∷ [])
+
+-- What a line asks of a world, and what it is answered.
 
 -- the event, where all tenants that it names are there
 abbrev pub event_of : List (List ℕ) → Line → Option Event

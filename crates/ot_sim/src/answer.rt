@@ -1,7 +1,7 @@
 //! What a line is answered, as text.
 ghost use Rattle.std.specs.Prelude.{◌≡◌, ◌++◌, ◌∷◌, [], OnOk, string_bytes};
 ghost use Rattle.std.specs.Fmt.{decimal};
-ghost use Rattle.ot_sim.specs.Texts.{answer_text};
+ghost use Rattle.ot_sim.specs.Playing.{answer_text};
 
 use std::alloc::AllocError;
 use std::fmt::Write;

@@ -1,6 +1,6 @@
 //! The tenants by name, in the order made.
 ghost use Rattle.std.specs.Prelude.{◌≡◌, ◌≤◌, map, length, string_bytes, [], IfOk, OnErr, vec_len};
-ghost use Rattle.ot_sim.specs.Texts.{place_of, Adds};
+ghost use Rattle.ot_sim.specs.Playing.{place_of, Adds, opening};
 
 use ot_store::{Limits, Store};
 use std::alloc::{AllocError, Global};
@@ -27,7 +27,6 @@ impl Model for Names {
 
 impl Names {
     ghost use Rattle.ot_core.specs.Openings.{new_scene};
-    ghost use Rattle.ot_sim.specs.Playing.{opening};
 
     pub(crate) fn new(alloc: Global) -> Names
         ensures { result ≡ [] }

@@ -1,7 +1,7 @@
 //! Words of a line: what stands between two spaces.
 ghost use Rattle.std.specs.Prelude.{◌≡◌, Some, None, option_map, if◌then◌else◌};
 ghost use Rattle.ot_program.specs.Meanings.{is_name, is_digit};
-ghost use Rattle.ot_sim.specs.Words.{word, behind, digits_behind, number_in_word, worker_of};
+ghost use Rattle.ot_sim.specs.Lines.{word, behind, digits_behind, number_in_word, worker_of};
 
 use memchr::memchr;
 use ot_program::is_name;

@@ -1,6 +1,6 @@
 use Rattle.std.proofs.Common.{◌≡◌, ◌∙◌, ℕ, List, subst}
 use Rattle.std.specs.Prelude.{Some, None, MatchOption, string_bytes}
-use Rattle.ot_explain.specs.Remarks.{last_code, with_code}
+use Rattle.ot_explain.specs.Explaining.{last_code, with_code}
 use Rattle.ot_explain.proofs.SayingLemmas.{on_known}
 use Rattle.ot_explain.proofs.saying.remarks_on.Goals as goal
 

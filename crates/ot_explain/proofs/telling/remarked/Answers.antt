@@ -1,7 +1,7 @@
 use Rattle.std.proofs.Common.{◌++◌, ◌∷◌, [], sym, subst, ap, ◌∙◌, inl, inr, refl, append_assoc}
 use Rattle.ot_front.specs.Session.{HasNoEnd}
 use Rattle.ot_explain.proofs.ChunkLemmas.{chunk_on, clean_all, clean_front}
-use Rattle.ot_explain.specs.Remarks.{remark_line}
+use Rattle.ot_explain.specs.Explaining.{remark_line}
 use Rattle.ot_explain.proofs.RemarkLemmas.{first_line, opens_first, opens_more}
 use Rattle.ot_explain.proofs.telling.remarked.Goals as goal
 

@@ -1,5 +1,5 @@
 use Rattle.std.proofs.Common.{◌≡◌, ◌⊎◌, ℕ, List, [], length}
-use Rattle.ot_explain.specs.Remarks.{with_code, OpensWith}
+use Rattle.ot_explain.specs.Explaining.{with_code, OpensWith}
 use Rattle.ot_explain.proofs.telling.remarked.Given as goal
 
 -- where the text begins with a code, so does the first remark

@@ -1,6 +1,6 @@
 use Rattle.std.proofs.Common.{◌≡◌, ℕ, List, [], take, sym, subst, ◌∙◌}
 use Rattle.std.specs.Prelude.{Some, None, MatchOption, string_bytes}
-use Rattle.ot_explain.specs.Remarks.{without_remarks, last_code, with_code}
+use Rattle.ot_explain.specs.Explaining.{without_remarks, last_code, with_code}
 use Rattle.ot_explain.proofs.RemarkLemmas.{on-hidden}
 use Rattle.ot_explain.proofs.telling.tell_last.Goals as goal
 

@@ -2,7 +2,7 @@ use Rattle.std.proofs.Common.{◌≡◌, ◌++◌, drop}
 use Rattle.std.specs.Prelude.{option_map}
 use Rattle.serde_json.specs.View.{items_view}
 use Rattle.ot_model.specs.Programs.{arrays_of}
-use Rattle.ot_keep.specs.Replies.{all_sized}
+use Rattle.ot_keep.specs.Files.{all_sized}
 use Rattle.ot_keep.proofs.answer.read_arrays.Given as goal
 
 abbrev pub invariant-loop-item : goal.invariant-loop-item

@@ -2,7 +2,7 @@ use Rattle.std.proofs.Common.{[], ◌∷◌}
 use Rattle.ot_ask.specs.Streams.{link, outgoing}
 use Rattle.ot_model.specs.Programs.{arrays_of}
 use Rattle.ot_keep.specs.Questions.{Question, Arrays, Checkpoint}
-use Rattle.ot_keep.specs.Replies.{Reply, Listed}
+use Rattle.ot_keep.specs.Files.{Reply, Listed}
 use Rattle.ot_keep.proofs.KeepLemmas.{clears_stop, stops_later, stops_now, talks_one}
 use Rattle.ot_keep.proofs.restoring.clear.Goals as goal
 

@@ -2,7 +2,7 @@ use Rattle.std.proofs.Common.{[], ◌∷◌, ◌+◌, ◌++◌, ap, map}
 use Rattle.ot_ask.specs.Streams.{link, outgoing}
 use Rattle.ot_keep.specs.Arrays.{named_by}
 use Rattle.ot_keep.specs.Questions.{Question, Checkpoint, Units, arrays_turns}
-use Rattle.ot_keep.specs.Replies.{Reply, Taken, Used}
+use Rattle.ot_keep.specs.Files.{Reply, Taken, Used}
 use Rattle.ot_keep.proofs.KeepLemmas.{stops_later, stops_now, talks_append, talks_one, talks_two}
 use Rattle.ot_keep.proofs.saving.read_tenant.Goals as goal
 

@@ -4,7 +4,7 @@ use Rattle.ot_ask.specs.Streams.{link, outgoing}
 use Rattle.ot_model.specs.Programs.{arrays_of}
 use Rattle.ot_keep.specs.Arrays.{named_by}
 use Rattle.ot_keep.specs.Questions.{Arrays}
-use Rattle.ot_keep.specs.Replies.{Listed}
+use Rattle.ot_keep.specs.Files.{Listed}
 use Rattle.ot_keep.proofs.KeepLemmas.{all_told, stops_later, stops_now, talks_one}
 use Rattle.ot_keep.proofs.tenant.read_arrays.Goals as goal
 

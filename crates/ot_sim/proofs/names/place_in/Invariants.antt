@@ -1,6 +1,6 @@
 use Rattle.std.proofs.Common.{◌≡◌, ◌+◌, ◌≤◌, length, map}
 use Rattle.std.specs.Prelude.{option_map, string_bytes}
-use Rattle.ot_sim.specs.Texts.{place_of}
+use Rattle.ot_sim.specs.Playing.{place_of}
 use Rattle.ot_sim.proofs.names.place_in.Given as goal
 
 -- the name isn't among those before the rest

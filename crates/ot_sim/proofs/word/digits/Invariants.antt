@@ -1,5 +1,5 @@
 use Rattle.std.proofs.Common.{◌≡◌, ◌<◌, ◌^◌, length}
-use Rattle.ot_sim.specs.Words.{digits_behind}
+use Rattle.ot_sim.specs.Lines.{digits_behind}
 use Rattle.ot_sim.proofs.word.digits.Given as goal
 
 abbrev pub invariant-loop-rest : goal.invariant-loop-rest

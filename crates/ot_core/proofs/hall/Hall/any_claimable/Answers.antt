@@ -1,6 +1,5 @@
 use Rattle.std.proofs.Common.{sym, ◌∙◌, subst}
-use Rattle.ot_core.specs.Floors.{Floor}
-use Rattle.ot_core.specs.Turns.{NothingAnywhere}
+use Rattle.ot_core.specs.Floors.{Floor, NothingAnywhere}
 use Rattle.ot_core.proofs.TurnLemmas.{any-marked, none-marked}
 use Rattle.ot_core.proofs.hall.Hall.any_claimable.Goals as goal
 

@@ -1,6 +1,5 @@
 use Rattle.std.proofs.Common.{◌≡◌, ◌+◌, ◌-◌, min, ap, ◌∙◌, arith, drop}
-use Rattle.ot_core.specs.Accounts.{answered}
-use Rattle.ot_core.specs.Given.{replies_from}
+use Rattle.ot_core.specs.Accounts.{answered, replies_from}
 use Rattle.ot_core.proofs.ReplyLemmas.{replies-behind}
 use Rattle.ot_core.proofs.replies.Replies.pass_over.Goals as goal
 

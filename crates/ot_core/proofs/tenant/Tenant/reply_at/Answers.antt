@@ -4,7 +4,7 @@ use Rattle.std.proofs.lemmas.List.{length-map}
 use Rattle.std.proofs.lemmas.Option.{slice_get-map, slice_get_read}
 use Rattle.ot_book.specs.ReplyView.{told_of}
 use Rattle.ot_core.specs.AccountView.{account_of}
-use Rattle.ot_core.specs.Given.{reply_in}
+use Rattle.ot_core.specs.Accounts.{reply_in}
 use Rattle.ot_core.proofs.ReplyLemmas.{reply_in-kept, reply_in-log}
 use Rattle.ot_core.proofs.tenant.Tenant.reply_at.Goals as goal
 
