@@ -40,10 +40,5 @@ pub fn run_events(
     };
     let owner = Owner { task: 0, own: None };
     run_all(alloc, &program.body, &mut run, owner, 1)?;
-    let Run {
-        cells: _,
-        counts: _,
-        events,
-    } = run;
-    Ok(events)
+    Ok(run.events)
 }
