@@ -17,8 +17,8 @@ returns-in-Some c =
     (λ report v t. (Some c.in-Some.entry, subst (IsFirst (items_of s.arrays s.request)) c.in-Some.is c.in_ok-entry.ensures, (v, t)))
     c.report_overlap.ensures.verdict c.report_overlap.ensures.text
 
-pub returns-in-None : goal.returns-in-None
-returns-in-None c =
+pub returns : goal.returns
+returns c =
     let s = source_by c.args.source.now in
     let body = stmts_of c.args.program.body.items in
     if_ok c.report_run.result _ (λ report. ReportsProgram s c.args.cells body report.verdict report.text.items)
