@@ -12,7 +12,7 @@ const BEHIND: &str = "\n}\n}\n";
 const OPENED: &str = r#"["program2",[["a",0,4],["b",0,3],["x",0,1],["s",0,1]],[["group","+",[],["#;
 
 /// What stands in the region, and what stands in the group.
-const TAKEN: [(&str, &str); 28] = [
+const TAKEN: [(&str, &str); 30] = [
     ("x = a[2];", r#"["set",["c","x",0],["c","a",2]]"#),
     ("a[N - 1] = N;", r#"["set",["c","a",["-",3,1]],3]"#),
     ("x *= 2;", r#"["fold","*",["c","x",0],2]"#),
@@ -90,6 +90,14 @@ const TAKEN: [(&str, &str); 28] = [
         r#"["group","max",[["x",0,1],["a",0,4]],[["task",[["red","max",["x",0,1]]],[["fold","max",["c","x",0],["c","b",0]]]]]]"#,
     ),
     (
+        "\n#pragma omp taskgroup task_reduction(max: x)\n#pragma omp task in_reduction(max: x)\n{ if (x < b[0]) x = b[0]; if (a[s % N] + 1 > x) { x = a[s % N] + 1; } if (s < a[0]) s = a[0]; }",
+        r#"["group","max",[["x",0,1]],[["task",[["red","max",["x",0,1]]],[["fold","max",["c","x",0],["c","b",0]],["fold","max",["c","x",0],["+",["pick",["a",0,3],["c","s",0]],1]],["if",["<",["c","s",0],["c","a",0]],[["set",["c","s",0],["c","a",0]]],[]]]]]]"#,
+    ),
+    (
+        "\n#pragma omp taskgroup task_reduction(min: x)\n#pragma omp task in_reduction(min: x)\n{ if (x > b[0]) x = b[0]; if (2 * s < x) x = 2 * s; }",
+        r#"["group","min",[["x",0,1]],[["task",[["red","min",["x",0,1]]],[["fold","min",["c","x",0],["c","b",0]],["fold","min",["c","x",0],["*",2,["c","s",0]]]]]]]"#,
+    ),
+    (
         "\n#pragma omp taskgroup task_reduction(+: x)\n#pragma omp task in_reduction(+: x)\n{ x = x + 1; x -= 2;\n#pragma omp task in_reduction(+: x)\nx++;\n}",
         r#"["group","+",[["x",0,1]],[["task",[["red","+",["x",0,1]]],[["fold","+",["c","x",0],1],["fold","+",["c","x",0],["-",0,2]],["task",[["red","+",["x",0,1]]],[["fold","+",["c","x",0],1]]]]]]]"#,
     ),
@@ -104,7 +112,7 @@ const TAKEN: [(&str, &str); 28] = [
 ];
 
 /// What stands in the region, from the first column of line 7 on, and why and where it is refused.
-const REFUSED: [(&str, Reason, usize, usize); 39] = [
+const REFUSED: [(&str, Reason, usize, usize); 44] = [
     ("y = 1;", Reason::Unknown, 7, 1),
     ("x = 1; x = y;", Reason::Unknown, 7, 8),
     ("a = 1;", Reason::WholeArray, 7, 1),
@@ -218,6 +226,36 @@ const REFUSED: [(&str, Reason, usize, usize); 39] = [
     ),
     (
         "\n#pragma omp taskgroup task_reduction(+: x)\n#pragma omp task in_reduction(+: x)\na[0] = x;",
+        Reason::Combined,
+        10,
+        1,
+    ),
+    (
+        "\n#pragma omp taskgroup task_reduction(max: x)\n#pragma omp task in_reduction(max: x)\nif (x > s) x = s;",
+        Reason::OwnCopy,
+        10,
+        1,
+    ),
+    (
+        "\n#pragma omp taskgroup task_reduction(max: x)\n#pragma omp task in_reduction(max: x)\nif (x < s) x = a[0];",
+        Reason::Combined,
+        10,
+        1,
+    ),
+    (
+        "\n#pragma omp taskgroup task_reduction(max: x)\n#pragma omp task in_reduction(max: x)\nif (x < s + 1) x = s - 1;",
+        Reason::Combined,
+        10,
+        1,
+    ),
+    (
+        "\n#pragma omp taskgroup task_reduction(max: x)\n#pragma omp task in_reduction(max: x)\nif (x < s) x = s; else s = 1;",
+        Reason::Combined,
+        10,
+        1,
+    ),
+    (
+        "\n#pragma omp taskgroup task_reduction(max: x)\n#pragma omp task in_reduction(max: x)\nif (x < s) x += s;",
         Reason::Combined,
         10,
         1,

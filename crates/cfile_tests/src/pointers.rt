@@ -16,7 +16,7 @@ const TAKEN: [(&str, &str); 6] = [
         r#"["group","+",[["a",2,1]],[["task",[["red","+",["a",2,1]]],[["fold","+",["c","a",2],["c","a",0]],["fold","+",["c","a",2],["-",0,1]],["fold","+",["c","a",2],2]]]]]"#,
     ),
     (
-        "uint64_t *p = &a[0]; uint64_t *q = &a[1];\n#pragma omp taskgroup task_reduction(max: p[0:1], q[0:1])\n#pragma omp task depend(in: b[0]) depend(iterator(at = 0:2), in: a[at]) in_reduction(max: p[0:1], q[0:1])\n{ p[0] = max(p[0], b[0]); q[0] = max(q[0], a[2 + x % 2]); }",
+        "uint64_t *p = &a[0]; uint64_t *q = &a[1];\n#pragma omp taskgroup task_reduction(max: p[0:1], q[0:1])\n#pragma omp task depend(in: b[0]) depend(iterator(at = 0:2), in: a[at]) in_reduction(max: p[0:1], q[0:1])\n{ if (p[0] < b[0]) p[0] = b[0]; q[0] = max(q[0], a[2 + x % 2]); }",
         r#"["group","max",[["a",0,1],["a",1,1]],[["task",[["red","max",["a",0,1]],["red","max",["a",1,1]],["in",["b",0,1]]],[["fold","max",["c","a",0],["c","b",0]],["fold","max",["c","a",1],["pick",["a",2,2],["c","x",0]]]]]]]"#,
     ),
     (

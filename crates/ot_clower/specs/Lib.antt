@@ -1,4 +1,5 @@
 pub mod Lines
 pub mod Assignments
+pub mod Extremes
 pub mod Statements
 pub mod Files

@@ -27,6 +27,7 @@ use Rattle.ot_clower.specs.declared.statements.Called.{Called}
 use Rattle.ot_clower.specs.declared.statements.Source.{Source}
 use Rattle.ot_cdeclare.specs.Places.{byte_of}
 use Rattle.ot_clower.specs.Assignments.{assignment}
+use Rattle.ot_clower.specs.Extremes.{Kept, kept_if, folded}
 use Rattle.ot_cclause.specs.Clauses.{Head, heading, group_operation}
 use Rattle.ot_cclause.specs.declared.own.Taking.{Taking}
 use Rattle.ot_cdeclare.specs.Each.{each}
@@ -192,13 +193,22 @@ group at op sections x = one_with at (form (codes "group") (string (operation_wo
 abbrev pub assigned : Around → ℕ → Aim → Option Sign → E → Lowered
 assigned a at t sign e = assignment a at t sign e >>= λ d. Ok (one at d [])
 
+-- what an `if` keeps in a task's own copy is folded into it
+abbrev pub kept : Around → ℕ → Kept → Lowered
+kept a at k = folded a at k >>= λ d. Ok (one at d [])
+
+-- an `if`, whose bodies become these unless it keeps something
+abbrev pub branched : Around → ℕ → E → Option Kept → Lowered → Lowered → Lowered
+branched a at test (Some k) b c = kept a at k
+branched a at test None b c = value a at test >>= λ v. b >>= λ x. c >>= λ y. Ok (branch at v.text x y)
+
 -- ---- statements
 
 unfoldable mutual
   pub statement : Origin → Around → S → Lowered
   statement o a (Block left b) = body_from o a none b
   statement o a (Assign left t sign e) = assigned a (byte_of o.starts left) t sign e
-  statement o a (If left test b c) = value a (byte_of o.starts left) test >>= λ v. body_from o a none b >>= λ x. body_from o a none c >>= λ y. Ok (branch (byte_of o.starts left) v.text x y)
+  statement o a (If left test b c) = branched a (byte_of o.starts left) test (kept_if a test b c) (body_from o a none b) (body_from o a none c)
   statement o a (For left c b) = bounds a (byte_of o.starts left) c >>= λ r. body_from o (with_turn a (turn c true)) none b >>= λ x. Ok (repeated (byte_of o.starts left) r x)
   statement o a (Task left cs b) = task_head a (byte_of o.starts left) cs >>= λ h. body_from o h.around none b >>= λ x. Ok (task (byte_of o.starts left) h.clauses h.taking x)
   statement o a (Wait left cs) = wait a (byte_of o.starts left) cs

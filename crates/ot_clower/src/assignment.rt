@@ -69,14 +69,14 @@ fn pointed_cell(
 /// What is assigned to: a pointer's cell or how many cells there are; their type; and by which operation the task folds into
 /// its own copy of it, if it has one.
 #[derive(Clone, Copy)]
-struct Placed {
+pub(crate) struct Placed {
     pointee: Option<Pointee>,
-    kind: IntegerType,
+    pub(crate) kind: IntegerType,
     length: Option<usize>,
-    own: Option<Operation>,
+    pub(crate) own: Option<Operation>,
 }
 
-fn aimed(start: usize, sense: Sense) -> Result<Placed, CFault>
+pub(crate) fn aimed(start: usize, sense: Sense) -> Result<Placed, CFault>
     ensures { Gives place_of result (meant.aimed start sense) }
 {
     match sense {
@@ -115,7 +115,7 @@ fn free(scope: &Scope<'_>, start: usize, array: Name, index: &Option<Expr>) -> R
 }
 
 /// The cell that is assigned to.
-fn cell_aimed(
+pub(crate) fn cell_aimed(
     alloc: Global,
     scope: &Scope<'_>,
     start: usize,
@@ -164,7 +164,7 @@ fn may_fold(own: Option<Operation>, operation: Operation) -> bool
 }
 
 /// A fold: `cell op= expr`, of a cell of a type.
-fn change(
+pub(crate) fn change(
     alloc: Global,
     scope: &Scope<'_>,
     start: usize,
@@ -213,7 +213,7 @@ fn is_target_by(array: Name, index: &Option<Expr>, expr: &Expr) -> bool
 }
 
 /// Whether a value is what is assigned to.
-fn is_target(target: &Target, expr: &Expr) -> bool
+pub(crate) fn is_target(target: &Target, expr: &Expr) -> bool
     ensures { result ≡ meant.is_target (aim_of target.now) (expr_of expr.now) }
 {
     is_target_by(target.array, &target.index, expr)

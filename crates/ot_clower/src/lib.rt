@@ -2,6 +2,7 @@
 #![tactic(auto)]
 
 mod assignment;
+mod extreme;
 mod lines;
 mod lowered;
 mod statements;

@@ -5,11 +5,13 @@ ghost use Rattle.ot_cread.specs.Tree.{expr_of, clauses_of};
 ghost use Rattle.ot_cstatement.specs.Tree.{aim_of, course_of, exprs_of, stmt_of, list_of, body_of};
 ghost use Rattle.ot_cscope.specs.Results.{Gives};
 ghost use Rattle.ot_cclause.specs.Clauses.{head_of};
+ghost use Rattle.ot_clower.specs.Extremes.{kept_of};
 ghost use Rattle.ot_clower.specs.Lines.{lines_of};
 ghost use Rattle.ot_clower.specs.Statements.{bounds_of, called_of, source_of};
 ghost use Rattle.ot_clower.specs.Statements as meant;
 
 use crate::assignment::assignment;
+use crate::extreme::{Extreme, folded, kept_if};
 use crate::lines::{Lines, copy, joined, no_lines, one_line, one_line_with};
 use ot_cclause::{Heading, Taking, group_operation, headed, no_cells, operation_word};
 use ot_cdeclare::byte_of;
@@ -399,6 +401,19 @@ fn assigned(
     Ok(one_line(alloc, start, statement, Vec::new(alloc))?)
 }
 
+/// What an `if` keeps in a task's own copy is folded into it.
+fn kept(
+    alloc: Global,
+    scope: &Scope<'_>,
+    start: usize,
+    extreme: &Extreme<'_>,
+) -> Result<Lines, CFault>
+    ensures { Gives lines_of result (meant.kept scope.now start (kept_of extreme.now)) }
+{
+    let statement = folded(alloc, scope, start, extreme)?;
+    Ok(one_line(alloc, start, statement, Vec::new(alloc))?)
+}
+
 /// A statement.
 #[cycle(statement)]
 #[tactic(auto, unfolding(crate::specs::Statements::statement))]
@@ -424,6 +439,9 @@ pub(crate) fn statement(
         }
         Stmt::If(left, test, one, two) => {
             let start = byte_of(source.starts, *left);
+            if let Some(extreme) = kept_if(scope, test, one, two) {
+                return kept(alloc, scope, start, &extreme);
+            }
             let test = value(alloc, scope, start, test)?;
             let one = body(alloc, source, scope, one)?;
             let two = body(alloc, source, scope, two)?;

@@ -47,6 +47,7 @@ use Rattle.ot_clowerback.specs.Bodies.{AreFound, StatementFits, BodyFits, places
 use Rattle.ot_clowerback.specs.Reductions.{Grouped, IsFree, ReadsFree, AreFree, AreGrouped, with_group, StatementReduces, BodyReduces}
 use Rattle.ot_clowerback.proofs.ClauseLemmas.{depending, all_folding, clauses_are, depending_alone, depending_depend, mode_depends}
 use Rattle.ot_clowerback.proofs.CountLemmas.{folded_cells}
+use Rattle.ot_clowerback.proofs.ExtremeLemmas.{keeps_nothing}
 use Rattle.ot_clowerback.proofs.PlaceLemmas.{Place, first_place, task_place, same_place}
 use Rattle.ot_clowerback.proofs.JoinLemmas.{word_is, task_inside}
 use Rattle.ot_clowerback.proofs.TaskLemmas.{alone_free, sorted_once, wait_heading, empty_heading, task_said, task_heading, group_said, group_inside, group_heading}
@@ -339,9 +340,10 @@ module _ (number : Text → ℕ) (names : List Text) (shape : Arrays) (found : A
         let both = length-append (places o.starts p) (places o.starts q) in
         let first = one (omega (arith, small, both)) in
         let second = two (omega (arith, small, both)) in
+        let test = lowered number names shape known a (byte_of o.starts left) place.knows e all (reads_untouched e all free) in
         record {
           texts = array (four (string (codes "if")) (value_text shape e) (array (items_of first.texts)) (array (items_of second.texts))) ∷ [];
-          is = rw (lowered number names shape known a (byte_of o.starts left) place.knows e all (reads_untouched e all free), first.steps [] [] [] (omega (arith, small, both)), second.steps [] [] [] (omega (arith, small, both))) refl;
+          is = rw (keeps_nothing a (byte_of o.starts left) (tree_of arrays e) p q _ test, test, first.steps [] [] [] (omega (arith, small, both)), second.steps [] [] [] (omega (arith, small, both))) refl;
           read = rw (statements_back b, statements_back d) at (branch_read names shape found e first.texts second.texts (statements b) (statements d) fits first.read second.read);
         }
 

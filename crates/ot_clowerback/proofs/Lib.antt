@@ -9,4 +9,5 @@ mod ReadLemmas
 mod TextLemmas
 pub mod ValueLemmas
 mod StatementLemmas
+mod ExtremeLemmas
 pub mod BodyLemmas
