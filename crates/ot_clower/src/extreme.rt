@@ -133,7 +133,7 @@ fn only(stmts: &[Stmt]) -> Option<&Stmt>
 fn only_set<'a>(one: &'a [Stmt], two: &[Stmt]) -> Option<(&'a Target, &'a Expr)>
     ensures { option_map (λ x. (aim_of x.0.now, expr_of x.1.now)) result ≡ meant.only_set (body_of (list_of one.now)) (body_of (list_of two.now)) }
 {
-    match &two[..0] {
+    match two {
         [] => set_of(only(one)?),
         _ => None,
     }
