@@ -15,7 +15,7 @@ use Rattle.ot_race.specs.Events.{Event}
 use Rattle.ot_race.specs.Races.{IsUsed, IsRace}
 use Rattle.ot_sets.specs.Sets.{has}
 use Rattle.ot_race.specs.Standings.{IsUpTo}
-use Rattle.ot_race.specs.Histories.{Phases, phases_at, AreHistories, AllBehind, RacesWith, Touched, TouchedAgainst, IsHistory, behind_of, HasBefore, touched_by}
+use Rattle.ot_race.specs.Histories.{Phases, phases_at, AreHistories, AllBehind, RacesWith, Touched, TouchedAgainst, IsHistory, behind_of, HasThose, AreTips, IsUpToTip, IsTouched, touched_by}
 use Rattle.ot_race.specs.declared.histories.Row.{Row}
 use Rattle.ot_sets.specs.declared.numbers.Numbers.{Numbers}
 use Rattle.ot_race.proofs.OrderLemmas.{some_is, up_trans}
@@ -36,8 +36,16 @@ pub true_or_false : (b : Bool) → (b ≡ true) ⊎ (b ≡ false)
 true_or_false true = inl refl
 true_or_false false = inr refl
 
+by_case : (P : Bool → Type 0) → P true → P false → (b : Bool) → P b
+by_case P t f true = t
+by_case P t f false = f
+
 false_true : {A : Type 0} (b : Bool) → b ≡ true → b ≡ false → A
 false_true b h k = cc
+
+-- what is in a set is up to event n
+abbrev pub IsUpToIn : List Event → ℕ → Numbers → Type 0
+IsUpToIn es n known = (i : ℕ) → (has known i ≡ true) ↔ IsUpTo es i n
 
 -- histories of touches that are the same
 pub moved : (es : List Event) (n m : ℕ) (front more : List Use) (c : Cell) (ph : Phases)
@@ -49,6 +57,8 @@ moved es n m front more c ph to from h = record {
   before = λ e l. let b = h.before e l in record { other = b.other; touched = to b.other e b.touched; conflict = b.conflict };
   all = λ i o t. h.all i o (from o i t);
   some = λ i o t. h.some i o (from o i t);
+  tips = h.tips;
+  tips_before = h.tips_before;
 }
 
 -- what is up to each event that it is to be behind is behind all that it conflicts with
@@ -112,10 +122,10 @@ mode_is : (a b : Mode) (c : Cell) → use_as a c ≡ use_as b c → b ≡ a
 mode_is a b c h = sym (ap (λ u. u.mode) h)
 
 -- a touch that conflicts with the last phase begins one
-begun : (es : List Event) (n : ℕ) (front : List Use) (c : Cell) (mode : Mode) (ph : Phases) → IsHistory es n front c ph → conflicts ph.mode mode ≡ true
-    → ((e : ℕ) → Contains ph.last e → IsUpTo es e n)
-    → IsHistory es n (front ++ use_as mode c ∷ []) c (record { mode = mode; last = n ∷ []; before = ph.last })
-begun es n front c mode ph h apart behind = record {
+begun : (es : List Event) (n : ℕ) (front : List Use) (c : Cell) (mode : Mode) (ph : Phases) (tips : List ℕ) → IsHistory es n front c ph
+    → conflicts ph.mode mode ≡ true → ((e : ℕ) → Contains ph.last e → IsUpTo es e n) → Contains tips n
+    → IsHistory es n (front ++ use_as mode c ∷ []) c (record { mode = mode; last = n ∷ []; tips = tips; before = ph.last; tips_before = ph.tips })
+begun es n front c mode ph tips h apart behind tip = record {
   last = λ e l. subst (λ x. Touched es n (front ++ use_as mode c ∷ []) c mode x) (only n e l) (new_touched es n front c mode);
   before = λ e l. record { other = ph.mode; touched = more_touched es n front (use_as mode c) c ph.mode e (h.last e l); conflict = apart };
   all = λ i o t. elim (touched_cases es n front (use_as mode c) c o i t) [
@@ -133,13 +143,16 @@ begun es n front c mode ph h apart behind = record {
     | inr new ↦ inl (subst (λ x. Contains (n ∷ []) x) (sym new.0) (Contains-push [] n), mode_is mode o c new.1)
   ];
   some = λ i o t. (n, Contains-push [] n);
+  tips = λ i l. record { tip = n; there = tip; reached = inl (sym (only n i l)) };
+  tips_before = h.tips;
 }
 
 -- one that doesn't goes on with it
-continued : (es : List Event) (n : ℕ) (front : List Use) (c : Cell) (mode : Mode) (ph : Phases) → IsHistory es n front c ph → ph.mode ≡ mode
-    → ((e : ℕ) → Contains ph.before e → IsUpTo es e n)
-    → IsHistory es n (front ++ use_as mode c ∷ []) c (record { mode = mode; last = ph.last ++ n ∷ []; before = ph.before })
-continued es n front c mode ph h same behind = record {
+continued : (es : List Event) (n : ℕ) (front : List Use) (c : Cell) (mode : Mode) (ph : Phases) (tips : List ℕ) (known : Numbers) → IsHistory es n front c ph
+    → ph.mode ≡ mode → ((e : ℕ) → Contains ph.before e → IsUpTo es e n) → IsUpToIn es n known → AreTips ph.tips n known tips
+    → IsHistory es n (front ++ use_as mode c ∷ []) c
+    (record { mode = mode; last = ph.last ++ n ∷ []; tips = tips; before = ph.before; tips_before = ph.tips_before })
+continued es n front c mode ph tips known h same behind up are = record {
   last = λ e l. elim (Contains-push_cases ph.last n e l) [
     | inl old ↦ subst (λ m. Touched es n (front ++ use_as mode c ∷ []) c m e) same (more_touched es n front (use_as mode c) c ph.mode e (h.last e old))
     | inr new ↦ subst (λ x. Touched es n (front ++ use_as mode c ∷ []) c mode x) new (new_touched es n front c mode)
@@ -163,28 +176,45 @@ continued es n front c mode ph h same behind = record {
     | inr new ↦ inl (subst (λ x. Contains (ph.last ++ n ∷ []) x) (sym new.0) (Contains-push ph.last n), mode_is mode o c new.1)
   ];
   some = λ i o t. (n, Contains-push ph.last n);
+  tips = λ i l. elim (Contains-push_cases ph.last n i l) [
+    | inl old ↦
+        let t = h.tips i old in
+        elim (are.others t.tip t.there) [
+          | inl stays ↦ record { tip = t.tip; there = stays; reached = t.reached }
+          | inr behind_it ↦ record { tip = n; there = are.it; reached = up_trans es i t.tip n t.reached ((up t.tip).0 behind_it) }
+        ]
+    | inr new ↦ record { tip = n; there = are.it; reached = inl (sym new) }
+  ];
+  tips_before = h.tips_before;
 }
 
-pub history_touched : (es : List Event) (n : ℕ) (front : List Use) (c : Cell) (mode : Mode) (ph : Phases) → IsHistory es n front c ph
-    → ((e : ℕ) → Contains (behind_of ph mode) e → IsUpTo es e n) → IsHistory es n (front ++ use_as mode c ∷ []) c (touched_by ph mode n)
-history_touched es n front c mode ph h behind =
-    elim (true_or_false (conflicts ph.mode mode)) [
+-- the phases after a touch that conflicts with the last, or doesn't
+abbrev after : Phases → Mode → ℕ → List ℕ → Bool → Phases
+after ph mode n tips b = record {
+  mode = mode;
+  last = if b then n ∷ [] else ph.last ++ n ∷ [];
+  tips = tips;
+  before = if b then ph.last else ph.before;
+  tips_before = if b then ph.tips else ph.tips_before;
+}
+
+pub history_touched : (es : List Event) (n : ℕ) (front : List Use) (c : Cell) (mode : Mode) (ph new : Phases) (known : Numbers) → IsHistory es n front c ph
+    → IsUpToIn es n known → ((e : ℕ) → Contains (behind_of ph mode) e → IsUpTo es e n) → IsTouched ph mode n known new
+    → IsHistory es n (front ++ use_as mode c ∷ []) c new
+history_touched es n front c mode ph new known h up behind is =
+    subst (IsHistory es n (front ++ use_as mode c ∷ []) c) (sym is.0)
+    (elim (true_or_false (conflicts ph.mode mode)) [
       | inl apart ↦
-          subst (λ b. IsHistory es n (front ++ use_as mode c ∷ []) c (record { mode = mode; last = if b then n ∷ [] else ph.last ++ n ∷ []; before = if b then ph.last else ph.before }))
-          (sym apart)
-          (begun es n front c mode ph h apart (λ e l. behind e (subst (λ b. Contains (if b then ph.last else ph.before) e) (sym apart) l)))
+          subst (λ b. IsHistory es n (front ++ use_as mode c ∷ []) c (after ph mode n new.tips b)) (sym apart)
+          (begun es n front c mode ph new.tips h apart (λ e l. behind e (subst (λ b. Contains (if b then ph.last else ph.before) e) (sym apart) l)) is.1.it)
       | inr alike ↦
-          subst (λ b. IsHistory es n (front ++ use_as mode c ∷ []) c (record { mode = mode; last = if b then n ∷ [] else ph.last ++ n ∷ []; before = if b then ph.last else ph.before }))
-          (sym alike)
-          (continued es n front c mode ph h (not_apart ph.mode mode alike)
-          (λ e l. behind e (subst (λ b. Contains (if b then ph.last else ph.before) e) (sym alike) l)))
-    ]
+          subst (λ b. IsHistory es n (front ++ use_as mode c ∷ []) c (after ph mode n new.tips b)) (sym alike)
+          (continued es n front c mode ph new.tips known h (not_apart ph.mode mode alike)
+          (λ e l. behind e (subst (λ b. Contains (if b then ph.last else ph.before) e) (sym alike) l)) up
+          (subst (λ b. AreTips (if b then [] else ph.tips) n known new.tips) alike is.1))
+    ])
 
 -- ---- all cells
-
--- what is in a set is up to event n
-abbrev pub IsUpToIn : List Event → ℕ → Numbers → Type 0
-IsUpToIn es n known = (i : ℕ) → (has known i ≡ true) ↔ IsUpTo es i n
 
 all_up : (es : List Event) (n : ℕ) (known : Numbers) (events : List ℕ) → IsUpToIn es n known → All (λ e. has known e ≡ true) events → (e : ℕ)
     → Contains events e → IsUpTo es e n
@@ -200,23 +230,31 @@ other_touched es n front u c apart o i t =
 
 pub histories_more : (es : List Event) (n : ℕ) (front : List Use) (u : Use) (rows new : List Row) (known : Numbers) → AreHistories es n front rows
     → IsUpToIn es n known → All (λ e. has known e ≡ true) (behind_of (phases_at rows u.cell) u.mode)
-    → phases_at new u.cell ≡ touched_by (phases_at rows u.cell) u.mode n → ((c : Cell) → c ≢ u.cell → phases_at new c ≡ phases_at rows c)
+    → IsTouched (phases_at rows u.cell) u.mode n known (phases_at new u.cell) → ((c : Cell) → c ≢ u.cell → phases_at new c ≡ phases_at rows c)
     → AreHistories es n (front ++ u ∷ []) new
 histories_more es n front u rows new known h up all here others = λ c.
     elim (cells_equal c u.cell) [
       | inl same ↦
           subst (λ d. IsHistory es n (front ++ u ∷ []) d (phases_at new d)) (sym same)
-          (subst (IsHistory es n (front ++ u ∷ []) u.cell) (sym here)
-          (history_touched es n front u.cell u.mode (phases_at rows u.cell) (h u.cell) (all_up es n known (behind_of (phases_at rows u.cell) u.mode) up all)))
+          (history_touched es n front u.cell u.mode (phases_at rows u.cell) (phases_at new u.cell) known (h u.cell) up
+          (all_up es n known (behind_of (phases_at rows u.cell) u.mode) up all) here)
       | inr apart ↦
           subst (IsHistory es n (front ++ u ∷ []) c) (sym (others c apart))
           (moved es n n front (front ++ u ∷ []) c (phases_at rows c) (more_touched es n front u c) (other_touched es n front u c apart) (h c))
     ]
 
+-- what has all tips of a phase has all of it
+tips_had : (es : List Event) (n : ℕ) (tips events : List ℕ) (known : Numbers) → IsUpToIn es n known → ((i : ℕ) → Contains events i → IsUpToTip es tips i)
+    → All (λ e. has known e ≡ true) tips → All (λ e. has known e ≡ true) events
+tips_had es n tips events known up each all =
+    All-weaker (Contains events) (λ i. has known i ≡ true)
+    (λ i l. let t = each i l in (up i).1 (up_trans es i t.tip n t.reached (all_up es n known tips up all t.tip t.there))) events (All-contains_itself events)
+
 -- where the last phase goes on, each of its events is behind all of the phase before
-pub before_had : (es : List Event) (n : ℕ) (front : List Use) (u : Use) (rows : List Row) (known : Numbers) → AreHistories es n front rows
-    → IsUpToIn es n known → HasBefore (phases_at rows u.cell) u.mode known
-before_had es n front u rows known h up = λ alike e l there.
+before_had : (es : List Event) (n : ℕ) (front : List Use) (u : Use) (rows : List Row) (known : Numbers) → AreHistories es n front rows
+    → IsUpToIn es n known → conflicts (phases_at rows u.cell).mode u.mode ≡ false → (e : ℕ) → Contains (phases_at rows u.cell).last e → has known e ≡ true
+    → All (λ b. has known b ≡ true) (phases_at rows u.cell).before
+before_had es n front u rows known h up alike e l there =
     let ph = phases_at rows u.cell in
     All-weaker (Contains ph.before) (λ b. has known b ≡ true)
     (λ b k.
@@ -227,6 +265,17 @@ before_had es n front u rows known h up = λ alike e l there.
       | inr earlier ↦ (up b).1 (up_trans es b e n (earlier.each e l) ((up e).0 there))
     ])
     ph.before (All-contains_itself ph.before)
+
+pub those_had : (es : List Event) (n : ℕ) (front : List Use) (u : Use) (rows : List Row) (known : Numbers) → AreHistories es n front rows
+    → IsUpToIn es n known → HasThose (phases_at rows u.cell) u.mode known
+those_had es n front u rows known h up =
+    let ph = phases_at rows u.cell in
+    record {
+      by_tips = tips_had es n (if conflicts ph.mode u.mode then ph.tips else ph.tips_before) (behind_of ph u.mode) known up
+          (by_case (λ b. (i : ℕ) → Contains (if b then ph.last else ph.before) i → IsUpToTip es (if b then ph.tips else ph.tips_before) i)
+          (h u.cell).tips (h u.cell).tips_before (conflicts ph.mode u.mode));
+      by_one = before_had es n front u rows known h up;
+    }
 
 pub behind_more : (es : List Event) (n : ℕ) (front : List Use) (u : Use) (rows : List Row) (known : Numbers) → AreHistories es n front rows
     → IsUpToIn es n known → All (λ e. has known e ≡ true) (behind_of (phases_at rows u.cell) u.mode) → AllBehind es n known u

@@ -14,18 +14,21 @@ use Rattle.ot_sets.specs.declared.numbers.Numbers.{Numbers}
 use Rattle.ot_race.specs.declared.history.History.{History}
 use Rattle.ot_race.specs.declared.histories.Row.{Row}
 
--- the two last phases of a cell's touches: the mode of the last, its events, and those of the one before
+-- the two last phases of a cell's touches: the mode of the last, its events and its tips, and those of the one before
 pub record Phases : Type 0 where
   pub mode : Mode
   pub last : List ℕ
+  pub tips : List ℕ
   pub before : List ℕ
+  pub tips_before : List ℕ
 
 abbrev pub phases_of : History → Phases
-phases_of h = record { mode = h.mode; last = h.last.items; before = h.before.items }
+phases_of h =
+    record { mode = h.mode; last = h.last.items; tips = h.tips.items; before = h.before.items; tips_before = h.tips_before.items }
 
 -- the phases of a cell that wasn't touched
 abbrev pub untouched : Phases
-untouched = record { mode = Reads; last = []; before = [] }
+untouched = record { mode = Reads; last = []; tips = []; before = []; tips_before = [] }
 
 abbrev pub row_of : Row → List Phases
 row_of row = map phases_of row.histories.items
@@ -37,19 +40,33 @@ phases_at rows c = get_or (get_or (map row_of rows) c.array []) c.index untouche
 abbrev pub behind_of : Phases → Mode → List ℕ
 behind_of phases mode = if conflicts phases.mode mode then phases.last else phases.before
 
--- where a touch in this mode goes on with the last phase: a set that has an event of that has all of the phase before
-abbrev pub HasBefore : Phases → Mode → Numbers → Type 0
-HasBefore phases mode known =
-    conflicts phases.mode mode ≡ false → (e : ℕ) → Contains phases.last e → has known e ≡ true → All (λ b. has known b ≡ true) phases.before
+-- a set has all of those where it has all their tips; and, where a touch in this mode goes on with the last phase, where it has
+-- an event of that
+pub record HasThose (phases : Phases) (mode : Mode) (known : Numbers) : Type 0 where
+  pub by_tips : All (λ e. has known e ≡ true) (if conflicts phases.mode mode then phases.tips else phases.tips_before) →
+      All (λ e. has known e ≡ true) (behind_of phases mode)
+  pub by_one : conflicts phases.mode mode ≡ false → (e : ℕ) → Contains phases.last e → has known e ≡ true → All (λ b. has known b ≡ true) phases.before
 
--- the phases after one touch more, which is behind those
-abbrev pub touched_by : Phases → Mode → ℕ → Phases
-touched_by phases mode event =
+-- the phases after one touch more, which is behind those, with these tips of the last
+abbrev pub touched_by : Phases → Mode → ℕ → List ℕ → Phases
+touched_by phases mode event tips =
     record {
       mode = mode;
       last = if conflicts phases.mode mode then event ∷ [] else phases.last ++ event ∷ [];
+      tips = tips;
       before = if conflicts phases.mode mode then phases.last else phases.before;
+      tips_before = if conflicts phases.mode mode then phases.tips else phases.tips_before;
     }
+
+-- tips after an event that is behind the events of a set: it is one, and so are the others that aren't in the set
+pub record AreTips (old : List ℕ) (event : ℕ) (known : Numbers) (new : List ℕ) : Type 0 where
+  pub it : Contains new event
+  pub others : (e : ℕ) → Contains old e → Contains new e ⊎ (has known e ≡ true)
+
+-- the phases after one touch more
+abbrev pub IsTouched : Phases → Mode → ℕ → Numbers → Phases → Type 0
+IsTouched old mode event known new =
+    (new ≡ touched_by old mode event new.tips) × AreTips (if conflicts old.mode mode then [] else old.tips) event known new.tips
 
 -- event i touched the cell in this mode: before event n, or as one of those uses of event n that are passed
 abbrev pub Touched : List Event → ℕ → List Use → Cell → Mode → ℕ → Type 0
@@ -68,13 +85,21 @@ pub record IsEarlier (es : List Event) (phases : Phases) (i : ℕ) : Type 0 wher
   pub there : Contains phases.before one
   pub reached : IsUpTo es i one
 
+-- event i is up to one of these tips
+pub record IsUpToTip (es : List Event) (tips : List ℕ) (i : ℕ) : Type 0 where
+  pub tip : ℕ
+  pub there : Contains tips tip
+  pub reached : IsUpTo es i tip
+
 -- The phases are those of the touches so far: none of the last conflict, each of the phase before conflicts with them, and all
--- other touches are up to these.
+-- other touches are up to these; each event of a phase is up to one of its tips.
 pub record IsHistory (es : List Event) (n : ℕ) (passed : List Use) (c : Cell) (phases : Phases) : Type 0 where
   pub last : (e : ℕ) → Contains phases.last e → Touched es n passed c phases.mode e
   pub before : (e : ℕ) → Contains phases.before e → TouchedAgainst es n passed c phases.mode e
   pub all : (i : ℕ) (mode : Mode) → Touched es n passed c mode i → (Contains phases.last i × (mode ≡ phases.mode)) ⊎ IsEarlier es phases i
   pub some : (i : ℕ) (mode : Mode) → Touched es n passed c mode i → (e : ℕ) × Contains phases.last e
+  pub tips : (i : ℕ) → Contains phases.last i → IsUpToTip es phases.tips i
+  pub tips_before : (i : ℕ) → Contains phases.before i → IsUpToTip es phases.tips_before i
 
 -- so for all cells
 abbrev pub AreHistories : List Event → ℕ → List Use → List Row → Type 0

@@ -2,7 +2,7 @@
 ghost use Rattle.std.specs.Prelude.{◌≡◌, ◌≢◌, ◌<◌, OnOk, length, get_or, [], ℕ};
 ghost use Rattle.ot_model.specs.declared.expr.Cell.{Cell};
 ghost use Rattle.ot_race.specs.Missing.{IsMissing};
-ghost use Rattle.ot_race.specs.Histories.{row_of, phases_at, behind_of, HasBefore, touched_by, untouched};
+ghost use Rattle.ot_race.specs.Histories.{row_of, phases_at, behind_of, HasThose, IsTouched, untouched};
 
 use crate::history::History;
 use ot_model::{Cell, Mode};
@@ -33,7 +33,7 @@ impl Histories {
 
     /// An earlier event that touched the cell, conflicts with this mode and isn't in the set.
     pub(crate) fn racing(&self, cell: Cell, mode: Mode, known: &Numbers) -> Option<u32>
-        requires { HasBefore (phases_at self.now.rows.items cell) mode known.now }
+        requires { HasThose (phases_at self.now.rows.items cell) mode known.now }
         ensures { IsMissing (behind_of (phases_at self.now.rows.items cell) mode) known.now result }
     {
         let row = self.rows.get(cell.array as usize)?;
@@ -41,19 +41,20 @@ impl Histories {
         history.racing(mode, known)
     }
 
-    /// A touch by an event that comes behind all that it conflicts with.
+    /// A touch by an event that comes behind all that it conflicts with, and behind these.
     pub(crate) fn add(
         &mut self,
         alloc: Global,
         cell: Cell,
         mode: Mode,
         event: u32,
+        known: &Numbers,
     ) -> Result<(), AllocError>
-        ensures there { OnOk result (phases_at self.new.rows.items cell ≡ touched_by (phases_at self.old.rows.items cell) mode event) }
+        ensures there { OnOk result (IsTouched (phases_at self.old.rows.items cell) mode event known.now (phases_at self.new.rows.items cell)) }
         ensures others { OnOk result ((c : Cell) → c ≢ cell → phases_at self.new.rows.items c ≡ phases_at self.old.rows.items c) }
     {
         self.reach(alloc, cell.array)?;
-        self.rows[cell.array as usize].add(alloc, cell.index, mode, event)
+        self.rows[cell.array as usize].add(alloc, cell.index, mode, event, known)
     }
 
     /// Makes a row for the array.
@@ -71,12 +72,19 @@ impl Histories {
 }
 
 impl Row {
-    fn add(&mut self, alloc: Global, index: u32, mode: Mode, event: u32) -> Result<(), AllocError>
-        ensures there { OnOk result (get_or (row_of self.new) index untouched ≡ touched_by (get_or (row_of self.old) index untouched) mode event) }
+    fn add(
+        &mut self,
+        alloc: Global,
+        index: u32,
+        mode: Mode,
+        event: u32,
+        known: &Numbers,
+    ) -> Result<(), AllocError>
+        ensures there { OnOk result (IsTouched (get_or (row_of self.old) index untouched) mode event known.now (get_or (row_of self.new) index untouched)) }
         ensures others { OnOk result ((i : ℕ) → i ≢ index → get_or (row_of self.new) i untouched ≡ get_or (row_of self.old) i untouched) }
     {
         self.reach(alloc, index)?;
-        self.histories[index as usize].add(mode, event)
+        self.histories[index as usize].add(mode, event, known)
     }
 
     /// Makes a history for the cell.

@@ -32,7 +32,7 @@ pub(crate) fn touch(
         if let Some(earlier) = histories.racing(used.cell, used.mode, known) {
             return Ok(Some((used.cell, earlier)));
         }
-        histories.add(alloc, used.cell, used.mode, number)?;
+        histories.add(alloc, used.cell, used.mode, number, known)?;
     }
     Ok(None)
 }

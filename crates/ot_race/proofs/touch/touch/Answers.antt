@@ -8,7 +8,7 @@ use Rattle.ot_race.specs.Histories.{AreHistories, AllBehind}
 use Rattle.ot_race.specs.Races.{IsUsed}
 use Rattle.ot_race.specs.View.{event_of, events_in}
 use Rattle.ot_race.proofs.PlaceLemmas.{place_map, place_read}
-use Rattle.ot_race.proofs.HistoryLemmas.{before_had, histories_more, behind_more, race_found, no_race, next_histories}
+use Rattle.ot_race.proofs.HistoryLemmas.{those_had, histories_more, behind_more, race_found, no_race, next_histories}
 use Rattle.ot_race.proofs.touch.touch.Goals as goal
 
 abbrev some_use : Use
@@ -18,7 +18,7 @@ pub racing-requires : goal.racing-requires
 racing-requires c =
     let uses = c.as_slice-uses.result.now in
     let i = c.loop-used.used-index in
-    before_had (events_in c.args.events.now) c.args.number (take i uses) (get_or uses i some_use) c.loop-used.histories.rows.items c.args.known.now
+    those_had (events_in c.args.events.now) c.args.number (take i uses) (get_or uses i some_use) c.loop-used.histories.rows.items c.args.known.now
     c.loop-used.invariant.histories c.requires.known
 
 pub loop-used-preserved : goal.loop-used-preserved

@@ -1,8 +1,8 @@
-use Rattle.std.proofs.Common.{◌≡◌, ◌≢◌, ◌∙◌, List, [], get_or, map, set, sym, ap, inl, inr}
+use Rattle.std.proofs.Common.{◌≡◌, ◌≢◌, ◌∙◌, List, [], get_or, map, set, sym, ap, subst, inl, inr}
 use Rattle.std.proofs.lemmas.Bool.{cases_eq}
 use Rattle.std.proofs.lemmas.Result.{on_ok_weaker}
 use Rattle.ot_model.proofs.CellsLemmas as cells
-use Rattle.ot_race.specs.Histories.{Phases, phases_at, row_of, untouched, touched_by}
+use Rattle.ot_race.specs.Histories.{Phases, phases_at, row_of, untouched, IsTouched}
 use Rattle.ot_race.proofs.PlaceLemmas.{read_at, set_here, set_other, place_read}
 use Rattle.ot_race.proofs.histories.Histories.add.Goals as goal
 
@@ -18,8 +18,9 @@ returns-clause-there c =
     ∙ c.in_ok-reach.ensures.same cell in
     on_ok_weaker c.add.result
     (λ e.
-    ap (λ (r : List Phases). get_or r cell.index untouched) (set_here row_of rows cell.array c.add.new.self [] there)
-    ∙ e ∙ ap (λ (ph : Phases). touched_by ph c.args.mode c.args.event) before) c.add.ensures.there
+    subst (λ (ph : Phases). IsTouched ph c.args.mode c.args.event c.args.known.now (phases_at (set rows cell.array c.add.new.self) cell)) before
+    (subst (IsTouched (get_or (row_of row) cell.index untouched) c.args.mode c.args.event c.args.known.now)
+    (sym (ap (λ (r : List Phases). get_or r cell.index untouched) (set_here row_of rows cell.array c.add.new.self [] there))) e)) c.add.ensures.there
 
 pub returns-clause-others : goal.returns-clause-others
 returns-clause-others c =

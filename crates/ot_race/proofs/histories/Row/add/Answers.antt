@@ -1,6 +1,6 @@
-use Rattle.std.proofs.Common.{◌≡◌, ◌∙◌, get_or, sym, ap}
+use Rattle.std.proofs.Common.{◌≡◌, ◌∙◌, get_or, map, set, sym, subst}
 use Rattle.std.proofs.lemmas.Result.{on_ok_weaker}
-use Rattle.ot_race.specs.Histories.{Phases, phases_of, row_of, untouched, touched_by}
+use Rattle.ot_race.specs.Histories.{phases_of, row_of, untouched, IsTouched}
 use Rattle.ot_race.proofs.PlaceLemmas.{read_at, set_here, set_other, place_read}
 use Rattle.ot_race.proofs.histories.Row.add.Goals as goal
 
@@ -13,7 +13,10 @@ returns-clause-there c =
     sym (read_at phases_of items i c.index_mut.result.now untouched (place_read items i c.index_mut.result.now there c.index_mut.ensures.value))
     ∙ c.in_ok-reach.ensures.same i in
     on_ok_weaker c.add.result
-    (λ e. set_here phases_of items i c.add.new.self untouched there ∙ e ∙ ap (λ (ph : Phases). touched_by ph c.args.mode c.args.event) before) c.add.ensures
+    (λ e.
+    subst (λ ph. IsTouched ph c.args.mode c.args.event c.args.known.now (get_or (map phases_of (set items i c.add.new.self)) i untouched)) before
+    (subst (IsTouched (phases_of c.index_mut.result.now) c.args.mode c.args.event c.args.known.now)
+    (sym (set_here phases_of items i c.add.new.self untouched there)) e)) c.add.ensures
 
 pub returns-clause-others : goal.returns-clause-others
 returns-clause-others c =
