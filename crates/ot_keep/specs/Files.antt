@@ -138,4 +138,4 @@ reply_by (v.Listed arrays) = Listed (arrays_of arrays.items)
 reply_by (v.Cells cells) = Cells cells.items
 
 abbrev pub sized_by : ArrayShape → List ℕ × ℕ
-sized_by array = (string_bytes array.name, array.len)
+sized_by a = (string_bytes a.name, a.len)
