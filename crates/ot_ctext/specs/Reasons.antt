@@ -64,7 +64,7 @@ name_reason _ = codes "this function isn't judged here"
 
 -- why a directive has none
 abbrev pub directive_reason : Reason → List ℕ
-directive_reason why.Combined = codes "an open group combines over this, and the task has no copy of it"
+directive_reason why.Combined = codes "an open group combines over this: a task may only fold into its own copy of it"
 directive_reason why.OwnCopy = codes "a task's copy is only folded into, by its operation"
 directive_reason why.NoGroup = codes "no open group combines over this by the operation"
 directive_reason why.Operations = codes "a group combines by one operation"

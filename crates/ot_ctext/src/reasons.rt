@@ -116,7 +116,8 @@ fn directive_reason(reason: Reason) -> &'static str
     ensures { result.now ≡ meant.directive_reason reason }
 {
     match reason {
-        Reason::Combined => "an open group combines over this, and the task has no copy of it",
+        Reason::Combined =>
+            "an open group combines over this: a task may only fold into its own copy of it",
         Reason::OwnCopy => "a task's copy is only folded into, by its operation",
         Reason::NoGroup => "no open group combines over this by the operation",
         Reason::Operations => "a group combines by one operation",
