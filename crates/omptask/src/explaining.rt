@@ -13,7 +13,8 @@ struct Explainer {
 
 impl Remarker for Explainer {
     ghost use Rattle.std.specs.Prelude.{option_and_then};
-    ghost use Rattle.ot_explain.specs.Explaining.{AreOn, code_in};
+    ghost use Rattle.ot_explain.specs.Explaining.{AreOn};
+    ghost use Rattle.ot_book.specs.Answers.{code_in};
     ghost use Rattle.ot_mirror.specs.Mirrors.{told_in};
 
     ghost says = { λ reply text. AreOn (option_and_then code_in (told_in reply)) text };

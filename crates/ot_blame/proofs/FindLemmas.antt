@@ -12,7 +12,8 @@ use Rattle.ot_check.specs.Discipline.{Children, anyone, nobody, nothing_open, th
 use Rattle.ot_check.specs.declared.fault.Offence.{Offence}
 use Rattle.ot_check.specs.declared.fault.Offence.TheVariants.{ConflictsWithChild, EndsWithChildren}
 use Rattle.ot_check.proofs.Cited.{or_true, true_or, or_right, or_false, and_left, and_right, any-map, Meets, MeetsInside, meets-on_path, meets-in_tasks}
-use Rattle.ot_blame.specs.Races.{uses_of, Pending, only, carried, carried_one, met, met_one, met_inside, inside_of, IsSpared}
+use Rattle.ot_blame.specs.Races.{uses_of}
+use Rattle.ot_blame.specs.Walk.{Pending, only, carried, carried_one, met, met_one, met_inside, inside_of, IsSpared}
 use Rattle.ot_blame.proofs.FollowLemmas.{here-is, here-not, met-here, met-past, met-first}
 
 -- ---- places

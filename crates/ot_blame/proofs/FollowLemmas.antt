@@ -9,7 +9,7 @@ use Rattle.ot_check.proofs.Cited.{not_true}
 use Rattle.ot_blame.specs.declared.walk.Search.{Search}
 use Rattle.ot_blame.specs.declared.walk.Arrived.{Arrived}
 use Rattle.ot_blame.specs.declared.walk.Behind.{Behind}
-use Rattle.ot_blame.specs.Races.{Pending, pending_of, Declares, only, carried, carried_one, met, met_one, met_inside, Follows, FollowsOne, FollowsInside}
+use Rattle.ot_blame.specs.Walk.{Pending, pending_of, Declares, only, carried, carried_one, met, met_one, met_inside, Follows, FollowsOne, FollowsInside}
 
 -- ---- the choices of the code
 

@@ -14,7 +14,8 @@ use Rattle.ot_model.specs.declared.stmt.Use.{Use}
 use Rattle.ot_model.proofs.CellsLemmas as model
 use Rattle.ot_check.specs.Offences.{use_as, clashes}
 use Rattle.ot_check.proofs.Cited.{and_true, and_left, and_right, and_false, and_one, none_any, any-same, any-more, any-map, same_is, same_itself, section-at}
-use Rattle.ot_blame.specs.Races.{uses_of, conflicts_at, is_against}
+use Rattle.ot_blame.specs.Races.{uses_of, conflicts_at}
+use Rattle.ot_blame.specs.Walk.{is_against}
 
 -- ---- truth values and lists
 

@@ -9,7 +9,8 @@ use Rattle.ot_check.specs.Offences.{Create, Await, Enter, Leave, Step, At, touch
 use Rattle.ot_check.specs.Discipline.{through}
 use Rattle.ot_check.proofs.Cited.{and_true, and_left, and_right, true_not, not_true, false_or, or_none, IsClosed, closed_of, within-closed, awaited-append, touched-balanced, touched-awaited, passes_one-closed, some_path, some_path_one, through-to}
 use Rattle.ot_blame.specs.declared.child.Child.{Child}
-use Rattle.ot_blame.specs.Races.{IsPending, StandsAt, Somewhere, InTask, InTaskOne, IsAt, Pending, pending_of, Declares, Carried, Carries, Reaches, Comes, Arrives, ArrivesOne}
+use Rattle.ot_blame.specs.Races.{IsPending, StandsAt, Somewhere, InTask, InTaskOne, IsAt}
+use Rattle.ot_blame.specs.Walk.{Pending, pending_of, Declares, Carried, Carries, Reaches, Comes, Arrives, ArrivesOne}
 
 -- ---- who stays pending
 

@@ -4,7 +4,8 @@ ghost use Rattle.ot_model.specs.View.{stmt_of, stmts_of};
 ghost use Rattle.ot_model.specs.Tree.{size};
 ghost use Rattle.ot_check.specs.Offences.{Step, Passes, Offends};
 ghost use Rattle.ot_check.specs.declared.fault.Offence.TheVariants.{EndsWithChildren};
-ghost use Rattle.ot_blame.specs.Races.{IsPending, LeavesChild, pending_of, carried, inside_of};
+ghost use Rattle.ot_blame.specs.Races.{IsPending, LeavesChild};
+ghost use Rattle.ot_blame.specs.Walk.{pending_of, carried, inside_of};
 
 use crate::child::Child;
 use crate::pending::tasks_pending;

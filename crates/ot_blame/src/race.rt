@@ -5,7 +5,8 @@ ghost use Rattle.ot_model.specs.View.{stmt_of, stmts_of};
 ghost use Rattle.ot_model.specs.Tree.{size, size_one};
 ghost use Rattle.ot_check.specs.Offences.{Offends, clashes};
 ghost use Rattle.ot_check.specs.declared.fault.Offence.TheVariants.{ConflictsWithChild};
-ghost use Rattle.ot_blame.specs.Races.{IsAt, Races, conflicts_at, uses_of, Pending, met, IsSpared};
+ghost use Rattle.ot_blame.specs.Races.{IsAt, Races, conflicts_at, uses_of};
+ghost use Rattle.ot_blame.specs.Walk.{Pending, met, IsSpared};
 
 use crate::child::Child;
 use crate::pending::tasks_pending;

@@ -6,7 +6,8 @@ ghost use Rattle.ot_model.specs.Tree.{cells_of, cells_named};
 ghost use Rattle.ot_model.specs.Cells.{same_cell};
 ghost use Rattle.ot_model.specs.declared.stmt.Mode.TheVariants.{Reads};
 ghost use Rattle.ot_check.specs.Offences.{use_as};
-ghost use Rattle.ot_blame.specs.Races.{uses_of, is_against};
+ghost use Rattle.ot_blame.specs.Races.{uses_of};
+ghost use Rattle.ot_blame.specs.Walk.{is_against};
 
 use ot_model::{Cell, Expr, Mode, Section, Stmt, Use};
 

@@ -7,7 +7,7 @@ ghost use Rattle.ot_model.specs.declared.fold.Fold.{Fold};
 ghost use Rattle.ot_check.specs.Offences.{awaits, PassesOne, Passes};
 ghost use Rattle.ot_check.specs.Discipline.{through};
 ghost use Rattle.ot_model.specs.View.{stmt_of, stmts_of};
-ghost use Rattle.ot_blame.specs.Races.{pending_of, only, carried, met, Carries, Arrives, ArrivesOne, Follows, FollowsAll, FollowsOne, FollowsInside};
+ghost use Rattle.ot_blame.specs.Walk.{pending_of, only, carried, met, Carries, Arrives, ArrivesOne, Follows, FollowsAll, FollowsOne, FollowsInside};
 
 use crate::child::Child;
 use crate::through::{awaits, through};

@@ -14,7 +14,8 @@ use Rattle.ot_book.specs.Books.{Register, next_step, IsOpenFor, IsRight}
 use Rattle.ot_book.specs.BookView.{register_of, HasRoomForReply, IsBook}
 use Rattle.ot_book.specs.declared.book.Pending.{Pending}
 use Rattle.ot_book.specs.declared.book.Book.TheInside.{Inside}
-use Rattle.ot_book.specs.Answers.{Reading, IsReading, Step, Now, Runs, changed, fetched, judged, started, asked, parsed, value_of, step_of, is_checkpoint}
+use Rattle.ot_book.specs.Readings.{Reading, IsReading}
+use Rattle.ot_book.specs.Answers.{Step, Now, Runs, changed, fetched, judged, started, asked, parsed, value_of, step_of, is_checkpoint}
 use Rattle.ot_book.proofs.BookLemmas.{runs-other}
 use Rattle.ot_book.proofs.CloseLemmas.{numbers-from}
 use Rattle.serde_json.specs.Data.{Data}

@@ -4,7 +4,7 @@ use Rattle.std.specs.Prelude.{sum_by}
 use Rattle.std.proofs.lemmas.Bool.{cases_lt}
 use Rattle.std.proofs.lemmas.List.{length-take-le, take_all}
 use Rattle.std.proofs.lemmas.List.Sums.{sum_by-cons}
-use Rattle.ot_book.specs.Answers.{Reading}
+use Rattle.ot_book.specs.Readings.{Reading}
 use Rattle.ot_book.specs.Shelves.{statements_of, FitOn, Keeps}
 
 -- a program has at most 20,000 statements

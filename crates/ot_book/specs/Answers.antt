@@ -1,10 +1,9 @@
 -- What a tenant is told, and how it is written.
-use Rattle.std.specs.Prelude.{◌≡◌, ℕ, ◌+◌, List, ◌++◌, [], ◌∷◌, map, slice_range, slice_get, unwrap_or, Bool, true, false, if◌then◌else◌, Option, Some, None, option_and_then, Result, Ok, Err, codes}
+use Rattle.std.specs.Prelude.{◌≡◌, [], ℕ, ◌+◌, List, ◌++◌, ◌∷◌, map, slice_range, slice_get, unwrap_or, Bool, true, false, if◌then◌else◌, Option, Some, None, option_and_then, Result, Ok, Err, codes}
 use Rattle.std.specs.Str.{is_utf8}
 use Rattle.serde_json.specs.Data.{Data, number, string, array, unsigned, no_items, item}
 use Rattle.serde_json.specs.Read.{read}
-use Rattle.ot_model.specs.Programs.{Expanded, expanded_of, IsNamedIn, array_lengths}
-use Rattle.ot_model.specs.Programs as shapes
+use Rattle.ot_model.specs.Programs.{Expanded}
 use Rattle.ot_model.specs.Serial.{serial_run}
 use Rattle.ot_model.specs.declared.expr.Section.{Section}
 use Rattle.ot_program.specs.Programs.{program_of}
@@ -20,7 +19,6 @@ use Rattle.ot_store.specs.declared.limits.Limits.{Limits}
 use Rattle.ot_book.specs.Requests as r
 use Rattle.serde_json.specs.View.{items_of}
 use Rattle.serde_json.specs.Written.{compact_text}
-use Rattle.ot_check.specs.declared.checked.Checked.{Checked}
 
 -- what a tenant is told of one request; no request's number is in it
 pub data Told : Type 0 where
@@ -35,14 +33,15 @@ pub data Told : Type 0 where
 
 -- whether it was told for want of memory
 abbrev pub is_lost : Told → Bool
-is_lost Accepted = false
-is_lost (Cells values) = false
-is_lost (Arrays arrays) = false
-is_lost (Used units) = false
-is_lost (Done tasks units shows) = false
-is_lost (Refused code) = false
-is_lost (Offends code place) = false
 is_lost Lost = true
+is_lost told = false
+
+-- the code of a refusal
+abbrev pub code_in : Told → Option ℕ
+code_in (Refused code) = Some code
+code_in (Offends code place) = Some code
+code_in Lost = Some 508
+code_in told = None
 
 abbrev pub nat : ℕ → Data
 nat n = number (unsigned n)
@@ -90,6 +89,11 @@ opening arrays = record { arrays = arrays; next = 1; used = 0 }
 pub data Step : Type 0 where
   Now : Told → List Named → Step
   Runs : Expanded → Step
+
+-- whether a program would be run
+abbrev pub is_run : Step → Bool
+is_run (Now told arrays) = false
+is_run (Runs program) = true
 
 abbrev pub changed : List Named → Result (List Named) StoreRefusal → Step
 changed arrays (Ok new) = Now Accepted new
@@ -198,20 +202,3 @@ replies limits s lines = numbered s.next (answers limits s lines).0
 abbrev pub RepliesGoOn : Type 0
 RepliesGoOn = (limits : Limits) (s : State) (xs ys : List (List ℕ × Bool)) →
     replies limits s (xs ++ ys) ≡ replies limits s xs ++ replies limits (answers limits s xs).1 ys
-
--- What is known of a line that was read once.
-
--- over arrays of this shape the line runs this program, whatever their cells hold
-abbrev pub RunsOver : shapes.Arrays → List ℕ → Expanded → Type 0
-RunsOver shape line program = (limits : Limits) (arrays : List Named) (used : ℕ) → shape_in limits arrays ≡ shape → ∥ step_of limits arrays used line ≡ Runs program ∥₁
-
--- a line, what it could name, and the program that it was read as
-pub record Reading : Type 0 where
-  pub line : List ℕ
-  pub shape : shapes.Arrays
-  pub checked : Checked
-
--- it is read as that program again wherever the shape is the same
-pub record IsReading (r : Reading) : Type 0 where
-  pub runs : RunsOver r.shape r.line (expanded_of r.checked.program)
-  pub named : IsNamedIn (array_lengths r.shape) (expanded_of r.checked.program)

@@ -53,6 +53,10 @@ IsRight b = answers b.limits (start_of b) (lines_in b.log) ≡ (map (λ e. e.1) 
 abbrev pub reply_at : Register → ℕ → Option (ℕ × Told)
 reply_at b place = option_map (λ e. (number_at b place, e.1)) (slice_get b.log place)
 
+-- what was told last
+abbrev pub last_told : Register → Option Told
+last_told book = option_map (λ reply. reply.1) (reply_at book (length book.log - 1))
+
 -- a new book
 abbrev pub new_register : List ℕ → Limits → List Named → Register
 new_register name limits arrays =

@@ -10,3 +10,4 @@ pub mod Books
 pub mod Considering
 pub mod BookView
 pub mod Room
+pub mod Readings

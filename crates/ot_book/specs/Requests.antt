@@ -1,6 +1,6 @@
 -- The requests, as JSON.
 use Rattle.std.specs.Prelude.{ℕ, ◌<◌, ◌^◌, ◌&&◌, Bool, true, false, List, [], ◌∷◌, length, ◌==◌, nat_le, nat_lt, if◌then◌else◌, Option, Some, None, option_and_then, option_map, codes}
-use Rattle.serde_json.specs.Data.{Data, null, boolean, number, string, array, object, Items, no_items, item}
+use Rattle.serde_json.specs.Data.{Data, array, Items, no_items, item}
 use Rattle.serde_json.specs.Find.{as_str, as_number, as_u64, as_array}
 use Rattle.ot_program.specs.Meanings.{is_name, is_word}
 
@@ -17,13 +17,7 @@ pub data Request : Type 0 where
 -- an array has at least one cell
 abbrev pub IsProper : Request → Type 0
 IsProper (New name len) = 0 < len
-IsProper (Free name) = Unit {0}
-IsProper (Put name start values) = Unit {0}
-IsProper (Get name start len) = Unit {0}
-IsProper Arrays = Unit {0}
-IsProper Used = Unit {0}
-IsProper Checkpoint = Unit {0}
-IsProper (Run text) = Unit {0}
+IsProper request = Unit {0}
 
 abbrev pub name_in : Data → Option (List ℕ)
 name_in d = option_and_then (λ s. if is_name s then Some s else None) (as_str d)
@@ -76,21 +70,10 @@ form_of (item t (item a (item b (item c (item d ds))))) = None
 
 -- what a value asks, where it asks anything
 abbrev pub request_of : Data → Option Request
-request_of null = None
-request_of (boolean b) = None
-request_of (number n) = None
-request_of (string s) = None
 request_of (array ds) = form_of ds
-request_of (object ms) = None
+request_of d = None
 
 -- it asks for a checkpoint
 abbrev pub asks_checkpoint : Option Request → Bool
-asks_checkpoint None = false
-asks_checkpoint (Some (New name len)) = false
-asks_checkpoint (Some (Free name)) = false
-asks_checkpoint (Some (Put name start values)) = false
-asks_checkpoint (Some (Get name start len)) = false
-asks_checkpoint (Some Arrays) = false
-asks_checkpoint (Some Used) = false
 asks_checkpoint (Some Checkpoint) = true
-asks_checkpoint (Some (Run text)) = false
+asks_checkpoint request = false

@@ -1,6 +1,6 @@
 -- The programs that a book keeps, the one that was used last first.
 use Rattle.std.specs.Prelude.{◌≡◌, ℕ, ◌+◌, ◌≤◌, ◌⊎◌, List, ◌∷◌, length, take, remove, slice_get, Some, sum_by}
-use Rattle.ot_book.specs.Answers.{Reading}
+use Rattle.ot_book.specs.Readings.{Reading}
 
 -- the statements of a reading's program
 abbrev pub statements_of : Reading → ℕ

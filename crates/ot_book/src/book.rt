@@ -1,7 +1,8 @@
 ghost use Rattle.std.specs.Prelude.{◌≡◌, ◌+◌, ◌≤◌, map, length, vec_len, slice_range, All, ◌↔◌, ◌<◌, ◌^◌, true, false, IfOk, OnOk, OnErr, IsTrue, IsSome, option_map, Some, IfSome};
 ghost use Rattle.ot_model.specs.Cells.{lengths};
 ghost use Rattle.ot_model.specs.Names.{FitsShape};
-ghost use Rattle.ot_book.specs.Answers.{shown, value_of, is_checkpoint, IsReading};
+ghost use Rattle.ot_book.specs.Answers.{shown, value_of, is_checkpoint};
+ghost use Rattle.ot_book.specs.Readings.{IsReading};
 
 use crate::kept::Kept;
 use crate::reply::Reply;

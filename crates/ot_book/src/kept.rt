@@ -18,7 +18,7 @@ pub(crate) struct Kept {
 impl Model for Kept {
     ghost use Rattle.std.specs.Coded.{codes};
     ghost use Rattle.ot_check.specs.contracts.checked.Checked as e;
-    ghost use Rattle.ot_book.specs.Answers.{Reading, IsReading};
+    ghost use Rattle.ot_book.specs.Readings.{Reading, IsReading};
 
     ghost Value = { Reading };
 
@@ -33,7 +33,7 @@ impl Model for Kept {
 
 impl Kept {
     ghost use Rattle.std.specs.Arc.{arc_value};
-    ghost use Rattle.ot_book.specs.Answers.{IsReading};
+    ghost use Rattle.ot_book.specs.Readings.{IsReading};
 
     /// What was read. It takes no memory.
     pub(crate) fn new(line: Vec<u8>, shape: Shape, checked: Arc<Checked>) -> Kept

@@ -83,7 +83,8 @@ fn write_front(word: &str, numbers: &[u64], out: &mut Writer) -> Result<(), Allo
     Ok(())
 }
 
-fn write_numbers(numbers: &[u64], out: &mut Writer) -> Result<(), AllocError>
+/// Writes numbers as an array of JSON.
+pub fn write_numbers(numbers: &[u64], out: &mut Writer) -> Result<(), AllocError>
     ensures tokens { OnOk result (out.new.tokens ≡ out.old.tokens ++ tokens_of (nats numbers.now)) }
     ensures before { out.new.before ≡ out.old.before }
 {

@@ -156,7 +156,7 @@ fn get_request<'a>(name: &'a Value, start: &Value, len: &Value) -> Option<Reques
 }
 
 /// A name of an array.
-fn read_name(value: &Value) -> Option<&str>
+pub fn read_name(value: &Value) -> Option<&str>
     ensures { option_map (λ name. name.now) result ≡ name_in (view value.now) }
 {
     match value {
@@ -166,7 +166,7 @@ fn read_name(value: &Value) -> Option<&str>
 }
 
 /// A whole number from `low` to 2^32 - 1.
-fn read_size(value: &Value, low: u32) -> Option<u32>
+pub fn read_size(value: &Value, low: u32) -> Option<u32>
     ensures size { result ≡ size_in low (view value.now) }
     ensures low { IfSome result (λ n. low ≤ n) }
 {

@@ -25,7 +25,7 @@ impl Model for Shelf {
     ghost use Rattle.std.specs.Prelude.{List};
     ghost use Rattle.std.specs.Coded.{codes};
     ghost use Rattle.ot_check.specs.contracts.checked.Checked as e;
-    ghost use Rattle.ot_book.specs.Answers.{Reading};
+    ghost use Rattle.ot_book.specs.Readings.{Reading};
     ghost use Rattle.ot_book.specs.Shelves.{FitOn};
 
     ghost Value = { List Reading };
@@ -46,7 +46,7 @@ impl fmt::Debug for Shelf {
 
 impl Shelf {
     ghost use Rattle.std.specs.Arc.{arc_value};
-    ghost use Rattle.ot_book.specs.Answers.{Reading, IsReading};
+    ghost use Rattle.ot_book.specs.Readings.{Reading, IsReading};
 
     /// An empty one. It takes no memory.
     pub(crate) fn new(alloc: Global) -> Shelf

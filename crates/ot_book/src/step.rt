@@ -71,7 +71,7 @@ fn attempt(
 }
 
 /// The value of a line, where it is JSON in UTF-8.
-pub(crate) fn read_line(alloc: Global, line: &[u8]) -> Result<Option<Value>, AllocError>
+pub fn read_line(alloc: Global, line: &[u8]) -> Result<Option<Value>, AllocError>
     ensures { IfOk result (λ value. option_map view value ≡ value_of line.now) }
 {
     match Value::from_slice(alloc, line) {

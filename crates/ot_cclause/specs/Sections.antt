@@ -60,13 +60,13 @@ part a at x None (Cells first count) = Err (at, why.NoArray)
 part a at x (Some n) (Cells first count) = size a at first >>= λ f. size a at count >>= λ c. Ok (row a x f.0 (plain c.0))
 
 -- whether both are the same name, which means nothing by itself
-unfoldable pub is_name : Name → Name → Bool
-is_name (n.Other i) (n.Other j) = i == j
-is_name x y = false
+unfoldable pub same_name : Name → Name → Bool
+same_name (n.Other i) (n.Other j) = i == j
+same_name x y = false
 
 -- whether an item is one cell, at the place that an iterator counts
 unfoldable pub is_counted : Name → Part → Bool
-is_counted variable (Cells (Variable x) (Literal n k)) = n == 1 && is_name x variable
+is_counted variable (Cells (Variable x) (Literal n k)) = n == 1 && same_name x variable
 is_counted variable p = false
 
 -- the cells of an array that an iterator counts, each of which is an item: from a number up to another

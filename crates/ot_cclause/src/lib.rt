@@ -8,5 +8,5 @@ mod words;
 
 pub use clause::{Heading, group_operation, headed};
 pub use own::Taking;
-pub use section::no_cells;
+pub use section::{no_cells, same_name};
 pub use words::{call_fold, fold_of, is_minus, is_same, operation_word};

@@ -105,9 +105,9 @@ pub(crate) fn part(
 }
 
 /// Whether both are the same name, which means nothing by itself.
-#[tactic(auto, unfolding(crate::specs::Sections::is_name))]
-fn is_name(one: Name, two: Name) -> bool
-    ensures { result ≡ meant.is_name one two }
+#[tactic(auto, unfolding(crate::specs::Sections::same_name))]
+pub fn same_name(one: Name, two: Name) -> bool
+    ensures { result ≡ meant.same_name one two }
 {
     match (one, two) {
         (Name::Other(one), Name::Other(two)) => one == two,
@@ -121,7 +121,7 @@ fn is_counted(variable: Name, place: &Place) -> bool
     ensures { result ≡ meant.is_counted variable (part_of place.now) }
 {
     match place {
-        Place::Cells(Expr::Variable(name), Expr::Number(1, _)) => is_name(*name, variable),
+        Place::Cells(Expr::Variable(name), Expr::Number(1, _)) => same_name(*name, variable),
         _ => false,
     }
 }

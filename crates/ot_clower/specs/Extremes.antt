@@ -3,8 +3,6 @@
 use Rattle.std.specs.Prelude.{ℕ, ◌==◌, Bool, false, ◌&&◌, Option, Some, None, option_and_then, if◌then◌else◌}
 use denote.Enum.Bare.{sameb}
 use Rattle.ot_words.specs.contracts.word.IntegerType.{the_type as types}
-use Rattle.ot_words.specs.declared.word.Name.{Name}
-use Rattle.ot_words.specs.declared.word.Name.TheVariants as n
 use Rattle.ot_cread.specs.contracts.sign.Sign.{the_type as signs}
 use Rattle.ot_cread.specs.contracts.sign.Unary.{the_type as unaries}
 use Rattle.ot_cread.specs.contracts.tree.Call.{the_type as calls}
@@ -17,15 +15,11 @@ use Rattle.ot_cscope.specs.declared.scope.Sense.{Sense}
 use Rattle.ot_cscope.specs.declared.scope.Sense.TheVariants as means
 use Rattle.ot_cscope.specs.Results.{◌>>=◌}
 use Rattle.ot_cscope.specs.Scopes.{Around, sense}
+use Rattle.ot_cclause.specs.Sections.{same_name}
 use Rattle.ot_clower.specs.declared.extreme.Extreme.{Extreme}
 use Rattle.ot_clower.specs.Assignments.{Stated, aimed, cell_aimed, change, is_target}
 
 -- ---- a value that stands in two places
-
--- whether two names are one, and mean nothing by themselves
-unfoldable pub same_name : Name → Name → Bool
-same_name (n.Other i) (n.Other j) = i == j
-same_name x y = false
 
 -- whether two values are the same, part by part
 unfoldable pub same_value : E → E → Bool

@@ -9,10 +9,10 @@ ghost use Rattle.ot_clower.specs.Extremes.{kept_of};
 ghost use Rattle.ot_clower.specs.Extremes as meant;
 
 use crate::assignment::{aimed, cell_aimed, change, is_target};
+use ot_cclause::same_name;
 use ot_cread::{Expr, Operation, Sign};
 use ot_cscope::{CFault, Scope, Sense};
 use ot_cstatement::{Stmt, Target};
-use ot_words::Name;
 use serde_json::Value;
 use std::alloc::Global;
 
@@ -22,17 +22,6 @@ pub(crate) struct Extreme<'a> {
     pub(crate) target: &'a Target,
     pub(crate) operation: Operation,
     pub(crate) expr: &'a Expr,
-}
-
-/// Whether two names are one, and mean nothing by themselves.
-#[tactic(auto, unfolding(crate::specs::Extremes::same_name))]
-fn same_name(one: Name, two: Name) -> bool
-    ensures { result ≡ meant.same_name one two }
-{
-    match (one, two) {
-        (Name::Other(one), Name::Other(two)) => one == two,
-        _ => false,
-    }
 }
 
 /// Whether two values are the same, part by part.

@@ -15,7 +15,8 @@ use Rattle.ot_job.proofs.DealingsLemmas.{starts-fresh, claimed-gives, settles-pa
 use Rattle.ot_core.specs.Accounts.{Account, answered, IsUnopened, with_reply}
 use Rattle.ot_core.specs.Floors.{job_of, units_of}
 use Rattle.ot_core.specs.Scenes.{Scene, IsScene, IsHeld, hand_of, out_at, seat_of, moved, handed, OpensFor, RepliesTo, StartsFor, Finishes, CanOpen, CannotReply, Steps}
-use Rattle.ot_core.specs.Draining.{toil, toil_of, toil_by, unopened, one_if, free_hand, opens_of, closed_by, over_of, over_by, claimable_of, moves_at, full_hand, sum_below, count_of, IsMove, MayStart, MayFinish, IsLively, LivelyAt, AllAnswered}
+use Rattle.ot_core.specs.Toil.{toil, toil_of, toil_by, unopened, one_if, free_hand, opens_of, closed_by, moves_at, full_hand, sum_below, count_of, IsLively, LivelyAt}
+use Rattle.ot_core.specs.Draining.{over_of, over_by, claimable_of, IsMove, MayStart, MayFinish, AllAnswered}
 use Rattle.ot_core.specs.declared.held.Held.{Held}
 use Rattle.ot_core.specs.declared.event.Event.{Event}
 use Rattle.ot_core.specs.declared.event.Event.TheVariants as event

@@ -1,8 +1,6 @@
 -- How much is left to do in a world.
-use Rattle.std.specs.Prelude.{◌≡◌, ◌<◌, ◌+◌, ◌*◌, ℕ, zero, suc, nat_lt, if◌then◌else◌, List, length, All, Option, Some, None, IsSome, slice_get, ◌-◌}
-use Rattle.std.specs.List.{sum_by}
-use Rattle.ot_check.specs.Jobs.{Spec}
-use Rattle.ot_job.specs.Dealings.{Live, claimable_in, NoneOut, state_of, weight_of, out_of}
+use Rattle.std.specs.Prelude.{◌≡◌, ◌<◌, ℕ, List, length, All, Option, Some, None, IsSome, slice_get}
+use Rattle.ot_job.specs.Dealings.{Live, claimable_in, state_of}
 use Rattle.ot_job.specs.declared.state.State.{State}
 use Rattle.ot_job.specs.declared.state.State.TheVariants.{Working, Failing, Ended, Failed}
 use Rattle.ot_core.specs.Accounts.{Account, answered}
@@ -12,45 +10,9 @@ use Rattle.ot_core.specs.declared.held.Held.{Held}
 use Rattle.ot_core.specs.declared.event.Event.{Event}
 use Rattle.ot_core.specs.declared.event.Event.TheVariants as event
 
-abbrev pub toil_by : State → Live → ℕ
-toil_by Working j = 2 + 2 * weight_of j
-toil_by Failing j = 1 + 2 * out_of j
-toil_by Ended j = 1
-toil_by Failed j = 1
-
--- of a job: its weight while it works, then its pieces that are out
-abbrev pub toil_of : Option Live → ℕ
-toil_of None = 0
-toil_of (Some j) = toil_by (state_of j) j
-
-abbrev pub one_if : {X : Type 0} → Option X → ℕ
-one_if None = 0
-one_if (Some x) = 1
-
--- the lines that no request was opened for
-abbrev pub unopened : Account → ℕ
-unopened a = length a.asked - (answered a + one_if a.spec)
-
-abbrev pub free_hand : Option Held → ℕ
-free_hand None = 1
-free_hand (Some h) = 0
-
--- a line is worth more than any job
-abbrev pub toil : Scene → ℕ
-toil s = 200000 * sum_by unopened s.accounts + sum_by toil_of s.floor.jobs + sum_by free_hand s.hands
-
 -- Which events drain may take, and how many there are.
 
 -- ---- how many there are
-
--- one where the next line may be opened
-abbrev pub closed_by : Option Spec → ℕ
-closed_by None = 1
-closed_by (Some s) = 0
-
-abbrev pub opens_of : Option Account → ℕ
-opens_of None = 0
-opens_of (Some a) = if nat_lt (answered a) (length a.asked) then closed_by a.spec else 0
 
 -- one where the job is over
 abbrev pub over_by : State → ℕ
@@ -66,23 +28,6 @@ over_of (Some j) = over_by (state_of j)
 abbrev pub claimable_of : Option Live → ℕ
 claimable_of None = 0
 claimable_of (Some j) = length (claimable_in j)
-
--- of a tenant: its next line, its job's end, and each claimable task for each free hand
-abbrev pub moves_at : Scene → ℕ → ℕ
-moves_at s t = opens_of (slice_get s.accounts t) + over_of (job_of s.floor.jobs t) + sum_by free_hand s.hands * claimable_of (job_of s.floor.jobs t)
-
-abbrev pub full_hand : Option Held → ℕ
-full_hand None = 0
-full_hand (Some h) = 1
-
--- of the numbers below n
-abbrev pub sum_below : (ℕ → ℕ) → ℕ → ℕ
-sum_below f zero = 0
-sum_below f (suc n) = sum_below f n + f n
-
--- those of all tenants, and each full hand
-abbrev pub count_of : Scene → ℕ
-count_of s = sum_below (moves_at s) (length s.accounts) + sum_by full_hand s.hands
 
 -- ---- which they are
 
@@ -107,15 +52,6 @@ IsMove s (event.Start w t pick) = MayStart s (seat_of w) t
 IsMove s (event.Finish w) = MayFinish s (seat_of w)
 IsMove s (event.Reply t) = 0 < over_of (job_of s.floor.jobs t)
 IsMove s (event.Abort t) = ⊥
-
--- a job that works with no piece out has a claimable task, and one that fails has a piece out
-pub record IsLively (j : Live) : Type 0 where
-  pub works : state_of j ≡ Working → NoneOut j → 0 < length (claimable_in j)
-  pub fails : state_of j ≡ Failing → NoneOut j → ⊥
-
-abbrev pub LivelyAt : Option Live → Type 0
-LivelyAt None = Unit {0}
-LivelyAt (Some j) = IsLively j
 
 -- ---- what drain does
 

@@ -9,3 +9,4 @@ pub mod SceneView
 pub mod Openings
 pub mod Headline
 pub mod Draining
+pub mod Toil

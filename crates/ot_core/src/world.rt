@@ -42,7 +42,8 @@ impl Model for World {
 impl World {
     ghost use Rattle.ot_core.specs.Floors.{units_of, total_of, job_of};
     ghost use Rattle.std.specs.List.{sum_by};
-    ghost use Rattle.ot_core.specs.Draining.{free_hand, Drains, DrainsPart, AllAnswered, count_of, moves_at, opens_of, full_hand, IsMove, IsFreeWorker, MayFinish, LivelyAt};
+    ghost use Rattle.ot_core.specs.Toil.{free_hand, count_of, moves_at, opens_of, full_hand, LivelyAt};
+    ghost use Rattle.ot_core.specs.Draining.{Drains, DrainsPart, AllAnswered, IsMove, IsFreeWorker, MayFinish};
 
     /// Tenants with these names, limits and arrays, who asked nothing yet.
     pub fn new(alloc: Global, openings: Vec<(String, Limits, Store)>) -> Result<World, AllocError>

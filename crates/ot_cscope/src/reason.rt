@@ -45,7 +45,7 @@ pub enum Reason {
     Quotient,
     /// What C may leave out, and reads a cell or chooses itself.
     LeftOut,
-    /// A name over which an open group combines, and of which the task has no copy of its own.
+    /// A name over which an open group combines: a task may only fold into its own copy of it.
     Combined,
     /// A task's own copy that isn't folded into by its operation.
     OwnCopy,

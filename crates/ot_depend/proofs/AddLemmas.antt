@@ -5,8 +5,8 @@ use Rattle.std.proofs.lemmas.Bool.{cases_eq, false_from_ne_true}
 use Rattle.std.proofs.lemmas.Option.{slice_get_within}
 use Rattle.std.proofs.lemmas.List.{map-append, length-map, length-append}
 use Rattle.std.proofs.lemmas.List.Sums.{sum_by_push}
-use Rattle.ot_depend.specs.Siblings.{Sibling}
-use Rattle.ot_depend.specs.Kept.{decls, IsDirect, has, times, ends_with, with_last, Kid, siblings, owes, due, IsLinked, enlisted}
+use Rattle.ot_depend.specs.Siblings.{Sibling, has, times}
+use Rattle.ot_depend.specs.Kept.{decls, IsDirect, ends_with, with_last, Kid, siblings, owes, due, IsLinked, enlisted}
 use Rattle.ot_depend.proofs.HeartLemmas.{times-none, due-none}
 use Rattle.ot_depend.proofs.ListLemmas.{slice_get-push_place, has-with_last, has-with_last-other, times-with_last, times-with_last-other}
 use Rattle.ot_depend.proofs.LinkLemmas.{grown, enlisted_back, siblings-enlisted, length-enlisted, due-enlisted-other, IsDirect-behind, IsDirect-before, no_direct}

@@ -9,7 +9,8 @@ use Rattle.std.proofs.lemmas.List.Folds.{list_any_at}
 use Rattle.std.proofs.lemmas.List.Sums.{fold_more}
 use Rattle.ot_model.proofs.CellsLemmas.{set-updated, map-updated, length-updated}
 use Rattle.ot_model.specs.Cells.{updated}
-use Rattle.ot_depend.specs.Kept.{Kid, has, woken, one_less, enlisted, enlist, waiters_of}
+use Rattle.ot_depend.specs.Kept.{Kid, woken, one_less, enlisted, enlist, waiters_of}
+use Rattle.ot_depend.specs.Siblings.{has}
 use Rattle.ot_depend.specs.Children.{kid_of, kids_of}
 use Rattle.ot_depend.specs.declared.child.Child.{Child}
 use Rattle.ot_depend.proofs.LinkLemmas.{length-enlisted}

@@ -10,8 +10,8 @@ use Rattle.ot_model.proofs.CellsLemmas.{slice_get-updated, slice_get-updated-oth
 use Rattle.ot_model.specs.Cells.{updated, same_cell}
 use Rattle.ot_model.specs.declared.expr.Cell.{Cell}
 use Rattle.ot_model.specs.declared.stmt.Use.{Use}
-use Rattle.ot_depend.specs.Siblings.{is_write, uses_cell, writes_cell}
-use Rattle.ot_depend.specs.Kept.{has, with_last, Entry, RowIs, entered}
+use Rattle.ot_depend.specs.Siblings.{is_write, uses_cell, writes_cell, has}
+use Rattle.ot_depend.specs.Kept.{with_last, Entry, RowIs, entered}
 use Rattle.ot_depend.specs.Cells.{Line, entry_at, nobody, enter, enter_all, RowsTell}
 use Rattle.ot_depend.specs.declared.cells.Spot.{Spot}
 use Rattle.ot_depend.proofs.ReadyLemmas.{one_cell, cell_itself}

@@ -10,8 +10,8 @@ use Rattle.ot_model.specs.declared.expr.Cell.{Cell}
 use Rattle.ot_model.specs.declared.stmt.Mode.{Mode}
 use Rattle.ot_model.specs.declared.stmt.Mode.TheVariants.{Reads, Writes, Folds}
 use Rattle.ot_model.specs.declared.stmt.Use.{Use}
-use Rattle.ot_depend.specs.Siblings.{Sibling, IsReady, FinishedAreReady, is_write, uses_cell, writes_cell}
-use Rattle.ot_depend.specs.Kept.{decls, IsDirect, has, times, Kid, siblings, owes, due, IsLinked}
+use Rattle.ot_depend.specs.Siblings.{Sibling, IsReady, FinishedAreReady, is_write, uses_cell, writes_cell, has, times}
+use Rattle.ot_depend.specs.Kept.{decls, IsDirect, Kid, siblings, owes, due, IsLinked}
 use Rattle.ot_depend.proofs.ReadyLemmas.{any_tested, any_found, one_cell, cell_itself}
 
 -- one of two uses is a write

@@ -8,8 +8,8 @@ use Rattle.std.proofs.lemmas.List.Sums.{sum_by_push, get_or-le-sum_by}
 use Rattle.ot_model.specs.Cells.{updated}
 use Rattle.ot_model.specs.declared.expr.Cell.{Cell}
 use Rattle.ot_model.specs.declared.stmt.Use.{Use}
-use Rattle.ot_depend.specs.Siblings.{Sibling, IsReady, created, with_finished, is_unfinished, is_unfinished_in}
-use Rattle.ot_depend.specs.Kept.{decls, IsDirect, Kid, has, times, siblings, owes, due, woken, ended, enlisted, waiters_of, WaitForAll}
+use Rattle.ot_depend.specs.Siblings.{Sibling, IsReady, created, with_finished, is_unfinished, is_unfinished_in, has, times}
+use Rattle.ot_depend.specs.Kept.{decls, IsDirect, Kid, siblings, owes, due, woken, ended, enlisted, waiters_of, WaitForAll}
 use Rattle.ot_depend.specs.Cells.{place_of, lines_of, entry_of, IsSound, IsPlaced, RowsTell, enter_all, found_all}
 use Rattle.ot_depend.specs.Groups.{count_of}
 use Rattle.ot_depend.specs.View.{IsTrueOf}

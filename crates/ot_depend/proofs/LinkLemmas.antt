@@ -9,8 +9,8 @@ use Rattle.ot_model.proofs.CellsLemmas.{map-updated}
 use Rattle.ot_model.specs.Cells.{updated}
 use Rattle.ot_model.specs.declared.expr.Cell.{Cell}
 use Rattle.ot_model.specs.declared.stmt.Use.{Use}
-use Rattle.ot_depend.specs.Siblings.{Sibling, with_finished, uses_cell}
-use Rattle.ot_depend.specs.Kept.{decls, IsDirect, has, times, ends_with, with_last, Kid, siblings, owes, due, IsLinked, one_less, woken, ended, enlist, enlisted}
+use Rattle.ot_depend.specs.Siblings.{Sibling, with_finished, uses_cell, has, times}
+use Rattle.ot_depend.specs.Kept.{decls, IsDirect, ends_with, with_last, Kid, siblings, owes, due, IsLinked, one_less, woken, ended, enlist, enlisted}
 use Rattle.ot_depend.proofs.ListLemmas.{updated_back, map-updated-by, sum_by-updated-same, sum_by-updated, with_last-twice, times-with_last, times-with_last-other, times-cons}
 
 -- ---- those that are told wait for less

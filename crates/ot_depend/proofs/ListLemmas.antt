@@ -8,7 +8,8 @@ use Rattle.std.proofs.lemmas.List.{length-append}
 use Rattle.std.proofs.lemmas.List.Folds.{list_any-append}
 use Rattle.std.proofs.lemmas.List.Sums.{sum_by-cons, sum_by-append}
 use Rattle.ot_model.specs.Cells.{updated}
-use Rattle.ot_depend.specs.Kept.{has, times, ends_with, with_last}
+use Rattle.ot_depend.specs.Siblings.{has, times}
+use Rattle.ot_depend.specs.Kept.{ends_with, with_last}
 
 -- an element of a list with one changed was there before
 pub updated_back : {A : Type 0} (f : A → A) (xs : List A) (i j : ℕ) (y : A) → slice_get (updated xs i f) j ≡ Some y → (x : A) × (slice_get xs j ≡ Some x) × (((i ≡ j) × (y ≡ f x)) ⊎ ((i ≢ j) × (y ≡ x)))

@@ -6,8 +6,8 @@ use Rattle.std.proofs.lemmas.Bool.{eqb-true, eq-eqb}
 use Rattle.std.proofs.lemmas.Option.{same_Some, none-some, slice_get-map, slice_get_within}
 use Rattle.ot_model.proofs.CellsLemmas.{map-updated, length-updated}
 use Rattle.ot_model.specs.Cells.{updated}
-use Rattle.ot_depend.specs.Siblings.{FinishedAreReady, is_ready, count_direct, waiting_for}
-use Rattle.ot_depend.specs.Kept.{has, times, Kid, siblings, owes, due, IsLinked, woken, ended, waiters_of, WaitForAll, LetsTheSame, WaitForLess}
+use Rattle.ot_depend.specs.Siblings.{FinishedAreReady, is_ready, count_direct, waiting_for, has, times, LetsTheSame, WaitForLess}
+use Rattle.ot_depend.specs.Kept.{Kid, siblings, owes, due, IsLinked, woken, ended, waiters_of, WaitForAll}
 use Rattle.ot_depend.specs.View.{IsTrueOf}
 use Rattle.ot_depend.specs.declared.cells.Table.{Table}
 use Rattle.ot_depend.specs.declared.groups.Groups.{Groups}

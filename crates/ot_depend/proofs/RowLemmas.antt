@@ -5,8 +5,8 @@ use Rattle.std.proofs.lemmas.Bool.{cases_eq, or_cases, eqb-true, eq-eqb, or_left
 use Rattle.std.proofs.lemmas.Option.{same_Some}
 use Rattle.std.proofs.lemmas.List.Folds.{list_any-append}
 use Rattle.ot_model.specs.declared.stmt.Mode.{Mode}
-use Rattle.ot_depend.specs.Siblings.{is_write}
-use Rattle.ot_depend.specs.Kept.{has, Entry, RowIs, found}
+use Rattle.ot_depend.specs.Siblings.{is_write, has}
+use Rattle.ot_depend.specs.Kept.{Entry, RowIs, found}
 
 -- a number in two lists behind one another is in one of them
 pub has-append : (n : ℕ) (xs ys : List ℕ) → has n (xs ++ ys) ≡ (has n xs || has n ys)

@@ -9,8 +9,8 @@ use Rattle.std.proofs.lemmas.Map.Keys.{any_passes_from_place}
 use Rattle.ot_model.specs.Cells.{same_cell}
 use Rattle.ot_model.specs.declared.expr.Cell.{Cell}
 use Rattle.ot_model.specs.declared.stmt.Use.{Use}
-use Rattle.ot_depend.specs.Siblings.{is_write, uses_cell, writes_cell}
-use Rattle.ot_depend.specs.Kept.{IsDirect, has, found}
+use Rattle.ot_depend.specs.Siblings.{is_write, uses_cell, writes_cell, has}
+use Rattle.ot_depend.specs.Kept.{IsDirect, found}
 use Rattle.ot_depend.specs.Cells.{Line, entry_at, found_all, RowsTell}
 use Rattle.ot_depend.specs.declared.cells.Spot.{Spot}
 use Rattle.ot_depend.proofs.ReadyLemmas.{cell_itself}

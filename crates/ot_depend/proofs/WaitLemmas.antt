@@ -9,8 +9,8 @@ use Rattle.std.proofs.lemmas.List.Folds.{Any-from_list_any, list_any-from_Any, l
 use Rattle.std.proofs.lemmas.List.Sums.{sum_by-cons, sum_by-take-drop}
 use Rattle.ot_model.specs.declared.expr.Cell.{Cell}
 use Rattle.ot_model.specs.declared.stmt.Use.{Use}
-use Rattle.ot_depend.specs.Siblings.{Sibling, is_write, uses_cell, writes_cell, is_direct, count_direct, waiting_for}
-use Rattle.ot_depend.specs.Kept.{decls, IsDirect, Kid, siblings, has, times, owes, due, IsLinked}
+use Rattle.ot_depend.specs.Siblings.{Sibling, is_write, uses_cell, writes_cell, is_direct, count_direct, waiting_for, has, times}
+use Rattle.ot_depend.specs.Kept.{decls, IsDirect, Kid, siblings, owes, due, IsLinked}
 use Rattle.ot_depend.proofs.HeartLemmas.{use_found, write_found, use_there, write_there, decl_at, times-none, times-some, due-none}
 
 -- what stands at a place of the front or behind it

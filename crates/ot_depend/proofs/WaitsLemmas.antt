@@ -10,9 +10,9 @@ use Rattle.std.proofs.lemmas.Option.{same_Some, none-some}
 use Rattle.ot_model.specs.declared.expr.Cell.{Cell}
 use Rattle.ot_model.specs.declared.stmt.Mode.{Mode}
 use Rattle.ot_model.specs.declared.stmt.Use.{Use}
-use Rattle.ot_depend.specs.Siblings.{Sibling, FinishedAreReady, AreFree, is_unfinished, is_awaited, waits_for, with_finished, is_write, uses_cell, writes_cell}
+use Rattle.ot_depend.specs.Siblings.{Sibling, FinishedAreReady, AreFree, is_unfinished, is_awaited, waits_for, with_finished, is_write, uses_cell, writes_cell, has}
 use Rattle.ot_model.specs.Cells.{depends_on}
-use Rattle.ot_depend.specs.Kept.{Kid, Entry, RowIs, decls, siblings, has, found}
+use Rattle.ot_depend.specs.Kept.{Kid, Entry, RowIs, decls, siblings, found}
 use Rattle.ot_depend.specs.Cells.{entry_of, place_of, lines_of, RowsTell, is_pending, must_wait, some_must_wait}
 use Rattle.ot_depend.specs.declared.cells.Table.{Table}
 use Rattle.ot_depend.proofs.HeartLemmas.{use_found, use_there, write_found, write_there, writes-uses, MeetsAt, MeetsAt-from_DependsOn, DependsOn-from_MeetsAt, decl_at, known_from_use, awaited}

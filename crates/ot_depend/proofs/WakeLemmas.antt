@@ -7,7 +7,8 @@ use Rattle.std.proofs.lemmas.Option.{same_Some, slice_get_within}
 use Rattle.std.proofs.lemmas.List.{length-map}
 use Rattle.std.proofs.lemmas.List.Sums.{fold_more, sum_by_more_le}
 use Rattle.ot_model.specs.Cells.{updated}
-use Rattle.ot_depend.specs.Kept.{Kid, times, woken, one_less, waiters_of, WaitForAll}
+use Rattle.ot_depend.specs.Kept.{Kid, woken, one_less, waiters_of, WaitForAll}
+use Rattle.ot_depend.specs.Siblings.{times}
 use Rattle.ot_depend.specs.Children.{kid_of, kids_of}
 use Rattle.ot_depend.specs.declared.child.Child.{Child}
 use Rattle.ot_depend.proofs.LinkLemmas.{woken_back}

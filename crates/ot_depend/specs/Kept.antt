@@ -1,12 +1,12 @@
 -- What the table keeps beside the children, and how it hangs together: only this crate knows it.
-use Rattle.std.specs.Prelude.{◌≡◌, ◌<◌, ◌≤◌, ◌-◌, ◌==◌, ◌||◌, ◌⊎◌, ℕ, Bool, true, false, cond, List, [], ◌∷◌, ◌++◌, Option, Some, length, map, get_or, slice_get, option_map, unwrap_or, fold, count_by, ◌+◌, vec_len, vec_capacity}
-use Rattle.std.specs.List.{list_any, sum_by}
+use Rattle.std.specs.Prelude.{◌≡◌, [], ◌<◌, ◌≤◌, ◌-◌, ◌==◌, ◌||◌, ◌⊎◌, ℕ, Bool, true, false, cond, List, ◌∷◌, ◌++◌, Option, Some, length, map, get_or, slice_get, option_map, unwrap_or, fold, ◌+◌, vec_len, vec_capacity}
+use Rattle.std.specs.List.{sum_by}
 use Rattle.std.specs.Option.{option_to_list}
 use Rattle.ot_model.specs.Cells.{updated}
 use Rattle.ot_model.specs.declared.expr.Cell.{Cell}
 use Rattle.ot_model.specs.declared.stmt.Mode.{Mode}
 use Rattle.ot_model.specs.declared.stmt.Use.{Use}
-use Rattle.ot_depend.specs.Siblings.{Sibling, is_write, uses_cell, writes_cell, is_ready, waiting_for}
+use Rattle.ot_depend.specs.Siblings.{Sibling, is_write, uses_cell, writes_cell, has, times}
 use Rattle.std.specs.declared.vec.Vec.{Vec}
 
 -- what each child declares
@@ -21,14 +21,6 @@ pub record IsDirect (decls : List (List Use)) (earlier later : ℕ) : Type 0 whe
   pub uses : uses_cell cell (get_or decls later []) ≡ true
   pub written : (writes_cell cell (get_or decls earlier []) || writes_cell cell (get_or decls later [])) ≡ true
   pub between : (k : ℕ) → earlier < k → k < later → writes_cell cell (get_or decls k []) ≡ false
-
--- whether the number is in the list
-abbrev pub has : ℕ → List ℕ → Bool
-has n xs = list_any (λ x. x == n) xs
-
--- how often
-abbrev pub times : ℕ → List ℕ → ℕ
-times n xs = count_by (λ x. x == n) xs
 
 -- whether the list ends with the number
 abbrev pub ends_with : ℕ → List ℕ → Bool
@@ -109,17 +101,6 @@ waiters_of kids place = unwrap_or (option_map (λ k. k.waiters) (slice_get kids 
 -- each of these is known, and waits for as many as it is told of here
 abbrev pub WaitForAll : List Kid → List ℕ → Type 0
 WaitForAll kids told = (w : ℕ) → has w told ≡ true → (k : Kid) × (slice_get kids w ≡ Some k) × (times w told ≤ k.waiting)
-
--- Whom the end of a child may let run, and who waits for less by it.
-
--- each child that isn't among these is as ready as before
-abbrev pub LetsTheSame : List ℕ → List Sibling → List Sibling → Type 0
-LetsTheSame among old new = (child : ℕ) → has child among ≡ false → is_ready new child ≡ is_ready old child
-
--- each child waits by itself for one less for each time that it is among these: so those among them are those that wait
--- for less, each once
-abbrev pub WaitForLess : List ℕ → List Sibling → List Sibling → Type 0
-WaitForLess among old new = (child : ℕ) → waiting_for old child ≡ waiting_for new child + times child among
 
 -- Room in a list of numbers.
 

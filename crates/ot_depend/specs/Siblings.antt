@@ -1,11 +1,12 @@
 -- The children of one body in order of their creation, and which of them may run.
-use Rattle.std.specs.Prelude.{◌≡◌, ◌<◌, ◌==◌, ◌&&◌, ◌||◌, ℕ, Bool, true, false, not, IsTrue, List, Some, take, option_map, unwrap_or, slice_get, ◌+◌, cond, [], ◌∷◌}
+use Rattle.std.specs.Prelude.{◌≡◌, [], ◌<◌, ◌==◌, ◌&&◌, ◌||◌, ℕ, Bool, true, false, not, IsTrue, List, Some, take, option_map, unwrap_or, slice_get, ◌+◌, cond, ◌∷◌, count_by}
 use Rattle.std.specs.List.{list_any, list_all}
 use Rattle.ot_model.specs.Cells.{updated, DependsOn, depends_on, same_cell}
 use Rattle.ot_model.specs.declared.stmt.Use.{Use}
 use Rattle.ot_model.specs.declared.expr.Cell.{Cell}
 use Rattle.ot_model.specs.declared.stmt.Mode.{Mode}
 use Rattle.ot_model.specs.declared.stmt.Mode.TheVariants.{Reads, Writes, Folds}
+use Rattle.ot_depend.specs.Kept.{siblings}
 
 -- a child: what it declares, the groups that were open where it was created, and whether it has finished
 pub record Sibling : Type 0 where
@@ -99,3 +100,22 @@ count_direct (s ∷ between) later = cond (not s.finished && is_direct s.uses be
 -- for how many unfinished siblings the child waits by itself
 abbrev pub waiting_for : List Sibling → ℕ → ℕ
 waiting_for siblings child = unwrap_or (option_map (λ s. count_direct (take child siblings) s.uses) (slice_get siblings child)) 0
+
+-- whether the number is in the list
+abbrev pub has : ℕ → List ℕ → Bool
+has n xs = list_any (λ x. x == n) xs
+
+-- how often
+abbrev pub times : ℕ → List ℕ → ℕ
+times n xs = count_by (λ x. x == n) xs
+
+-- Whom the end of a child may let run, and who waits for less by it.
+
+-- each child that isn't among these is as ready as before
+abbrev pub LetsTheSame : List ℕ → List Sibling → List Sibling → Type 0
+LetsTheSame among old new = (child : ℕ) → has child among ≡ false → is_ready new child ≡ is_ready old child
+
+-- each child waits by itself for one less for each time that it is among these: so those among them are those that wait
+-- for less, each once
+abbrev pub WaitForLess : List ℕ → List Sibling → List Sibling → Type 0
+WaitForLess among old new = (child : ℕ) → waiting_for old child ≡ waiting_for new child + times child among

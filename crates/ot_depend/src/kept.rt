@@ -28,7 +28,8 @@ pub(crate) struct Kept {
 impl Kept {
     ghost use Rattle.ot_depend.specs.View.{kids_in, siblings_in, IsKept, IsPlanned};
     ghost use Rattle.ot_model.specs.Cells.{updated};
-    ghost use Rattle.ot_depend.specs.Kept.{woken, waiters_of, ended, LetsTheSame, WaitForLess};
+    ghost use Rattle.ot_depend.specs.Kept.{woken, waiters_of, ended};
+    ghost use Rattle.ot_depend.specs.Siblings.{LetsTheSame, WaitForLess};
 
     /// No children. It takes no memory.
     pub(crate) fn new(alloc: Global) -> Kept

@@ -27,8 +27,7 @@ impl Model for Siblings {
 
 impl Siblings {
     ghost use Rattle.ot_model.specs.declared.stmt.Use.{Use};
-    ghost use Rattle.ot_depend.specs.Siblings.{waiting_for, IsReady, IsUnfinished, FinishedAreReady, created, with_finished, is_ready, is_unfinished, is_unfinished_in, waits_for, AreFree};
-    ghost use Rattle.ot_depend.specs.Kept.{LetsTheSame, WaitForLess};
+    ghost use Rattle.ot_depend.specs.Siblings.{waiting_for, IsReady, IsUnfinished, FinishedAreReady, created, with_finished, is_ready, is_unfinished, is_unfinished_in, waits_for, AreFree, LetsTheSame, WaitForLess};
 
     /// No children. It takes no memory.
     pub fn new(alloc: Global) -> Siblings

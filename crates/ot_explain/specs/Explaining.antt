@@ -6,13 +6,13 @@ use Rattle.ot_book.specs.Books.{Register, new_register, next_number, logged, rep
 use Rattle.ot_front.specs.Session.{HasNoEnd, max_line, closing, heard_in, Session, Serves, Lines, texts, after, reply_line}
 use Rattle.ot_front.specs.Serving.{Going}
 use Rattle.ot_front.specs.declared.fault.End.{End}
-use Rattle.ot_front.specs.declared.fault.End.TheVariants.{Bye, EndOfInput, Full, LongLine, Closed}
+use Rattle.ot_front.specs.declared.fault.End.TheVariants.{EndOfInput, Full, LongLine}
 use Rattle.ot_front.specs.declared.fault.FrontFault.{FrontFault}
 use Rattle.ot_front.specs.declared.fault.FrontFault.TheVariants.{ReadFailed, TooManyTurns, SocketFailed}
 use Rattle.ot_explain.specs.declared.explaining.Explained.{Explained}
 use Rattle.ot_explain.specs.declared.explaining.Explained.TheVariants.{AllTaken, SomeRefused}
 use Rattle.std.specs.Fmt.{decimal}
-use Rattle.ot_book.specs.Answers.{Told, Accepted, Cells, Arrays, Used, Done, Refused, Offends, Lost}
+use Rattle.ot_book.specs.Answers.{code_in}
 
 -- a byte more in front of the first line
 abbrev pub with_first : ℕ → List (List ℕ) → List (List ℕ)
@@ -48,17 +48,6 @@ abbrev pub IsWhole : List ℕ → Type 0
 IsWhole text = (more : List ℕ) → without_remarks (text ++ more) ≡ without_remarks text ++ without_remarks more
 
 -- ---- remarks on replies
-
--- the code that a reply tells, where it is a refusal
-abbrev pub code_in : Told → Option ℕ
-code_in Accepted = None
-code_in (Cells values) = None
-code_in (Arrays arrays) = None
-code_in (Used units) = None
-code_in (Done tasks units shows) = None
-code_in (Refused code) = Some code
-code_in (Offends code place) = Some code
-code_in Lost = Some 508
 
 -- the code that the last reply of a log tells, where it is a refusal
 abbrev pub last_code : Register → Option ℕ
@@ -114,11 +103,9 @@ pub record Explains (first new : Register) (ahead left : Option (List ℕ)) (lat
 
 -- whether the session ends at a line that it doesn't take
 abbrev pub is_untaken : End → Bool
-is_untaken Bye = false
-is_untaken EndOfInput = false
 is_untaken Full = true
 is_untaken LongLine = true
-is_untaken Closed = false
+is_untaken end = false
 
 -- what is said where something is refused, and where nothing is
 abbrev pub says : Bool → Explained
@@ -143,11 +130,9 @@ pub record Remarks (first new : Register) (ahead left start held : Option (List 
 
 -- what is said at such an end, where this was said of the lines before it
 abbrev pub said_at : End → Explained → Explained
-said_at Bye said = said
-said_at EndOfInput said = said
 said_at Full said = SomeRefused
 said_at LongLine said = SomeRefused
-said_at Closed said = said
+said_at end said = said
 
 -- the lines that are heard in these bytes are logged, and their replies are remarked on
 pub record Noted (first book : Register) (bytes text : List ℕ) (said : Explained) : Type 0 where

@@ -11,7 +11,8 @@ use Rattle.ot_program.specs.Programs.{program_copy}
 use Rattle.ot_place.specs.Spots.{text_spots}
 use Rattle.ot_place.specs.Texts.{Profile}
 use Rattle.ot_place.proofs.PlaceLemmas.{a_program}
-use Rattle.ot_fault.specs.Walk.{counts_of, first_among, first_fault, Walked, walk}
+use Rattle.ot_fault.specs.Whys.{counts_of, first_among, first_fault}
+use Rattle.ot_fault.specs.Walk.{Walked, walk}
 use Rattle.ot_fault.proofs.FirstLemmas.{placed_of, met_in, first_walked}
 
 pub no_request : (shape : Arrays) (vs : List Value) → length vs ≢ 2 → first_fault shape (array (items_view vs)) ≡ None

@@ -17,9 +17,9 @@ use Rattle.ot_place.specs.Spots.{Path, Spot, first_body, is_loop, spots, in_turn
 use Rattle.ot_place.specs.Texts.{Profile, text_by}
 use Rattle.ot_place.specs.declared.text.Text.{Text as CodeText}
 use Rattle.ot_place.specs.declared.text.Text.TheVariants as t
-use Rattle.ot_fault.specs.Walk.{counts_of, counts_with, past_limits, mixed_why, mixed_whys, whys_at, whys_behind, first_behind, first_among, Walked, Passed, Met, unless_told, counted, walk}
+use Rattle.ot_fault.specs.Whys.{counts_of, past_limits, mixed_why, mixed_whys, whys_at, whys_behind, first_behind, first_among, Why, Mixed, long, short, earlier, after, nested, text_whys}
+use Rattle.ot_fault.specs.Walk.{counts_with, Walked, Passed, Met, unless_told, counted, walk}
 use Rattle.ot_mixed.specs.Mixed.{mixed_of}
-use Rattle.ot_fault.specs.Whys.{Why, Mixed, long, short, earlier, after, nested, text_whys}
 use Rattle.ot_fault.specs.declared.own.Tally.{Tally as CodeTally}
 use Rattle.ot_fault.proofs.AfterLemmas.{after-append}
 

@@ -17,9 +17,8 @@ use Rattle.ot_program.proofs.Firsts.{first_of, foremost_is, merged, first-append
 use Rattle.ot_program.proofs.StatementsRead.{first-swap}
 use Rattle.ot_place.specs.Spots.{program_spots}
 use Rattle.ot_place.specs.Texts.{Profile}
-use Rattle.ot_fault.specs.Walk.{counts_of, past_limits, mixed_whys, whys_behind, first_behind, first_among, first_fault}
+use Rattle.ot_fault.specs.Whys.{counts_of, past_limits, mixed_whys, whys_behind, first_behind, first_among, first_fault, Why, long, short, refusal_of, earlier, after, text_whys}
 use Rattle.ot_fault.specs.Laws.{refused}
-use Rattle.ot_fault.specs.Whys.{Why, long, short, refusal_of, earlier, after, text_whys}
 use Rattle.ot_fault.proofs.FirstLemmas.{placed_of, program_placed, none_among}
 use Rattle.ot_fault.proofs.RefusalLemmas.{Are, unless_is, text_is}
 

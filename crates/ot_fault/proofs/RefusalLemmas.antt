@@ -24,8 +24,7 @@ use Rattle.ot_place.specs.declared.text.Text.{Text as CodeText}
 use Rattle.ot_place.specs.declared.text.Text.TheVariants as t
 use Rattle.ot_mixed.proofs.ClauseLemmas.{none_first, none_second}
 use Rattle.ot_mixed.specs.Mixed.{first_mixed, named, mixed_of, faults_of}
-use Rattle.ot_fault.specs.Walk.{mixed_why, mixed_whys}
-use Rattle.ot_fault.specs.Whys.{Why, Form as NoForm, refusal_of, unless, no_list, list_whys, name_whys, variable_whys, size_whys, array_whys, indexed_whys, cell_whys, section_whys, value_whys, expression_whys, target_whys, is_mode, clause_whys, wait_clause_whys, nested, group_whys, text_whys}
+use Rattle.ot_fault.specs.Whys.{mixed_why, mixed_whys, Why, Form as NoForm, refusal_of, unless, no_list, list_whys, name_whys, variable_whys, size_whys, array_whys, indexed_whys, cell_whys, section_whys, value_whys, expression_whys, target_whys, is_mode, clause_whys, wait_clause_whys, nested, group_whys, text_whys}
 use Rattle.ot_fault.specs.declared.why.Wanted.TheVariants as wanted
 
 -- they have these refusals

@@ -13,8 +13,8 @@ use Rattle.ot_place.specs.Texts.{Profile, text_by, text_at, copy_by}
 use Rattle.ot_place.specs.declared.text.Text.{Text as CodeText}
 use Rattle.ot_place.specs.declared.text.Text.TheVariants as t
 use Rattle.ot_place.proofs.CopyLemmas.{copy_is}
-use Rattle.ot_fault.specs.Walk.{whys_at, Walked, Passed, Met, unless_told, counted, walk, in_bodies, step_by}
-use Rattle.ot_fault.specs.Whys.{Why, short, after}
+use Rattle.ot_fault.specs.Whys.{whys_at, Why, short, after}
+use Rattle.ot_fault.specs.Walk.{Walked, Passed, Met, unless_told, counted, walk, in_bodies, step_by}
 use Rattle.ot_fault.specs.declared.find.Step.{Step}
 use Rattle.ot_fault.specs.declared.own.Tally.{Tally as CodeTally}
 

@@ -7,8 +7,7 @@ use Rattle.ot_program.specs.Faults.{text_faults}
 use Rattle.ot_program.specs.Meanings.{Bindings, profile_of}
 use Rattle.ot_program.specs.Programs.{program_of}
 use Rattle.ot_program.specs.declared.fault.Refusal.{Refusal}
-use Rattle.ot_fault.specs.Walk.{mixed_whys, first_fault}
-use Rattle.ot_fault.specs.Whys.{refusal_of, text_whys}
+use Rattle.ot_fault.specs.Whys.{mixed_whys, first_fault, refusal_of, text_whys}
 
 -- a task's profile is one that a program's first word names
 abbrev pub HasProfile : Text → Type 0

@@ -1,14 +1,14 @@
 -- What is at fault in a program, with what is compared, and which of several faults is told.
-use Rattle.std.specs.Prelude.{ℕ, ◌+◌, ◌==◌, nat_lt, nat_le, Bool, false, not, ◌&&◌, ◌||◌, if◌then◌else◌, List, [], ◌∷◌, ◌++◌, flat_map, is_some, unwrap_or, codes, ◌-◌, ◌^◌, min, Option, Some, None, ◌≡◌, option_map}
+use Rattle.std.specs.Prelude.{ℕ, [], ◌+◌, ◌==◌, nat_lt, nat_le, Bool, false, not, ◌&&◌, ◌||◌, if◌then◌else◌, List, ◌∷◌, ◌++◌, flat_map, is_some, unwrap_or, codes, ◌-◌, ◌^◌, min, Option, Some, None, length, map, option_map}
 use Rattle.std.specs.List.{list_any}
 use Rattle.serde_json.specs.Data.{Data, number, string, array, no_items, item}
 use Rattle.ot_model.specs.Programs.{Arrays, arrays_of}
 use Rattle.ot_model.specs.declared.expr.Op.TheVariants.{Plus}
-use Rattle.ot_program.specs.Copies.{Text, SetText, AddText, FoldText, IfText, ForText, Turn, TaskText, WaitText, WaitForText, GroupText, GroupByText, ProgramText, NoForm}
+use Rattle.ot_program.specs.Copies.{Text, SetText, AddText, FoldText, IfText, ForText, Turn, TaskText, WaitText, WaitForText, GroupText, GroupByText, ProgramText, NoForm, Placed}
 use Rattle.ot_program.specs.Faults.{is_list, rank}
-use Rattle.ot_program.specs.Limits.{max_nesting, max_depth, size_depth, depth_of}
-use Rattle.ot_program.specs.Meanings.{items, letters, Bindings, bound, sign_of, in_range, exact, size, is_called, length_of, op_of, fold_of, value, whole_number, is_name, is_word, is_one, is_two, profile_of}
-use Rattle.ot_place.specs.Texts.{Profile, Stands}
+use Rattle.ot_program.specs.Limits.{max_nesting, max_depth, size_depth, depth_of, total, max_statements, max_turns, max_nodes, max_cells, Tally}
+use Rattle.ot_program.specs.Meanings.{items, letters, Bindings, bound, sign_of, in_range, exact, size, is_called, length_of, op_of, fold_of, value, whole_number, is_name, is_word, is_one, is_two}
+use Rattle.ot_place.specs.Texts.{Profile}
 use Rattle.ot_fault.specs.declared.why.Wanted.TheVariants as wanted
 use Rattle.ot_model.specs.declared.expr.Op.{Op}
 use Rattle.ot_program.specs.declared.fault.Refusal.{Refusal}
@@ -17,12 +17,15 @@ use Rattle.ot_fault.specs.declared.why.Wanted.{Wanted}
 use Rattle.ot_fault.specs.declared.why.Count.{Count}
 use Rattle.serde_json.specs.View.{view}
 use Rattle.ot_model.specs.declared.shape.ArrayShape.{ArrayShape}
-use Rattle.ot_place.specs.Spots.{bindings_of}
-use Rattle.ot_place.specs.declared.text.Profile.{Profile as CodeProfile}
 use Rattle.ot_fault.specs.declared.why.Why.{Why as CodeWhy}
 use Rattle.ot_fault.specs.declared.why.Why.TheVariants as w
-use Rattle.ot_fault.specs.declared.why.First.{First}
-use Rattle.ot_fault.specs.declared.look.Look.{Look}
+use Rattle.ot_fault.specs.declared.find.Found.{Found}
+use Rattle.ot_fault.specs.declared.find.Step.TheVariants as s
+use Rattle.ot_fault.specs.declared.own.Tally.{Tally as CodeTally}
+use Rattle.std.specs.Option.{option_or, option_to_list}
+use Rattle.ot_place.specs.Spots.{text_spots}
+use Rattle.ot_mixed.specs.Mixed.{mixed_of}
+use Rattle.ot_fault.specs.declared.why.Count.TheVariants.{Statements, Turns, Nodes, Cells}
 
 -- a fault, with what is compared
 pub data Why : Type 0 where
@@ -257,20 +260,63 @@ why_by (w.TooMany count has may) = TooMany count has may
 why_by (w.TooManyTasks has may) = TooManyTasks has may
 why_by (w.Mixed name index) = Mixed name.now index
 
--- what is told so far
-abbrev pub told_by : First → Option Why
-told_by first = option_map why_by first.why
-
 abbrev pub shape_of : List ArrayShape → ℕ → Arrays
 shape_of arrays tasks = record { arrays = arrays_of arrays; tasks = tasks }
 
--- the arrays and the variables over which parts are looked at
-abbrev pub shape_by : Look → Arrays
-shape_by look = shape_of look.arrays.now look.tasks
+-- the counts that these stand for
+abbrev pub counts_of : Tally → CodeTally
+counts_of n =
+    record { statements = long n.statements; tasks = long n.tasks; turns = long n.turns; nodes = long n.nodes; cells = long n.cells }
 
-abbrev pub variables_by : Look → Bindings
-variables_by look = bindings_of look.trail.now
+-- a count that is past its limit
+abbrev pub more_than : Count → ℕ → ℕ → List Why
+more_than count has may = unless (nat_le has may) (TooMany count has may)
 
--- the code's profile is this one, which a program's first word names
-abbrev pub IsProfile : CodeProfile → Profile → Type 0
-IsProfile code profile = Stands code profile × ((t : Data) × (profile_of t ≡ Some profile))
+-- the counts that are past their limits, in the order in which they are looked at
+abbrev pub past_limits : ℕ → CodeTally → List Why
+past_limits tasks n =
+    more_than Statements n.statements max_statements ++ (more_than Turns n.turns max_turns
+    ++ (more_than Nodes n.nodes max_nodes ++ (more_than Cells n.cells max_cells
+    ++ unless (nat_le n.tasks tasks) (TooManyTasks n.tasks tasks))))
+
+-- The first fault of a program, and which of its entries has it. The entries are those of `ot_place`, in its order: the program
+-- itself, statements, loops with each of their turns, and what is of no form.
+
+-- ---- the faults of an entry
+
+abbrev pub mixed_why : List ℕ × ℕ → Why
+mixed_why cell = Mixed cell.0 cell.1
+
+-- of a task, the first cell that its clauses declare under `red` and otherwise
+abbrev pub mixed_whys : Arrays → Bindings → Text → List Why
+mixed_whys shape variables (TaskText profile a b) = option_to_list (option_map mixed_why (mixed_of shape profile variables a))
+mixed_whys shape variables text = []
+
+-- where so much is counted up to there and with it
+abbrev pub whys_at : Arrays → CodeTally → Placed → List Why
+whys_at shape counts p =
+    text_whys shape p.level p.variables p.text ++ (past_limits shape.tasks counts ++ mixed_whys shape p.variables p.text)
+
+module _ (shape : Arrays) where
+  -- the faults of an entry behind others: those of its own parts, and each count that with it is past its limit
+  abbrev pub whys_behind : List Placed → Placed → List Why
+  whys_behind before p = whys_at shape (counts_of (total shape (before ++ p ∷ []))) p
+
+  -- The first entry with a fault decides, and of its faults the first of the order. Told is how many stand before it.
+  abbrev pub first_behind : List Placed → List Placed → Option (ℕ × Why)
+  first_behind before [] = None
+  first_behind before (p ∷ rest) =
+      option_or (option_map (λ why. (short (length before), why)) (after None (whys_behind before p))) (first_behind (before ++ p ∷ []) rest)
+
+  -- what is no program has no entry
+  abbrev pub first_among : Data → List Placed → Option (ℕ × Why)
+  first_among program [] = Some (0, Form program wanted.Program)
+  first_among program (p ∷ rest) = first_behind [] (p ∷ rest)
+
+  -- of the program that a request runs
+  abbrev pub first_fault : Data → Option (ℕ × Why)
+  first_fault (array (item t (item program no_items))) = first_among program (map (λ s. s.placed) (text_spots program))
+  first_fault request = None
+
+abbrev pub found_by : Found → ℕ × Why
+found_by found = (found.index, why_by found.why)

@@ -7,9 +7,9 @@ ghost use Rattle.ot_program.specs.Limits.{total};
 ghost use Rattle.ot_program.specs.Programs.{program_copy};
 ghost use Rattle.ot_place.specs.Spots.{bindings_of, text_spots};
 ghost use Rattle.ot_place.specs.Texts.{Profile as Defined, text_by};
-ghost use Rattle.ot_fault.specs.Whys.{Form, short, after, text_whys, IsProfile, why_by, told_by, shape_of};
+ghost use Rattle.ot_fault.specs.Whys.{Form, short, after, text_whys, why_by, shape_of, counts_of, more_than, past_limits, mixed_whys, first_among, first_fault, found_by};
+ghost use Rattle.ot_fault.specs.Walk.{IsProfile, told_by, walk, step_by, walk_on, in_bodies};
 ghost use Rattle.ot_fault.specs.declared.why.Wanted.TheVariants.{Program};
-ghost use Rattle.ot_fault.specs.Walk.{counts_of, more_than, past_limits, mixed_whys, first_among, first_fault, walk, step_by, found_by, walk_on, in_bodies};
 
 use crate::look::Look;
 use crate::own::Tally;

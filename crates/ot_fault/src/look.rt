@@ -5,8 +5,8 @@ ghost use Rattle.serde_json.specs.View.{view, items_view};
 ghost use Rattle.ot_model.specs.Programs.{arrays_of};
 ghost use Rattle.ot_program.specs.Limits.{size_depth};
 ghost use Rattle.ot_program.specs.Meanings.{letters, bound, size, op_of, length_of, section, value};
-ghost use Rattle.ot_fault.specs.Whys.{after, long, is_named, name_whys, variable_whys, size_whys, deep, array_whys, indexed_whys, cell_whys, section_of_whys, section_whys, value_whys, expression_whys, told_by, shape_by, variables_by};
-ghost use Rattle.ot_fault.specs.Walk.{measure_of};
+ghost use Rattle.ot_fault.specs.Whys.{after, long, is_named, name_whys, variable_whys, size_whys, deep, array_whys, indexed_whys, cell_whys, section_of_whys, section_whys, value_whys, expression_whys};
+ghost use Rattle.ot_fault.specs.Walk.{told_by, shape_by, variables_by, measure_of};
 
 use crate::why::{First, Wanted, Why};
 use ot_model::{ArrayShape, Op};

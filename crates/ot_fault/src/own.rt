@@ -6,8 +6,8 @@ ghost use Rattle.ot_program.specs.Copies.{IfText, ForText, TaskText};
 ghost use Rattle.ot_program.specs.Limits.{cells_in, own_tally, with_value, tally};
 ghost use Rattle.ot_program.specs.Meanings.{items, each, fold_of, section, value, clause, wait_clause};
 ghost use Rattle.ot_place.specs.Texts.{Profile as Defined, text_by};
-ghost use Rattle.ot_fault.specs.Whys.{after, long, is_depend, is_mode, no_list, name_whys, fold_whys, red_whys, clause_whys, wait_clause_whys, section_whys, list_whys, nested, target_whys, group_whys, text_whys, IsProfile, told_by, shape_by, variables_by};
-ghost use Rattle.ot_fault.specs.Walk.{counts_of, counts_with, measure_of};
+ghost use Rattle.ot_fault.specs.Whys.{after, long, is_depend, is_mode, no_list, name_whys, fold_whys, red_whys, clause_whys, wait_clause_whys, section_whys, list_whys, nested, target_whys, group_whys, text_whys, counts_of};
+ghost use Rattle.ot_fault.specs.Walk.{IsProfile, told_by, shape_by, variables_by, counts_with, measure_of};
 
 use crate::look::{Look, Measure};
 use crate::why::{First, Wanted, Why};

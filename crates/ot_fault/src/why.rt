@@ -1,6 +1,7 @@
 //! What is at fault in a program.
 ghost use Rattle.std.specs.Prelude.{◌≡◌, None};
-ghost use Rattle.ot_fault.specs.Whys.{refusal_of, noted, after, why_by, told_by, unless};
+ghost use Rattle.ot_fault.specs.Whys.{refusal_of, noted, after, why_by, unless};
+ghost use Rattle.ot_fault.specs.Walk.{told_by};
 
 use ot_model::Op;
 use ot_program::Refusal;

@@ -42,10 +42,8 @@ pub record IsCut (bytes : List ℕ) : Type 0 where
 
 -- the name in `["hello", name]`
 abbrev pub hello_of : Items → Option (List ℕ)
-hello_of no_items = None
-hello_of (item t no_items) = None
 hello_of (item t (item a no_items)) = if is_word t (codes "hello") then name_in a else None
-hello_of (item t (item a (item b ds))) = None
+hello_of ds = None
 
 -- the tenant's name, or why there is none
 abbrev pub Greeting : Type 0

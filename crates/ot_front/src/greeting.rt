@@ -3,7 +3,6 @@ ghost use Rattle.std.specs.Prelude.{◌≡◌, ◌≢◌, ◌≤◌, ℕ, None, 
 ghost use Rattle.serde_json.specs.Find.{as_array};
 ghost use Rattle.serde_json.specs.View.{view, items_view};
 ghost use Rattle.ot_book.specs.Answers.{value_of};
-ghost use Rattle.ot_book.specs.Requests.{name_in};
 ghost use Rattle.ot_front.specs.Serving.{next_count, count_after};
 ghost use Rattle.ot_lines.specs.Lines.{opened};
 ghost use Rattle.ot_front.specs.FirstLines.{first_bounds};
@@ -20,9 +19,9 @@ use crate::rack::{OnDesk, Rack};
 use crate::refusal::Refusal;
 use crate::whole::write_whole;
 use json::Writer;
-use ot_book::Book;
+use ot_book::{Book, read_name};
 use ot_lines::{Heard, Lines, Source};
-use ot_program::{is_name, is_word};
+use ot_program::is_word;
 use serde_json::Value;
 use std::alloc::{AllocError, Global};
 use std::sync::Wait;
@@ -172,15 +171,6 @@ fn read_hello(items: &[Value]) -> Option<&str>
             }
         }
         _ => unreachable!(),
-    }
-}
-
-fn read_name(value: &Value) -> Option<&str>
-    ensures { option_map (λ name. name.now) result ≡ name_in (view value.now) }
-{
-    match value {
-        Value::String(text) if is_name(text.as_str()) => Some(text.as_str()),
-        _ => None,
     }
 }
 

@@ -5,7 +5,7 @@ use Rattle.std.proofs.lemmas.List.{get_or-map, length-map}
 use Rattle.std.proofs.lemmas.Option.{slice_get-get_or}
 use Rattle.ot_print.specs.Shown.{Text}
 use Rattle.ot_graph.specs.Children.{decls_of}
-use Rattle.ot_graph.specs.Links.{AreRows, IsRow}
+use Rattle.ot_graph.specs.Written.{AreRows, IsRow}
 use Rattle.ot_graph.specs.Dot.{edge, edge_of}
 use Rattle.ot_graph.specs.declared.child.Child.{Child}
 use Rattle.ot_graph.specs.declared.link.Link.{Link}

@@ -20,7 +20,8 @@ use Rattle.ot_model.specs.declared.stmt.Mode.TheVariants.{Reads, Writes, Folds}
 use Rattle.ot_model.specs.declared.stmt.Use.{Use}
 use Rattle.ot_model.proofs.DeclaredLemmas.{by_mode, any-by_mode}
 use Rattle.ot_depend.specs.Siblings.{is_direct, is_write, uses_cell, writes_cell}
-use Rattle.ot_graph.specs.Links.{cells_at, siblings_with, IsWrittenUpTo, IsRow, AreRows, cell_order}
+use Rattle.ot_graph.specs.Links.{cells_at, siblings_with}
+use Rattle.ot_graph.specs.Written.{IsWrittenUpTo, IsRow, AreRows, cell_order}
 
 -- ---- what one use asks
 

@@ -2,13 +2,13 @@
 use Rattle.std.proofs.Common.{◌≡◌, ℕ, zero, suc, ◌+◌, ◌<◌, ◌≤◌, ◌≢◌, List, [], ◌∷◌, ◌++◌, length, take, map, refl, sym, ap, ◌∙◌, subst, arith, inl, inr, le_refl, Bool, true, false}
 use Rattle.std.specs.Prelude.{Option, Some, None, slice_get, option_map, unwrap_or, cond, not, ◌&&◌, ◌==◌, count_by, IsTrue}
 use Rattle.ot_model.specs.declared.stmt.Use.{Use}
-use Rattle.ot_depend.specs.Siblings.{Sibling, created, with_finished, IsReady, IsUnfinished, is_direct, count_direct, waiting_for}
-use Rattle.ot_depend.specs.Kept.{times, WaitForLess}
+use Rattle.ot_depend.specs.Siblings.{Sibling, created, with_finished, IsReady, IsUnfinished, is_direct, count_direct, waiting_for, times, WaitForLess}
 use Rattle.std.proofs.lemmas.Bool.Decides.{nat_tests, leb_tells}
 use Rattle.std.proofs.Math.ListN.{length-map}
 use Rattle.std.proofs.lemmas.List.Sums.{sum_by-cons, sum_by-append}
 use Rattle.ot_graph.specs.declared.link.Link.{Link}
-use Rattle.ot_graph.specs.Links.{waits_itself, siblings_with, is_link, link_from, AreLinks}
+use Rattle.ot_graph.specs.Links.{waits_itself, siblings_with, is_link, AreLinks}
+use Rattle.ot_graph.specs.Written.{link_from}
 
 -- finished
 abbrev pub done : Sibling → Sibling

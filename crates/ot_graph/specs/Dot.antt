@@ -38,16 +38,12 @@ node names n g Leaves = codes "  }\n"
 
 -- one for a wait, and one for the beginning of a group
 abbrev pub waits_in : Passed → ℕ
-waits_in (Creates own c) = 0
 waits_in (Awaits own w awaited) = 1
-waits_in (Enters op cs) = 0
-waits_in Leaves = 0
+waits_in passed = 0
 
 abbrev pub groups_in : Passed → ℕ
-groups_in (Creates own c) = 0
-groups_in (Awaits own w awaited) = 0
 groups_in (Enters op cs) = 1
-groups_in Leaves = 0
+groups_in passed = 0
 
 -- behind so many waits and groups
 abbrev pub nodes : List Text → ℕ → ℕ → List Passed → Text

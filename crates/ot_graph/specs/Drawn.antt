@@ -4,7 +4,7 @@ use Rattle.ot_model.specs.Programs.{expanded_of}
 use Rattle.ot_model.specs.declared.shape.ArrayShape.{ArrayShape}
 use Rattle.ot_check.specs.Jobs.{Spec, meaning_of}
 use Rattle.ot_print.specs.Shown.{names_of}
-use Rattle.ot_last.specs.Going.{Finds}
+use Rattle.ot_last.specs.LastRuns.{Finds}
 use Rattle.ot_last.specs.declared.found.LastRun.{LastRun}
 use Rattle.ot_graph.specs.Passing.{families, marks}
 use Rattle.ot_graph.specs.Graphs.{families_of, marks_of}

@@ -5,3 +5,4 @@ pub mod Children
 pub mod Graphs
 pub mod Dot
 pub mod Drawn
+pub mod Written

@@ -126,10 +126,8 @@ stays_within (suc n) (Leaves ∷ ms) = stays_within n ms
 
 -- whether it is a wait of the task of this number that takes the child
 abbrev pub is_wait_for : ℕ → Created → Passed → Bool
-is_wait_for own child (Creates other c) = false
 is_wait_for own child (Awaits other w awaited) = (other == own) && takes w child
-is_wait_for own child (Enters op cs) = false
-is_wait_for own child Leaves = false
+is_wait_for own child passed = false
 
 -- the children of the task of this number that are unawaited behind these: neither a wait of the task that takes the child nor
 -- the end of a group in which it was created stands behind its creation (OpenMP API 5.2, sections 15.4, 15.5)

@@ -3,7 +3,7 @@ ghost use Rattle.std.specs.Prelude.{◌≡◌, ◌+◌, ◌++◌, ◌<◌, ◌^�
 ghost use Rattle.ot_print.specs.Shown.{names_of};
 ghost use Rattle.ot_graph.specs.Children.{created_of, all_of, decls_of};
 ghost use Rattle.ot_graph.specs.Graphs.{marks_of, passed_of};
-ghost use Rattle.ot_graph.specs.Links.{AreRows};
+ghost use Rattle.ot_graph.specs.Written.{AreRows};
 ghost use Rattle.ot_print.specs.Shown as shown;
 ghost use Rattle.ot_graph.specs.Dot as dot;
 

@@ -5,7 +5,8 @@ ghost use Rattle.ot_model.specs.declared.expr.Cell.{Cell};
 ghost use Rattle.ot_model.specs.declared.stmt.Use.{Use};
 ghost use Rattle.ot_depend.specs.Siblings.{is_direct, is_write, writes_cell};
 ghost use Rattle.ot_graph.specs.Children.{decls_of};
-ghost use Rattle.ot_graph.specs.Links.{cells_at, siblings_with, AreRows, IsRow, IsWrittenUpTo, up_to};
+ghost use Rattle.ot_graph.specs.Links.{cells_at, siblings_with};
+ghost use Rattle.ot_graph.specs.Written.{AreRows, IsRow, IsWrittenUpTo, up_to};
 
 use crate::child::Child;
 use ot_model::{Cell, Decl, Mode, Use};

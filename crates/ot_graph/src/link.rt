@@ -1,6 +1,7 @@
 //! Who of the children of one body waits for whom by itself.
 ghost use Rattle.std.specs.Prelude.{◌≡◌, ◌++◌, OnOk, IfOk, map};
-ghost use Rattle.ot_graph.specs.Links.{AreLinks, siblings_with, link_from};
+ghost use Rattle.ot_graph.specs.Links.{AreLinks, siblings_with};
+ghost use Rattle.ot_graph.specs.Written.{link_from};
 ghost use Rattle.ot_graph.specs.Children.{decls_of};
 
 use crate::child::Child;

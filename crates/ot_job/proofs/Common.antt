@@ -27,8 +27,7 @@ pub use Rattle.ot_model.specs.declared.stmt.Use.{Use}
 pub use Rattle.ot_model.proofs.CellsLemmas.{length-updated, updated-updated}
 pub use Rattle.ot_model.proofs.CountsLemmas.{tasks_in-≤-size}
 pub use Rattle.ot_model.proofs.SerialLemmas.{serial-append}
-pub use Rattle.ot_depend.specs.Kept.{has, LetsTheSame}
-pub use Rattle.ot_depend.specs.Siblings.{IsReady, IsUnfinished, Sibling, created, is_in, is_ready, is_unfinished, is_unfinished_in, with_finished}
+pub use Rattle.ot_depend.specs.Siblings.{has, LetsTheSame, IsReady, IsUnfinished, Sibling, created, is_in, is_ready, is_unfinished, is_unfinished_in, with_finished}
 pub use Rattle.ot_depend.proofs.ListLemmas.{slice_get-push_place}
 pub use Rattle.ot_depend.proofs.SiblingsLemmas.{slice_get-push}
 pub use Rattle.ot_owner.specs.Worth.{all_back, AreJoined, AreWorthSame, worth, worth_over, worths}

@@ -3,8 +3,9 @@ use Rattle.std.proofs.Common.{◌≡◌, ℕ, List, refl, sym, subst, Bool, true
 use Rattle.std.specs.Prelude.{Option, Some, None, MatchOption, if◌then◌else◌}
 use Rattle.ot_file.specs.declared.position.Position.{Position}
 use Rattle.ot_book.specs.Answers as r
-use Rattle.ot_book.specs.Books.{Register}
-use Rattle.ot_judge.specs.Judging.{Refusal, last_told, statement_position, IsInPiece, IsPlacedBy, IsPlacedIn, IsPlaced, found_as, IsBehind}
+use Rattle.ot_book.specs.Books.{Register, last_told}
+use Rattle.ot_judge.specs.Judging.{Refusal, statement_position, IsInPiece, IsPlacedBy, IsPlacedIn, IsPlaced, IsBehind}
+use Rattle.ot_judge.specs.Found.{found_as}
 use Rattle.ot_judge.specs.declared.findings.Found.{Found}
 
 pub match_none : {T : Type 0} (o : Option T) (A : Type 0) (B : T → Type 0) → o ≡ None → MatchOption o A B → A

@@ -4,7 +4,8 @@ use Rattle.std.specs.Prelude.{Some, None, slice_range, if◌then◌else◌, flat
 use Rattle.ot_file.specs.Cuts.{piece_from}
 use Rattle.ot_file.specs.declared.request.Piece.{Piece}
 use Rattle.ot_book.specs.Books.{Register}
-use Rattle.ot_judge.specs.Judging.{line_of, is_goodbye, lines_by, lines_from, with_end, Refusal, refusal, is_full, is_taken, verdict_of, passed, refusals_by, refusals_at, refusals_with, refusals_from, Goes, standing}
+use Rattle.ot_judge.specs.Judging.{line_of, is_goodbye, lines_by, lines_from, with_end, Refusal, refusal, verdict_of, passed, refusals_by, refusals_at, refusals_with, refusals_from, Goes, standing}
+use Rattle.ot_judge.specs.Found.{is_full, is_taken}
 use Rattle.ot_judge.specs.declared.verdict.Verdict.{Verdict}
 use Rattle.ot_judge.specs.declared.verdict.Verdict.TheVariants.{Taken, Refused, Full}
 

@@ -9,13 +9,14 @@ use Rattle.ot_model.specs.Programs.{expanded_of}
 use Rattle.ot_check.specs.Jobs.{Spec}
 use Rattle.ot_store.specs.Arrays.{Named}
 use Rattle.ot_book.specs.Answers as r
-use Rattle.ot_book.specs.Answers.{Step, Now, Runs, answer_or_lost, finished, is_checkpoint}
-use Rattle.ot_book.specs.Books.{Register, state_in, next_step, appended, cleared, logged, opened, open_step, refused, IsFullFor, OpensLine}
+use Rattle.ot_book.specs.Answers.{Step, Now, Runs, answer_or_lost, finished, is_checkpoint, is_run}
+use Rattle.ot_book.specs.Books.{Register, state_in, next_step, appended, cleared, logged, opened, open_step, refused, IsFullFor, OpensLine, last_told}
 use Rattle.ot_book.specs.declared.book.Opened.{Opened}
 use Rattle.ot_book.specs.declared.book.Opened.TheVariants.{Full, Answered, ToRun}
 use Rattle.ot_book.proofs.BookLemmas.{logged-by, state-cleared}
 use Rattle.ot_book.proofs.RoomLemmas.{free-takes}
-use Rattle.ot_judge.specs.Judging.{verdict_on, verdict_by, verdict_of, is_run, is_full, passed, last_told}
+use Rattle.ot_judge.specs.Judging.{verdict_on, verdict_by, verdict_of, passed}
+use Rattle.ot_judge.specs.Found.{is_full}
 use Rattle.ot_judge.specs.declared.verdict.Verdict.{Verdict}
 use Rattle.ot_judge.specs.declared.verdict.Verdict.TheVariants as verdict
 use Rattle.ot_judge.specs.declared.fault.JudgeFault.{JudgeFault}

@@ -1,13 +1,13 @@
 -- The requests of a file as lines.
-use Rattle.std.specs.Prelude.{ℕ, zero, suc, ◌-◌, List, [], ◌∷◌, length, slice_range, codes, Bool, true, false, if◌then◌else◌, Option, Some, None, option_map, option_and_then, Result, Ok, Err, ◌≡◌, ◌≤◌, ◌+◌, drop, unwrap_or, ◌⊎◌, ◌||◌, ◌++◌, bytes_eq, nat_eq}
+use Rattle.std.specs.Prelude.{ℕ, [], zero, suc, ◌-◌, List, ◌∷◌, length, slice_range, codes, Bool, true, false, if◌then◌else◌, Option, Some, None, option_and_then, Result, Ok, Err, ◌≡◌, ◌≤◌, ◌+◌, drop, unwrap_or, ◌⊎◌, ◌||◌, ◌++◌, bytes_eq, nat_eq}
 use Rattle.ot_file.specs.Cuts.{piece_from}
 use Rattle.ot_file.specs.declared.request.Piece.{Piece}
 use Rattle.ot_store.specs.Arrays.{Named, created}
 use Rattle.ot_store.specs.Refusals.{usual_limits}
 use Rattle.ot_store.specs.declared.fault.StoreRefusal.{StoreRefusal}
 use Rattle.ot_book.specs.Answers as r
-use Rattle.ot_book.specs.Answers.{Step, Now, Runs, value_of}
-use Rattle.ot_book.specs.Books.{Register, new_register, next_step, logged, reply_at}
+use Rattle.ot_book.specs.Answers.{Step, Now, Runs, value_of, code_in, is_run}
+use Rattle.ot_book.specs.Books.{Register, new_register, next_step, logged, last_told}
 use Rattle.ot_book.specs.Room.{room_in, takes}
 use Rattle.ot_judge.specs.declared.verdict.Verdict.{Verdict}
 use Rattle.ot_judge.specs.declared.verdict.Verdict.TheVariants.{Taken, Refused, Full}
@@ -15,7 +15,6 @@ use Rattle.ot_file.specs.Items.{offset_of}
 use Rattle.ot_file.specs.Positions.{position_of}
 use Rattle.ot_file.specs.declared.position.Position.{Position}
 use Rattle.ot_place.specs.Spots.{Path, Spot, statements_of, numbered}
-use Rattle.ot_judge.specs.declared.findings.Found.{Found}
 use Rattle.ot_judge.specs.declared.findings.Finding.{Finding}
 use Rattle.std.specs.List.{starts_with}
 use Rattle.ot_file.specs.Comments.{blanked}
@@ -64,14 +63,10 @@ with_end line = line ++ 10 ∷ []
 
 -- whether what is told is a refusal
 abbrev pub verdict_on : r.Told → Verdict
-verdict_on r.Accepted = Taken
-verdict_on (r.Cells values) = Taken
-verdict_on (r.Arrays arrays) = Taken
-verdict_on (r.Used units) = Taken
-verdict_on (r.Done tasks units shows) = Taken
 verdict_on (r.Refused code) = Refused
 verdict_on (r.Offends code place) = Refused
 verdict_on r.Lost = Refused
+verdict_on told = Taken
 
 -- a program that would be run is taken
 abbrev pub verdict_by : Step → Verdict
@@ -82,41 +77,11 @@ verdict_by (Runs program) = Taken
 abbrev pub verdict_of : Register → List ℕ → Verdict
 verdict_of book line = if takes (room_in book) line then verdict_by (next_step book line) else Full
 
--- whether a program would be run
-abbrev pub is_run : Step → Bool
-is_run (Now told arrays) = false
-is_run (Runs program) = true
-
 -- the book behind a line that it takes: what would be run is answered as for want of memory, which changes no array
 abbrev pub passed : Register → List ℕ → Register
 passed book line = logged book line (is_run (next_step book line))
 
 -- ---- what a verdict says
-
-abbrev pub is_taken : Verdict → Bool
-is_taken Taken = true
-is_taken Refused = false
-is_taken Full = false
-
-abbrev pub is_full : Verdict → Bool
-is_full Taken = false
-is_full Refused = false
-is_full Full = true
-
--- what was told last
-abbrev pub last_told : Register → Option r.Told
-last_told book = option_map (λ reply. reply.1) (reply_at book (length book.log - 1))
-
--- the code of a refusal
-abbrev pub code_in : r.Told → Option ℕ
-code_in r.Accepted = None
-code_in (r.Cells values) = None
-code_in (r.Arrays arrays) = None
-code_in (r.Used units) = None
-code_in (r.Done tasks units shows) = None
-code_in (r.Refused code) = Some code
-code_in (r.Offends code place) = Some code
-code_in r.Lost = Some 508
 
 -- ---- one after another
 
@@ -211,12 +176,6 @@ IsPlacedIn (Some book) blank start end position = IsPlacedBy (last_told book) bl
 
 abbrev pub IsPlaced : List ℕ → Refusal → Position → Type 0
 IsPlaced blank refusal position = IsPlacedIn refusal.book blank refusal.start refusal.end position
-
--- A request that isn't taken.
-
--- as a refusal, by the book behind it
-abbrev pub found_as : Found → Register → Refusal
-found_as f book = record { start = f.start; end = f.end; book = if f.is_full then None else Some book }
 
 -- How far a file was judged.
 

@@ -1,6 +1,8 @@
 //! The requests of a file that are refused, one after another.
 ghost use Rattle.std.specs.Prelude.{◌≡◌, ◌≤◌, ◌<◌, [], ◌∷◌, None, List, length, IfOk, IfSome, MatchOption, ℕ, Ok, option_and_then};
-ghost use Rattle.ot_judge.specs.Judging.{Refusal, refusals_in, finds, made, code_in, told_in, IsPlaced, statement_position, Goes, standing, IsBehind, IsSeen, bytes_left, found_as};
+ghost use Rattle.ot_judge.specs.Judging.{Refusal, refusals_in, finds, made, told_in, IsPlaced, statement_position, Goes, standing, IsBehind, IsSeen, bytes_left};
+ghost use Rattle.ot_book.specs.Answers.{code_in};
+ghost use Rattle.ot_judge.specs.Found.{found_as};
 
 use crate::arrays::book_with;
 use crate::fault::JudgeFault;

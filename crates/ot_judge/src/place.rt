@@ -1,13 +1,12 @@
 //! Where in a piece its request is refused.
-ghost use Rattle.std.specs.Prelude.{◌≡◌, ◌≤◌, ℕ, Some, length, IfOk, unwrap_or, option_map};
-ghost use Rattle.serde_json.specs.View.{view};
-ghost use Rattle.ot_book.specs.Answers.{value_of};
+ghost use Rattle.std.specs.Prelude.{◌≡◌, ◌≤◌, ℕ, Some, length, IfOk, unwrap_or};
 ghost use Rattle.ot_book.specs.Answers as replies;
-ghost use Rattle.ot_judge.specs.Judging.{last_told, path_in, statement_offset};
+ghost use Rattle.ot_book.specs.Books.{last_told};
+ghost use Rattle.ot_judge.specs.Judging.{path_in, statement_offset};
 
 use crate::line::{is_program, line_of};
 use crate::told::told_last;
-use ot_book::{Book, Code, Told};
+use ot_book::{Book, Code, Told, read_line};
 use ot_fault::first_fault;
 use ot_file::offset_of;
 use ot_model::Shape;
@@ -68,21 +67,6 @@ fn path_in(is_program: bool, path: &[usize]) -> &[usize]
     match path {
         [_, rest @ ..] if is_program => rest,
         _ => path,
-    }
-}
-
-/// The value of a line, where it is JSON in UTF-8.
-fn read_line(alloc: Global, line: &[u8]) -> Result<Option<Value>, AllocError>
-    ensures { IfOk result (λ value. option_map view value ≡ value_of line.now) }
-{
-    match Value::from_slice(alloc, line) {
-        Ok(value) => Ok(Some(value)),
-        Err(error) => {
-            if error.is_memory() {
-                return Err(AllocError);
-            }
-            Ok(None)
-        }
     }
 }
 

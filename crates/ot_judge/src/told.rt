@@ -1,7 +1,8 @@
 //! What a book told last.
 ghost use Rattle.std.specs.Prelude.{◌≡◌, option_map};
 ghost use Rattle.ot_book.specs.ReplyView.{told_of};
-ghost use Rattle.ot_judge.specs.Judging.{last_told, code_in};
+ghost use Rattle.ot_book.specs.Books.{last_told};
+ghost use Rattle.ot_book.specs.Answers.{code_in};
 
 use ot_book::{Book, Told};
 

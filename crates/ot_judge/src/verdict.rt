@@ -2,7 +2,9 @@
 ghost use Rattle.std.specs.Prelude.{◌≡◌, ◌≢◌, ◌<◌, false, None, Some, length, IfOk};
 ghost use Rattle.ot_book.specs.ReplyView.{told_of};
 ghost use Rattle.ot_book.specs.Answers as replies;
-ghost use Rattle.ot_judge.specs.Judging.{is_full, is_taken, passed, verdict_of, verdict_on, last_told};
+ghost use Rattle.ot_judge.specs.Found.{is_full, is_taken};
+ghost use Rattle.ot_judge.specs.Judging.{passed, verdict_of, verdict_on};
+ghost use Rattle.ot_book.specs.Books.{last_told};
 
 use crate::fault::JudgeFault;
 use ot_book::{Book, Opened, Told};

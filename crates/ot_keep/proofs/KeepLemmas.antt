@@ -7,7 +7,8 @@ use Rattle.ot_model.specs.declared.shape.ArrayShape.{ArrayShape}
 use Rattle.ot_store.specs.Arrays.{Named, listed}
 use Rattle.ot_ask.specs.Asking.{GreetsServer}
 use Rattle.ot_ask.specs.Streams.{Link}
-use Rattle.ot_keep.specs.Files.{sized_by, Reply, Listed, Taken, file_text}
+use Rattle.ot_keep.specs.Answers.{sized_by}
+use Rattle.ot_keep.specs.Files.{Reply, Listed, Taken, file_text}
 use Rattle.ot_keep.specs.Arrays.{named_by}
 use Rattle.ot_keep.specs.declared.array.Array.{Array}
 use Rattle.ot_keep.specs.Questions.{Question, Arrays, Checkpoint, TurnFails, StopsAsking, AsksInTurn, Turn, arrays_turns, cells_turn, sized}

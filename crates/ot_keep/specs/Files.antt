@@ -1,5 +1,5 @@
 -- The text of a tenant's file.
-use Rattle.std.specs.Prelude.{◌≡◌, ◌≢◌, ◌≤◌, ◌<◌, ◌^◌, ◌+◌, ℕ, List, [], ◌∷◌, ◌++◌, All, length, map, replicate, codes, decimal, if◌then◌else◌, Option, Some, None, option_and_then, option_map, string_bytes}
+use Rattle.std.specs.Prelude.{◌≡◌, [], ◌≢◌, ◌≤◌, ◌<◌, ◌^◌, ◌+◌, ℕ, List, ◌∷◌, ◌++◌, All, length, map, replicate, codes, decimal, if◌then◌else◌, Option, Some, None, option_and_then, option_map}
 use Rattle.std.specs.List.{concat}
 use Rattle.std.specs.Io.{IsEmptyOrEndsWith}
 use Rattle.serde_json.specs.Data.{array, string, Data, Items, no_items, item}
@@ -12,10 +12,6 @@ use Rattle.ot_book.specs.Answers.{nat, nats, value_of}
 use Rattle.serde_json.specs.Find.{as_array}
 use Rattle.ot_program.specs.Meanings.{is_word}
 use Rattle.ot_book.specs.Requests.{all_numbers, name_in, number_in, size_in}
-use Rattle.ot_model.specs.Programs.{arrays_of}
-use Rattle.ot_model.specs.declared.shape.ArrayShape.{ArrayShape}
-use Rattle.ot_keep.specs.declared.answer.Answer.{Answer}
-use Rattle.ot_keep.specs.declared.answer.Answer.TheVariants as v
 
 -- ---- the session
 
@@ -95,10 +91,8 @@ pub data Reply : Type 0 where
 
 -- a name with a length
 abbrev pub sized_of : Items → Option (List ℕ × ℕ)
-sized_of no_items = None
-sized_of (item name no_items) = None
 sized_of (item name (item len no_items)) = option_and_then (λ n. option_map (λ l. (n, l)) (size_in 1 len)) (name_in name)
-sized_of (item name (item len (item d ds))) = None
+sized_of ds = None
 
 abbrev pub sized_in : Data → Option (List ℕ × ℕ)
 sized_in d = option_and_then sized_of (as_array d)
@@ -116,11 +110,9 @@ listed_of tag told =
 
 -- `["ok",n]`, `["used",n,units]`, `["arrays",n,[[name,len],..]]`, `["cells",n,[v,..]]`
 abbrev pub list_in : Items → Option Reply
-list_in no_items = None
-list_in (item tag no_items) = None
 list_in (item tag (item n no_items)) = if is_word tag (codes "ok") then option_map Taken (size_in 1 n) else None
 list_in (item tag (item n (item told no_items))) = option_and_then (λ k. listed_of tag told) (size_in 1 n)
-list_in (item tag (item n (item told (item d ds)))) = None
+list_in ds = None
 
 abbrev pub reply_of : Data → Option Reply
 reply_of d = option_and_then list_in (as_array d)
@@ -128,14 +120,3 @@ reply_of d = option_and_then list_in (as_array d)
 -- what a line tells, its LF among its white space
 abbrev pub reply_in : List ℕ → Option Reply
 reply_in line = option_and_then reply_of (value_of line)
-
--- The replies that values of the code stand for.
-
-abbrev pub reply_by : Answer → Reply
-reply_by (v.Taken number) = Taken number
-reply_by (v.Used units) = Used units
-reply_by (v.Listed arrays) = Listed (arrays_of arrays.items)
-reply_by (v.Cells cells) = Cells cells.items
-
-abbrev pub sized_by : ArrayShape → List ℕ × ℕ
-sized_by a = (string_bytes a.name, a.len)

@@ -3,3 +3,4 @@ pub mod Questions
 pub mod Asked
 pub mod Arrays
 pub mod Saving
+pub mod Answers

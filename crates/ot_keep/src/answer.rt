@@ -3,12 +3,13 @@ ghost use Rattle.std.specs.Prelude.{◌≡◌, IfOk, option_map};
 ghost use Rattle.serde_json.specs.Data.{item, no_items};
 ghost use Rattle.serde_json.specs.View.{view, items_view};
 ghost use Rattle.ot_model.specs.Programs.{arrays_of};
-ghost use Rattle.ot_book.specs.Answers.{value_of};
-ghost use Rattle.ot_book.specs.Requests.{all_numbers, name_in, size_in};
-ghost use Rattle.ot_keep.specs.Files.{all_sized, list_in, listed_of, reply_in, reply_of, sized_in, sized_of, sized_by, reply_by};
+ghost use Rattle.ot_book.specs.Requests.{all_numbers};
+ghost use Rattle.ot_keep.specs.Files.{all_sized, list_in, listed_of, reply_in, reply_of, sized_in, sized_of};
+ghost use Rattle.ot_keep.specs.Answers.{sized_by, reply_by};
 
+use ot_book::{read_line, read_name, read_size};
 use ot_model::ArrayShape;
-use ot_program::{is_name, is_word};
+use ot_program::is_word;
 use serde_json::Value;
 use std::alloc::{AllocError, Global};
 
@@ -29,24 +30,9 @@ pub(crate) enum Answer {
 pub(crate) fn read_answer(alloc: Global, reply: &[u8]) -> Result<Option<Answer>, AllocError>
     ensures { IfOk result (λ answer. option_map reply_by answer ≡ reply_in reply.now) }
 {
-    match read_value(alloc, reply)? {
+    match read_line(alloc, reply)? {
         Some(value) => read_reply(alloc, &value),
         None => Ok(None),
-    }
-}
-
-/// The value of a line, where it is JSON in UTF-8.
-fn read_value(alloc: Global, line: &[u8]) -> Result<Option<Value>, AllocError>
-    ensures { IfOk result (λ value. option_map view value ≡ value_of line.now) }
-{
-    match Value::from_slice(alloc, line) {
-        Ok(value) => Ok(Some(value)),
-        Err(error) => {
-            if error.is_memory() {
-                return Err(AllocError);
-            }
-            Ok(None)
-        }
     }
 }
 
@@ -69,7 +55,7 @@ fn read_list(alloc: Global, items: &[Value]) -> Result<Option<Answer>, AllocErro
     }
     match items {
         [tag, number] => Ok(read_taken(tag, number)),
-        [tag, number, told] => match read_size(number) {
+        [tag, number, told] => match read_size(number, 1) {
             Some(_) => read_told(alloc, tag, told),
             None => Ok(None),
         },
@@ -83,7 +69,7 @@ fn read_taken(tag: &Value, number: &Value) -> Option<Answer>
     if !is_word(tag, "ok") {
         return None;
     }
-    match read_size(number) {
+    match read_size(number, 1) {
         Some(number) => Some(Answer::Taken(number)),
         None => None,
     }
@@ -114,16 +100,6 @@ fn read_told(alloc: Global, tag: &Value, told: &Value) -> Result<Option<Answer>,
         });
     }
     Ok(None)
-}
-
-/// A whole number from 1 to 2^32 - 1.
-fn read_size(value: &Value) -> Option<u32>
-    ensures { result ≡ size_in 1 (view value.now) }
-{
-    match value.as_u64() {
-        Some(number) if 1 <= number && number < 1 << 32 => Some(number as u32),
-        _ => None,
-    }
 }
 
 fn read_numbers(alloc: Global, items: &Vec<Value>) -> Result<Option<Vec<u64>>, AllocError>
@@ -170,7 +146,7 @@ fn read_pair(alloc: Global, items: &[Value]) -> Result<Option<ArrayShape>, Alloc
         return Ok(None);
     }
     match items {
-        [name, len] => match (read_name(name), read_size(len)) {
+        [name, len] => match (read_name(name), read_size(len, 1)) {
             (Some(name), Some(len)) => Ok(Some(ArrayShape {
                 name: String::from_str(alloc, name)?,
                 len,
@@ -178,15 +154,5 @@ fn read_pair(alloc: Global, items: &[Value]) -> Result<Option<ArrayShape>, Alloc
             _ => Ok(None),
         },
         _ => unreachable!(),
-    }
-}
-
-/// A name of an array.
-fn read_name(value: &Value) -> Option<&str>
-    ensures { option_map (λ name. name.now) result ≡ name_in (view value.now) }
-{
-    match value {
-        Value::String(text) if is_name(text.as_str()) => Some(text.as_str()),
-        _ => None,
     }
 }

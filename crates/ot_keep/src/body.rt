@@ -1,15 +1,12 @@
 //! The session that makes arrays again.
-ghost use Rattle.std.specs.Prelude.{◌≡◌, ◌++◌, ◌∷◌, [], ◌≢◌, ◌+◌, ◌≤◌, List, ℕ, length, map, IfOk, OnOk, codes};
-ghost use Rattle.serde_json.specs.Data.{array, string};
-ghost use Rattle.serde_json.specs.View.{items_of};
-ghost use Rattle.ot_book.specs.Answers.{nat, nats};
-ghost use Rattle.ot_book.specs.Pieces.{tokens_of};
+ghost use Rattle.std.specs.Prelude.{◌≡◌, ◌++◌, [], ◌+◌, List, ℕ, map, IfOk};
 ghost use Rattle.ot_keep.specs.Arrays.{named_by};
 ghost use Rattle.ot_keep.specs.Files.{Makes, MakesOne, new_line, put_line};
 
 use crate::array::Array;
 use crate::piece::{first_filled, piece_end};
 use json::Writer;
+use ot_book::write_numbers;
 use std::alloc::{AllocError, Global};
 
 /// The lines that make the arrays, without a goodbye.
@@ -67,15 +64,4 @@ fn with_put(text: Vec<u8>, name: &str, start: usize, numbers: &[u64]) -> Result<
     let mut more = out.into_inner();
     more.push(b'\n')?;
     Ok(more)
-}
-
-fn write_numbers(numbers: &[u64], out: &mut Writer) -> Result<(), AllocError>
-    ensures tokens { OnOk result (out.new.tokens ≡ out.old.tokens ++ tokens_of (nats numbers.now)) }
-    ensures before { out.new.before ≡ out.old.before }
-{
-    out.begin_array()?;
-    for number in numbers {
-        out.u64(*number)?;
-    }
-    out.end_array()
 }

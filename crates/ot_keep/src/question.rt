@@ -1,7 +1,8 @@
 //! What is asked of a server, and its answer.
 ghost use Rattle.std.specs.Prelude.{◌≡◌, IfOk, MatchResult, string_bytes, true};
 ghost use Rattle.ot_ask.specs.Streams.{link, outgoing};
-ghost use Rattle.ot_keep.specs.Files.{reply_by, Cells, Listed, Taken, Used};
+ghost use Rattle.ot_keep.specs.Answers.{reply_by};
+ghost use Rattle.ot_keep.specs.Files.{Cells, Listed, Taken, Used};
 ghost use Rattle.ot_keep.specs.Asked.{asked_by};
 ghost use Rattle.ot_keep.specs.Questions.{Arrays, CellsOf, Checkpoint, TurnFails, Line, Turn, Units, answers, cells_line, question_line};
 ghost use Rattle.ot_model.specs.Programs.{arrays_of};

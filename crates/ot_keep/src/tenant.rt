@@ -3,7 +3,7 @@ ghost use Rattle.std.specs.Prelude.{◌≡◌, MatchResult, map};
 ghost use Rattle.ot_ask.specs.Streams.{link, outgoing};
 ghost use Rattle.ot_model.specs.Programs.{arrays_of};
 ghost use Rattle.ot_store.specs.Arrays.{listed};
-ghost use Rattle.ot_keep.specs.Files.{sized_by};
+ghost use Rattle.ot_keep.specs.Answers.{sized_by};
 ghost use Rattle.ot_keep.specs.Arrays.{named_by};
 ghost use Rattle.ot_keep.specs.Questions.{TurnFails, StopsAsking, AsksInTurn, Turn, arrays_turns, cells_turn, SaysBye, sized};
 

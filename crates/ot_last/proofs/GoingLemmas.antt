@@ -10,8 +10,8 @@ use Rattle.ot_front.specs.declared.fault.End.{End}
 use Rattle.ot_front.specs.declared.fault.End.TheVariants as end
 use Rattle.ot_front.proofs.HeardLemmas.{heard-more, at_line, with_line-bye, with_line-full, with_line-request, heard-append, heard_ended, lines_grow, heard-piece, heard-long}
 use Rattle.ot_front.proofs.ToldLemmas.{after-more, room-after, next-after, pending-after}
-use Rattle.ot_last.specs.LastRuns.{Run, Taken, BadAt, found, found_in, closed_by, beginner}
-use Rattle.ot_last.specs.Going.{TellsOf, Finds, run_in, kept, Going, Says, Goes, result_of, told_at_end, SaysAfter, HearsSession}
+use Rattle.ot_last.specs.LastRuns.{Run, Taken, BadAt, found, found_in, closed_by, beginner, TellsOf, Finds}
+use Rattle.ot_last.specs.Going.{run_in, kept, Going, Says, Goes, result_of, told_at_end, SaysAfter, HearsSession}
 use Rattle.ot_last.specs.declared.found.LastRun.{LastRun}
 use Rattle.ot_last.specs.declared.fault.LastFault.{LastFault}
 use Rattle.ot_last.specs.declared.fault.LastFault.TheVariants as fault

@@ -11,7 +11,7 @@ use Rattle.ot_check.specs.Jobs.{Spec}
 use Rattle.ot_store.specs.Arrays.{Named, listed, cells_in}
 use Rattle.ot_book.specs.Answers as r
 use Rattle.ot_book.specs.Answers.{Now, Runs, answer_or_lost, finished, is_checkpoint}
-use Rattle.ot_book.specs.Books.{Register, state_in, next_number, next_step, appended, cleared, logged, opened, open_step, closed, IsFullFor, AnswersNow, OpensLine}
+use Rattle.ot_book.specs.Books.{Register, state_in, next_number, next_step, appended, cleared, logged, opened, open_step, closed, IsFullFor, AnswersNow, OpensLine, last_told}
 use Rattle.ot_book.specs.declared.book.Opened.{Opened}
 use Rattle.ot_book.specs.declared.book.Opened.TheVariants.{Full, Answered, ToRun}
 use Rattle.ot_book.proofs.BookLemmas.{logged-by, state-cleared}
@@ -20,7 +20,7 @@ use Rattle.ot_front.specs.Session.{is_bye}
 use Rattle.ot_front.proofs.RunLemmas.{run_asked}
 use Rattle.ot_front.proofs.ToldLemmas.{slice_get-seam, some-logged}
 use Rattle.ot_last.specs.LastRuns.{Run, Taken, BadAt, answer_of, is_refusal, run_with, run_over, found_by, found}
-use Rattle.ot_last.specs.Going.{Going, Goes, Says, last_told, judged}
+use Rattle.ot_last.specs.Going.{Going, Goes, Says, judged}
 use Rattle.ot_last.specs.declared.fault.Untaken.TheVariants as answer
 use Rattle.ot_last.specs.declared.stop.Stop.{Stop}
 use Rattle.ot_last.specs.declared.stop.Stop.TheVariants.{Bad, Memory}

@@ -1,35 +1,17 @@
 -- What is told of a session that was read to its end.
-use Rattle.std.specs.Prelude.{◌≡◌, ◌≤◌, ◌-◌, ◌++◌, ◌∷◌, [], ℕ, List, map, length, false, Option, Some, None, option_map, Result, Ok, Err, ⊤, ◌⊎◌}
-use Rattle.std.specs.Io.KnownBytes.{Consumes, IsAtEnd}
+use Rattle.std.specs.Prelude.{◌≡◌, [], ◌≤◌, ◌++◌, ◌∷◌, ℕ, List, map, length, false, Option, Some, None, option_map, Result, Ok, Err, ⊤}
+use Rattle.std.specs.Io.KnownBytes.{Consumes}
 use Rattle.ot_book.specs.Answers as r
-use Rattle.ot_book.specs.Books.{Register, reply_at}
+use Rattle.ot_book.specs.Books.{Register}
 use Rattle.ot_front.specs.Session.{max_line, heard_in, Lines, after}
 use Rattle.ot_front.specs.declared.fault.End.TheVariants as end
-use Rattle.ot_last.specs.LastRuns.{Run, Taken, BadAt, found, found_in, beginner, run_of}
+use Rattle.ot_last.specs.LastRuns.{Run, Taken, BadAt, found, found_in, beginner, run_of, IsSessionOver}
 use Rattle.ot_last.specs.declared.found.LastRun.{LastRun}
 use Rattle.ot_last.specs.declared.fault.LastFault.{LastFault}
 use Rattle.ot_last.specs.declared.fault.LastFault.TheVariants as fault
 use Rattle.ot_last.specs.declared.fault.Untaken.TheVariants as answer
 use Rattle.ot_last.specs.declared.stop.Stop.{Stop}
 use Rattle.ot_last.specs.declared.stop.Stop.TheVariants.{Bye, Bad, Memory}
-use Rattle.ot_last.specs.declared.fault.LastFault.TheVariants.{NoRun, BadLine}
-
--- the session is over: it heard a goodbye, or its source has nothing more
-abbrev pub IsSessionOver : Option (List ℕ) → List ℕ → Type 0
-IsSessionOver left bytes = ((heard_in beginner bytes).end ≡ Some end.Bye) ⊎ IsAtEnd left
-
--- what is told after these bytes
-abbrev pub TellsOf : Option (List ℕ) → List ℕ → Result LastRun LastFault → Type 0
-TellsOf left bytes (Ok last) = IsSessionOver left bytes × (found_in beginner bytes ≡ Taken (Some (run_of last)))
-TellsOf left bytes (Err NoRun) = IsSessionOver left bytes × (found_in beginner bytes ≡ Taken None)
-TellsOf left bytes (Err (BadLine number answer)) = found_in beginner bytes ≡ BadAt number answer
-TellsOf left bytes (Err fault) = Unit {0}
-
--- These bytes were read, and so much is told of them.
-pub record Finds (ahead left : Option (List ℕ)) (result : Result LastRun LastFault) : Type 0 where
-  pub bytes : List ℕ
-  pub reads : Consumes ahead left bytes
-  pub tells : TellsOf left bytes result
 
 -- A session in the middle: between two bytes, and where it stops.
 
@@ -60,20 +42,12 @@ abbrev pub Goes : List ℕ → List ℕ → Register → Option Run → Result �
 Goes bytes partial book last (Ok done) = Going bytes partial book last
 Goes bytes partial book last (Err stop) = (more : List ℕ) → Says (bytes ++ more) last stop
 
--- what was told last
-abbrev pub last_told : Register → Option r.Told
-last_told book = option_map (λ reply. reply.1) (reply_at book (length book.log - 1))
-
 -- what a line comes to that was told this, as the request of this number
 abbrev pub judged : r.Told → ℕ → Result ⊤ Stop
-judged r.Accepted number = Ok tt
-judged (r.Cells values) number = Ok tt
-judged (r.Arrays arrays) number = Ok tt
-judged (r.Used units) number = Ok tt
-judged (r.Done tasks units shows) number = Ok tt
 judged (r.Refused code) number = Err (Bad number (answer.Refused code))
 judged (r.Offends code place) number = Err (Bad number (answer.Offends code place))
 judged r.Lost number = Err Memory
+judged told number = Ok tt
 
 -- what is told where the session stopped
 abbrev pub result_of : Stop → Result ⊤ LastFault

@@ -1,5 +1,5 @@
 -- The last program that a session runs, or its first line that isn't taken.
-use Rattle.std.specs.Prelude.{ℕ, ◌+◌, List, [], ◌∷◌, length, codes, Bool, true, false, if◌then◌else◌, Option, Some, None}
+use Rattle.std.specs.Prelude.{ℕ, [], ◌+◌, List, ◌∷◌, length, codes, Bool, true, false, if◌then◌else◌, Option, Some, None, ◌≡◌, Result, Ok, Err, ◌⊎◌}
 use Rattle.ot_model.specs.Programs.{Expanded, expanded_of, arrays_of}
 use Rattle.ot_store.specs.Arrays.{Named, listed, cells_in}
 use Rattle.ot_store.specs.Refusals.{usual_limits}
@@ -12,6 +12,10 @@ use Rattle.ot_front.specs.declared.fault.End.TheVariants.{Full, LongLine}
 use Rattle.ot_last.specs.declared.fault.Untaken.{Untaken}
 use Rattle.ot_last.specs.declared.fault.Untaken.TheVariants as answer
 use Rattle.ot_last.specs.declared.found.LastRun.{LastRun}
+use Rattle.std.specs.Io.KnownBytes.{Consumes, IsAtEnd}
+use Rattle.ot_front.specs.declared.fault.End.TheVariants as end
+use Rattle.ot_last.specs.declared.fault.LastFault.{LastFault}
+use Rattle.ot_last.specs.declared.fault.LastFault.TheVariants.{NoRun, BadLine}
 
 -- a program that is run, the names and lengths of the arrays, and the cells before it
 pub record Run : Type 0 where
@@ -72,3 +76,20 @@ beginner = new_register (codes "t1") usual_limits []
 -- the run that a value of the code stands for
 abbrev pub run_of : LastRun → Run
 run_of last = run_with (expanded_of last.spec.checked.program) (arrays_of last.arrays.items) last.spec.before
+
+-- the session is over: it heard a goodbye, or its source has nothing more
+abbrev pub IsSessionOver : Option (List ℕ) → List ℕ → Type 0
+IsSessionOver left bytes = ((heard_in beginner bytes).end ≡ Some end.Bye) ⊎ IsAtEnd left
+
+-- what is told after these bytes
+abbrev pub TellsOf : Option (List ℕ) → List ℕ → Result LastRun LastFault → Type 0
+TellsOf left bytes (Ok last) = IsSessionOver left bytes × (found_in beginner bytes ≡ Taken (Some (run_of last)))
+TellsOf left bytes (Err NoRun) = IsSessionOver left bytes × (found_in beginner bytes ≡ Taken None)
+TellsOf left bytes (Err (BadLine number answer)) = found_in beginner bytes ≡ BadAt number answer
+TellsOf left bytes (Err fault) = Unit {0}
+
+-- These bytes were read, and so much is told of them.
+pub record Finds (ahead left : Option (List ℕ)) (result : Result LastRun LastFault) : Type 0 where
+  pub bytes : List ℕ
+  pub reads : Consumes ahead left bytes
+  pub tells : TellsOf left bytes result

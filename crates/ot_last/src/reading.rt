@@ -2,7 +2,8 @@
 ghost use Rattle.std.specs.Prelude.{◌≡◌, ◌≢◌, [], Err};
 ghost use Rattle.ot_lines.specs.Lines.{opened};
 ghost use Rattle.ot_front.specs.Serving.{next_count, session_bounds};
-ghost use Rattle.ot_last.specs.Going.{Finds, Going, HearsSession, run_in, told_at_end};
+ghost use Rattle.ot_last.specs.LastRuns.{Finds};
+ghost use Rattle.ot_last.specs.Going.{Going, HearsSession, run_in, told_at_end};
 ghost use Rattle.ot_last.specs.declared.fault.LastFault.TheVariants.{ReadFailed};
 
 use crate::fault::{LastFault, Untaken};

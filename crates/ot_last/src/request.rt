@@ -4,10 +4,10 @@ ghost use Rattle.ot_model.specs.Programs.{expanded_of};
 ghost use Rattle.ot_store.specs.Arrays.{listed};
 ghost use Rattle.ot_book.specs.Answers as replies;
 ghost use Rattle.ot_book.specs.ReplyView.{told_of};
-ghost use Rattle.ot_book.specs.Books.{IsOpenFor, closed};
+ghost use Rattle.ot_book.specs.Books.{IsOpenFor, closed, last_told};
 ghost use Rattle.ot_last.specs.LastRuns.{run_with};
 ghost use Rattle.ot_last.specs.declared.stop.Stop.TheVariants.{Memory};
-ghost use Rattle.ot_last.specs.Going.{Going, Goes, run_in, last_told, judged, TakesLine};
+ghost use Rattle.ot_last.specs.Going.{Going, Goes, run_in, judged, TakesLine};
 
 use crate::fault::Untaken;
 use crate::found::LastRun;

@@ -10,13 +10,14 @@ use Rattle.ot_check.specs.Jobs.{Spec}
 use Rattle.ot_store.specs.Arrays.{Named, listed, cells_in, recelled}
 use Rattle.ot_store.specs.Refusals.{usual_limits}
 use Rattle.ot_store.proofs.ArraysLemmas.{names_in-recelled, cells_in-recelled}
-use Rattle.ot_book.specs.Answers.{State, Step, Now, Runs, finished, step_of, answer, answer_or_lost, Told, is_lost}
-use Rattle.ot_book.specs.Books.{Register, state_in, next_step, appended, cleared, logged, opened, open_step, given_up, IsFullFor, OpensLine}
+use Rattle.ot_book.specs.Answers.{State, Step, Now, Runs, finished, step_of, answer, answer_or_lost, Told, is_lost, is_run}
+use Rattle.ot_book.specs.Books.{Register, state_in, next_step, appended, cleared, logged, opened, open_step, given_up, IsFullFor, OpensLine, last_told}
 use Rattle.ot_book.specs.declared.book.Opened.{Opened}
 use Rattle.ot_book.specs.declared.book.Opened.TheVariants.{Full, Answered, ToRun}
 use Rattle.ot_book.proofs.BookLemmas.{is_lost-answer_or_lost, logged-by, state-cleared, state-logged}
 use Rattle.ot_book.proofs.SerialLengths.{lengths-serial}
-use Rattle.ot_mirror.specs.Mirrors.{Given, begun, is_run, last_told, ran_out, left_by, sent}
+use Rattle.ot_mirror.specs.Given.{Given, begun, ran_out}
+use Rattle.ot_mirror.specs.Mirrors.{left_by, sent}
 use Rattle.ot_mirror.proofs.SizesLemmas.{listed-same, left-sent}
 
 -- ---- which line it was given

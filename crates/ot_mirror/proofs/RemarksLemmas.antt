@@ -2,10 +2,9 @@
 use Rattle.std.proofs.Common.{◌≡◌, ℕ, List, refl, sym, ap, ◌∙◌, subst}
 use Rattle.std.specs.Prelude.{Option, Some, None, Result, Ok, Err, IfOk, Vec, option_map, option_and_then}
 use Rattle.std.specs.declared.alloc.Global.{Global}
-use Rattle.ot_book.specs.Books.{Register}
-use Rattle.ot_book.specs.Answers.{Told}
-use Rattle.ot_explain.specs.Explaining.{AreOn, OpensWith, code_in, last_code}
-use Rattle.ot_mirror.specs.Mirrors.{last_told}
+use Rattle.ot_book.specs.Books.{Register, last_told}
+use Rattle.ot_book.specs.Answers.{Told, code_in}
+use Rattle.ot_explain.specs.Explaining.{AreOn, OpensWith, last_code}
 use Rattle.ot_mirror.specs.HeardView.{refused_at, told_as_refusal}
 use Rattle.ot_mirror.specs.declared.heard.Refusal.{Refusal}
 

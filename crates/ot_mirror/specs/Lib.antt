@@ -1,2 +1,3 @@
 pub mod Mirrors
 pub mod HeardView
+pub mod Given

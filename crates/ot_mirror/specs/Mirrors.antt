@@ -1,10 +1,10 @@
 -- What a server's reply tells of a line, as far as a mirror goes by it.
-use Rattle.std.specs.Prelude.{◌≡◌, ◌<◌, ◌≤◌, ℕ, List, map, length, sum, replicate, bytes_eq, All, Bool, Option, Some, ◌⊎◌, ◌-◌, [], codes, true, false, None, option_map, ◌∷◌, if◌then◌else◌, option_and_then}
+use Rattle.std.specs.Prelude.{◌≡◌, [], ◌<◌, ◌≤◌, ℕ, List, map, length, sum, replicate, bytes_eq, All, Bool, Option, Some, codes, None, option_map, ◌∷◌, if◌then◌else◌, option_and_then}
 use Rattle.std.specs.List.{IsDistinct}
 use Rattle.ot_store.specs.Arrays.{Named, listed}
 use Rattle.ot_store.specs.Refusals.{usual_limits}
-use Rattle.ot_book.specs.Answers.{Step, Now, Runs, step_of, value_of, answer_or_lost, Told, Accepted, json_of, is_lost, Arrays, Refused, Offends}
-use Rattle.ot_book.specs.Books.{Register, state_in, logged, new_register, next_step, reply_at}
+use Rattle.ot_book.specs.Answers.{Step, Now, Runs, step_of, value_of, answer_or_lost, Told, Accepted, json_of, Arrays, Refused, Offends}
+use Rattle.ot_book.specs.Books.{Register, state_in, logged}
 use Rattle.serde_json.specs.Data.{Data, Items, no_items, item}
 use Rattle.serde_json.specs.Find.{as_array}
 use Rattle.ot_program.specs.Meanings.{is_word}
@@ -12,10 +12,8 @@ use Rattle.ot_book.specs.Requests.{name_in, number_in, size_in}
 
 -- a name with a length
 abbrev pub sized_of : Items → Option (List ℕ × ℕ)
-sized_of no_items = None
-sized_of (item name no_items) = None
 sized_of (item name (item len no_items)) = option_and_then (λ n. option_map (λ l. (n, l)) (size_in 0 len)) (name_in name)
-sized_of (item name (item len (item d ds))) = None
+sized_of ds = None
 
 abbrev pub sized_in : Data → Option (List ℕ × ℕ)
 sized_in d = option_and_then sized_of (as_array d)
@@ -37,12 +35,10 @@ two_behind tag code place =
 
 -- `["ok",n]`, `["arrays",n,[[name,len],..]]`, `["err",n,code]`, `["err",n,code,place]`
 abbrev pub told_in_list : Items → Option Told
-told_in_list no_items = None
-told_in_list (item tag no_items) = None
 told_in_list (item tag (item n no_items)) = if is_word tag (codes "ok") then option_map (λ k. Accepted) (number_in n) else None
 told_in_list (item tag (item n (item d no_items))) = option_and_then (λ k. one_behind tag d) (number_in n)
 told_in_list (item tag (item n (item d (item e no_items)))) = option_and_then (λ k. two_behind tag d e) (number_in n)
-told_in_list (item tag (item n (item d (item e (item f fs))))) = None
+told_in_list ds = None
 
 abbrev pub told_in_data : Data → Option Told
 told_in_data d = option_and_then told_in_list (as_array d)
@@ -88,31 +84,3 @@ abbrev pub MirrorFollows : Type 0
 MirrorFollows = (book : Register) (line reply : List ℕ) (memory : Bool) (number : ℕ) → book.limits ≡ usual_limits →
     value_of reply ≡ Some (json_of number (answer_or_lost book.limits (state_in book) line memory).0) →
     listed (logged book line memory).store ≡ behind (listed book.store) line (told_in reply)
-
--- A book that was given one line.
-
--- a book that begins with these arrays
-abbrev pub begun : List Named → Register
-begun arrays = new_register [] usual_limits arrays
-
--- whether a program would be run
-abbrev pub is_run : Step → Bool
-is_run (Now told arrays) = false
-is_run (Runs program) = true
-
--- it has answered the line, or it would have run a program, and that was given up
-abbrev pub Given : List Named → List ℕ → Register → Type 0
-Given arrays line book =
-    ((memory : Bool) × (book ≡ logged (begun arrays) line memory)) ⊎ ((is_run (next_step (begun arrays) line) ≡ true) × (book ≡ begun arrays))
-
--- what was told last
-abbrev pub last_told : Register → Option Told
-last_told book = option_map (λ reply. reply.1) (reply_at book (length book.log - 1))
-
-abbrev pub is_lost_in : Option Told → Bool
-is_lost_in None = false
-is_lost_in (Some told) = is_lost told
-
--- memory ran out for it
-abbrev pub ran_out : Register → Bool
-ran_out book = is_lost_in (last_told book)

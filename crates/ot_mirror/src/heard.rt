@@ -3,13 +3,12 @@ ghost use Rattle.std.specs.Prelude.{◌≡◌, IfOk, option_map};
 ghost use Rattle.serde_json.specs.Data.{item, no_items};
 ghost use Rattle.serde_json.specs.View.{view, items_view};
 ghost use Rattle.ot_model.specs.Programs.{arrays_of};
-ghost use Rattle.ot_book.specs.Answers.{value_of};
-ghost use Rattle.ot_book.specs.Requests.{name_in, size_in};
 ghost use Rattle.ot_mirror.specs.Mirrors.{all_sized, one_behind, sized_in, sized_of, told_in_list, told_in, told_in_data, two_behind};
 ghost use Rattle.ot_mirror.specs.HeardView.{sized_as, told_as};
 
+use ot_book::{read_line, read_name, read_size};
 use ot_model::ArrayShape;
-use ot_program::{is_name, is_word};
+use ot_program::is_word;
 use serde_json::Value;
 use std::alloc::{AllocError, Global};
 
@@ -35,24 +34,9 @@ pub(crate) struct Refusal {
 pub(crate) fn hear(alloc: Global, reply: &[u8]) -> Result<Option<Heard>, AllocError>
     ensures { IfOk result (λ heard. option_map told_as heard ≡ told_in reply.now) }
 {
-    match read_value(alloc, reply)? {
+    match read_line(alloc, reply)? {
         Some(value) => read_reply(alloc, &value),
         None => Ok(None),
-    }
-}
-
-/// The value of a reply, where it is JSON in UTF-8.
-fn read_value(alloc: Global, reply: &[u8]) -> Result<Option<Value>, AllocError>
-    ensures { IfOk result (λ value. option_map view value ≡ value_of reply.now) }
-{
-    match Value::from_slice(alloc, reply) {
-        Ok(value) => Ok(Some(value)),
-        Err(error) => {
-            if error.is_memory() {
-                return Err(AllocError);
-            }
-            Ok(None)
-        }
     }
 }
 
@@ -112,7 +96,7 @@ fn read_one(alloc: Global, tag: &Value, told: &Value) -> Result<Option<Heard>, A
         });
     }
     if is_word(tag, "err") {
-        return Ok(match read_size(told) {
+        return Ok(match read_size(told, 0) {
             Some(code) => Some(Heard::Refused(Refusal { code, place: None })),
             None => None,
         });
@@ -126,21 +110,11 @@ fn read_two(tag: &Value, code: &Value, place: &Value) -> Option<Heard>
     if !is_word(tag, "err") {
         return None;
     }
-    match (read_size(code), read_size(place)) {
+    match (read_size(code, 0), read_size(place, 0)) {
         (Some(code), Some(place)) => Some(Heard::Refused(Refusal {
             code,
             place: Some(place),
         })),
-        _ => None,
-    }
-}
-
-/// A whole number from 0 to 2^32 - 1.
-fn read_size(value: &Value) -> Option<u32>
-    ensures { result ≡ size_in 0 (view value.now) }
-{
-    match value.as_u64() {
-        Some(number) if number < 1 << 32 => Some(number as u32),
         _ => None,
     }
 }
@@ -176,7 +150,7 @@ fn read_pair(alloc: Global, items: &[Value]) -> Result<Option<ArrayShape>, Alloc
         return Ok(None);
     }
     match items {
-        [name, len] => match (read_name(name), read_size(len)) {
+        [name, len] => match (read_name(name), read_size(len, 0)) {
             (Some(name), Some(len)) => Ok(Some(ArrayShape {
                 name: String::from_str(alloc, name)?,
                 len,
@@ -184,15 +158,5 @@ fn read_pair(alloc: Global, items: &[Value]) -> Result<Option<ArrayShape>, Alloc
             _ => Ok(None),
         },
         _ => unreachable!(),
-    }
-}
-
-/// A name of an array.
-fn read_name(value: &Value) -> Option<&str>
-    ensures { option_map (λ name. name.now) result ≡ name_in (view value.now) }
-{
-    match value {
-        Value::String(text) if is_name(text.as_str()) => Some(text.as_str()),
-        _ => None,
     }
 }

@@ -25,8 +25,8 @@ impl Model for Mirror {
 
 impl Mirror {
     ghost use Rattle.std.specs.Prelude.{◌≡◌, IfOk, OnOk, OnErr, MatchOption, Some, option_and_then};
-    ghost use Rattle.ot_explain.specs.Explaining.{AreOn, code_in};
-    ghost use Rattle.ot_book.specs.Answers.{Arrays};
+    ghost use Rattle.ot_explain.specs.Explaining.{AreOn};
+    ghost use Rattle.ot_book.specs.Answers.{code_in, Arrays};
     ghost use Rattle.ot_mirror.specs.Mirrors.{told_in};
 
     /// The arrays that the reply to `["list"]` tells, where it is such a reply, and a tenant with the usual limits may have

@@ -3,7 +3,9 @@ ghost use Rattle.std.specs.Prelude.{◌≡◌, IfOk, MatchOption, option_map};
 ghost use Rattle.ot_model.specs.Programs.{arrays_of};
 ghost use Rattle.ot_store.specs.Arrays.{listed};
 ghost use Rattle.ot_book.specs.ReplyView.{told_of};
-ghost use Rattle.ot_mirror.specs.Mirrors.{Given, last_told, ran_out, MayHave, sent};
+ghost use Rattle.ot_mirror.specs.Given.{Given, ran_out};
+ghost use Rattle.ot_book.specs.Books.{last_told};
+ghost use Rattle.ot_mirror.specs.Mirrors.{MayHave, sent};
 
 use ot_book::{Book, Opened, Told};
 use ot_model::ArrayShape;

@@ -12,7 +12,8 @@ use Rattle.ot_model.specs.declared.stmt.Mode.{Mode}
 use Rattle.ot_model.specs.declared.stmt.Mode.TheVariants.{Reads, Writes, Folds}
 use Rattle.ot_program.specs.Meanings.{placed, named_cells, names, operation_in, named_otherwise, is_mixed, Clause}
 use Rattle.ot_program.proofs.Declared.{same_keys, keys_same}
-use Rattle.ot_mixed.specs.Mixed.{first_mixed, named, Row, address, row_of, Fits, same_operation}
+use Rattle.ot_mixed.specs.Mixed.{first_mixed, named}
+use Rattle.ot_mixed.specs.Rows.{Row, address, row_of, Fits, same_operation}
 use Rattle.ot_mixed.proofs.InLemmas.{In, in_left, in_right, in_either, any_in, in_any}
 use Rattle.ot_mixed.proofs.SweepLemmas.{Covers, Clear, Outcome, operation_differs}
 

@@ -17,7 +17,7 @@ use Rattle.ot_program.specs.Limits.{size_depth}
 use Rattle.ot_program.specs.declared.fault.Refusal.{Refusal}
 use Rattle.ot_program.specs.declared.fault.Refusal.TheVariants.{Form, UnknownArray, OutOfRange, EmptySection}
 use Rattle.ot_place.specs.Texts.{Profile}
-use Rattle.ot_mixed.specs.Mixed.{Row, address, row_at, row_of, Fits, place_from}
+use Rattle.ot_mixed.specs.Rows.{Row, address, row_at, row_of, Fits, place_from}
 
 -- ---- no faults
 

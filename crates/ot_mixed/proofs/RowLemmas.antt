@@ -13,7 +13,8 @@ use Rattle.serde_json.specs.declared.value.Value.{Value}
 use Rattle.ot_model.specs.Programs.{Arrays}
 use Rattle.ot_program.specs.Meanings.{each, Clause}
 use Rattle.ot_program.specs.declared.fault.Refusal.{Refusal}
-use Rattle.ot_mixed.specs.Mixed.{named, first_mixed, Row, row_of, row_by, Fits, sweep}
+use Rattle.ot_mixed.specs.Mixed.{named, first_mixed}
+use Rattle.ot_mixed.specs.Rows.{Row, row_of, row_by, Fits, sweep}
 use Rattle.ot_mixed.specs.declared.clause.Named.{Named}
 use Rattle.ot_mixed.proofs.ClauseLemmas.{none_first, none_second}
 use Rattle.ot_mixed.proofs.CellLemmas.{told_of, mixed_is}

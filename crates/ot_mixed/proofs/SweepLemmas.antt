@@ -4,7 +4,7 @@ use Rattle.std.specs.Prelude.{nat_lt, not}
 use Rattle.std.proofs.lemmas.Bool.{lt-ltb, ltb-true, and_parts, not-true, not-false, ltb-false}
 use Rattle.ot_model.specs.declared.fold.Fold.{Fold}
 use Rattle.ot_model.proofs.EqualLemmas.{fold-decides}
-use Rattle.ot_mixed.specs.Mixed.{Row, same_operation, sweep}
+use Rattle.ot_mixed.specs.Rows.{Row, same_operation, sweep}
 use Rattle.ot_mixed.proofs.InLemmas.{In, in_left, in_right, in_either, in_one}
 
 -- ---- operations

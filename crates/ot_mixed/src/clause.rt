@@ -8,7 +8,7 @@ ghost use Rattle.ot_program.specs.Faults.{section_faults, clause_faults};
 ghost use Rattle.ot_program.specs.Meanings.{section, clause, fold_of, is_word};
 ghost use Rattle.ot_place.specs.Spots.{bindings_of};
 ghost use Rattle.ot_place.specs.Texts.{Profile};
-ghost use Rattle.ot_mixed.specs.Mixed.{row_at, row_of, row_by, Fits, place_from};
+ghost use Rattle.ot_mixed.specs.Rows.{row_at, row_of, row_by, Fits, place_from};
 
 use ot_model::{ArrayShape, Fold};
 use ot_place::{Trail, letters, size_of};

@@ -9,7 +9,8 @@ ghost use Rattle.ot_program.specs.Faults.{clause_faults};
 ghost use Rattle.ot_program.specs.Meanings.{each, clause, profile_of};
 ghost use Rattle.ot_place.specs.Spots.{bindings_of};
 ghost use Rattle.ot_place.specs.Texts.{Profile};
-ghost use Rattle.ot_mixed.specs.Mixed.{mixed_of, faults_of, named_by, row_of, row_by, Fits, same_operation, sweep};
+ghost use Rattle.ot_mixed.specs.Mixed.{mixed_of, faults_of, named_by};
+ghost use Rattle.ot_mixed.specs.Rows.{row_of, row_by, Fits, same_operation, sweep};
 
 use crate::clause::{Named, clause_of};
 use ot_model::{ArrayShape, Fold};

@@ -1,5 +1,5 @@
 -- Cells, as a list of numbers for each array.
-use Rattle.std.specs.Prelude.{ℕ, zero, suc, ◌==◌, nat_lt, Bool, ◌&&◌, ◌||◌, List, [], ◌∷◌, map, length, Option, slice_get, option_and_then, ◌≡◌, ◌<◌, ◌⊎◌, true, false, not, IsTrue, if◌then◌else◌, Some, None, Any}
+use Rattle.std.specs.Prelude.{ℕ, [], zero, suc, ◌==◌, nat_lt, Bool, ◌&&◌, ◌||◌, List, ◌∷◌, map, length, Option, slice_get, option_and_then, ◌≡◌, ◌<◌, ◌⊎◌, true, false, not, IsTrue, if◌then◌else◌, Some, None, Any}
 use Rattle.ot_model.specs.declared.expr.Cell.{Cell}
 use Rattle.std.specs.List.{list_any}
 use Rattle.ot_model.specs.declared.stmt.Mode.{Mode}
@@ -8,8 +8,6 @@ use Rattle.ot_model.specs.declared.fold.Fold.{Fold}
 use Rattle.ot_model.specs.declared.fold.Fold.TheVariants.{Plus, Times, And, Or, Xor, Min, Max}
 use Rattle.ot_model.specs.Joining.{join_by, unit_of}
 use Rattle.ot_model.specs.declared.stmt.Use.{Use}
-use Rattle.ot_model.specs.declared.meeting.Question.{Question}
-use Rattle.ot_model.specs.declared.meeting.Question.TheVariants.{Conflicts, IsWritten}
 
 -- whether two are one cell
 abbrev pub same_cell : Cell → Cell → Bool
@@ -121,9 +119,3 @@ abbrev pub joined : Mode → ℕ → ℕ → ℕ
 joined Reads stored copy = stored
 joined Writes stored copy = copy
 joined (Folds op) stored copy = join_by op stored copy
-
--- What is asked of two uses of one cell.
-
-abbrev pub asked : Question → Mode → Mode → Bool
-asked Conflicts = conflicts
-asked IsWritten = one_writes

@@ -8,3 +8,4 @@ pub mod Serial
 pub mod Names
 pub mod Code
 pub mod Signs
+pub mod Meeting

@@ -1,5 +1,6 @@
 ghost use Rattle.std.specs.Prelude.{◌≡◌, ◌↔◌, IsTrue};
-ghost use Rattle.ot_model.specs.Cells.{AreInOrder, MeetAtACell, asked};
+ghost use Rattle.ot_model.specs.Cells.{AreInOrder, MeetAtACell};
+ghost use Rattle.ot_model.specs.Meeting.{asked};
 
 use crate::stmt::{Mode, Use};
 

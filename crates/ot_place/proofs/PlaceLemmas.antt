@@ -5,7 +5,8 @@ use Rattle.ot_program.specs.Meanings.{items}
 use Rattle.serde_json.specs.Data.{array}
 use Rattle.serde_json.specs.View.{view, items_view}
 use Rattle.serde_json.specs.declared.value.Value.{Value}
-use Rattle.ot_place.specs.Spots.{Spot, is_statement, place_at, program_spots, text_spots, spots_of, Sought, meet, seek, met_in, counts_by}
+use Rattle.ot_place.specs.Spots.{Spot, is_statement, place_at, program_spots, text_spots, spots_of}
+use Rattle.ot_place.specs.Seeking.{Sought, meet, seek, met_in, counts_by}
 use Rattle.ot_place.specs.declared.walk.Which.TheVariants as w
 
 pub no_request : (vs : List Value) → length vs ≢ 2 → spots_of (array (items_view vs)) ≡ []

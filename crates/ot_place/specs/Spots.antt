@@ -1,5 +1,5 @@
 -- Where each statement of a program stands in the request's line, and in which turns of the loops around it.
-use Rattle.std.specs.Prelude.{ℕ, zero, suc, ◌+◌, Bool, true, false, if◌then◌else◌, List, [], ◌∷◌, ◌++◌, filter, slice_get, Option, Some, None, option_map, option_and_then, unwrap_or, map}
+use Rattle.std.specs.Prelude.{ℕ, [], zero, suc, ◌+◌, Bool, true, false, if◌then◌else◌, List, ◌∷◌, ◌++◌, filter, slice_get, Option, Some, None, option_map, option_and_then, unwrap_or, map}
 use Rattle.serde_json.specs.Data.{Data, array, no_items, item}
 use Rattle.ot_program.specs.Copies.{Text, ForText, Turn, GroupByText, ProgramText, NoForm, Placed, Copy, At, Copies, Done, Then}
 use Rattle.ot_program.specs.Meanings.{items, Bindings, profile_of}
@@ -7,10 +7,7 @@ use Rattle.ot_program.specs.Programs.{program_copy}
 use Rattle.ot_place.specs.declared.trail.Trail.{Trail}
 use Rattle.ot_place.specs.declared.trail.Trail.TheVariants as t
 use Rattle.ot_place.specs.declared.trail.Turn as turns
-use Rattle.ot_place.specs.declared.walk.Step.{Step}
 use Rattle.ot_place.specs.declared.walk.Step.TheVariants as s
-use Rattle.ot_place.specs.declared.walk.Which.{Which}
-use Rattle.ot_place.specs.declared.walk.Which.TheVariants as w
 use Rattle.ot_place.specs.declared.trail.Place.{Place}
 
 -- Indices into lists, from the outermost on and from 0: 1 ∷ 2 ∷ [] is the third item of the second.
@@ -90,31 +87,6 @@ numbered (suc n) list = slice_get list n
 abbrev pub place_at : Spot → Path × Bindings
 place_at s = (s.path, s.placed.variables)
 
--- One spot after the other, until the one that is sought.
-
--- so many are still to be skipped, or it was met
-pub data Sought : Type 0 where
-  Skipped : ℕ → Sought
-  Met : Path → Bindings → Sought
-
-abbrev pub meet : Spot → ℕ → (ℕ → Sought) → Sought
-meet s zero rest = Met s.path s.placed.variables
-meet s (suc n) rest = rest n
-
--- of those that count, the one behind so many
-abbrev pub seek : (Text → Bool) → ℕ → List Spot → Sought
-seek counts n [] = Skipped n
-seek counts n (s ∷ ss) = if counts s.placed.text then meet s n (λ m. seek counts m ss) else seek counts n ss
-
-abbrev pub met_in : Sought → Option (Path × Bindings)
-met_in (Skipped n) = None
-met_in (Met path variables) = Some (path, variables)
-
--- what stands in the bodies of a statement with these parts
-abbrev pub bodies_in : Path → Text → Copies → Copies → List Spot
-bodies_in path text one two =
-    (if is_loop text then in_turns path one else in_body (path ++ first_body text ∷ []) 0 one) ++ in_body (path ++ 3 ∷ []) 0 two
-
 -- ---- what the code's values stand for
 
 abbrev pub turn_by : turns.Turn → List ℕ × ℕ
@@ -132,11 +104,3 @@ bindings_of (t.Turn' turn p outer) = turn_by turn ∷ bindings_of outer
 
 abbrev pub place_by : Place → Path × Bindings
 place_by place = (place.path.items, map turn_by place.turns.items)
-
-abbrev pub step_by : Step → Sought
-step_by (s.Skipped n) = Skipped n
-step_by (s.Met place) = Met (place.path.items) (map turn_by place.turns.items)
-
-abbrev pub counts_by : Which → Text → Bool
-counts_by w.All text = true
-counts_by w.Statements text = is_statement text

@@ -3,7 +3,8 @@ ghost use Rattle.std.specs.Prelude.{◌≡◌, IfOk, option_map, slice_get};
 ghost use Rattle.serde_json.specs.Data.{array};
 ghost use Rattle.serde_json.specs.View.{view, items_view};
 ghost use Rattle.ot_program.specs.Meanings.{items};
-ghost use Rattle.ot_place.specs.Spots.{spots_of, statements_of, numbered, place_at, value_at, text_spots, program_spots, place_by, seek, met_in, counts_by};
+ghost use Rattle.ot_place.specs.Spots.{spots_of, statements_of, numbered, place_at, value_at, text_spots, program_spots, place_by};
+ghost use Rattle.ot_place.specs.Seeking.{seek, met_in, counts_by};
 
 use crate::text::read_profile;
 use crate::trail::{Place, Trail};

@@ -3,7 +3,8 @@ ghost use Rattle.std.specs.Prelude.{◌≡◌, ℕ, ◌+◌, ◌-◌, [], ◌∷
 ghost use Rattle.serde_json.specs.View.{view, items_view};
 ghost use Rattle.ot_program.specs.Copies.{copies, copies_of, copy, turns as each_turn, at, Done, Turn as OneTurn};
 ghost use Rattle.ot_program.specs.Programs.{program_copy};
-ghost use Rattle.ot_place.specs.Spots.{spot, spots, in_body, in_turns, bodies_in, seek, step_by, counts_by, path_of, bindings_of};
+ghost use Rattle.ot_place.specs.Spots.{spot, spots, in_body, in_turns, path_of, bindings_of};
+ghost use Rattle.ot_place.specs.Seeking.{bodies_in, seek, step_by, counts_by};
 ghost use Rattle.ot_place.specs.Texts.{Profile as Defined, Stands, text_by, first_copies, second_copies};
 
 use crate::size::size_of;

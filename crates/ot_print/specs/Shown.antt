@@ -86,9 +86,7 @@ sections names (s ∷ ss) = section names s ++ further names ss
 -- whether a value has a sign itself
 abbrev pub is_nested : E → Bool
 is_nested (Apply op a b) = not (is_call op)
-is_nested (Literal n) = false
-is_nested (CellAt c) = false
-is_nested (PickFrom s e) = false
+is_nested e = false
 
 -- a value's text as a side
 abbrev pub as_side : E → Text → Text

@@ -10,7 +10,7 @@ use std::alloc::{AllocError, Global};
 /// A phase is touches in a row of which no two conflict: reads, or folds by one operation, or one
 /// write. Until there is a race each event of a phase comes behind each of the phase before, so that
 /// a new touch is behind all that it conflicts with where it is behind the last phase of those. Each
-/// event of a phase is behind one of its tips or is one, so that these are looked at first.
+/// event of a phase is one of its tips, or before one, so that these are looked at first.
 #[derive(Debug, Drop)]
 pub(crate) struct History {
     /// The mode of the last phase.

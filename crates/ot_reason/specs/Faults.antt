@@ -3,9 +3,9 @@ use Rattle.std.specs.Prelude.{◌≡◌, ℕ, ◌+◌, List, length, map, sum, b
 use Rattle.std.specs.Map.{lookup}
 use Rattle.ot_store.specs.Arrays.{Named, listed}
 use Rattle.ot_store.specs.declared.limits.Limits.{Limits}
-use Rattle.ot_book.specs.Answers.{Step, Now, Runs, performed, Told, Accepted, Cells, Used, Done, Refused, Offends, Lost}
+use Rattle.ot_book.specs.Answers.{Step, Now, Runs, performed, Told, Refused, Offends}
 use Rattle.ot_book.specs.Answers as told
-use Rattle.ot_book.specs.Requests.{Request, New, Free, Put, Get, Arrays, Checkpoint, Run}
+use Rattle.ot_book.specs.Requests.{Request, New, Free, Put, Get, Run}
 use Rattle.ot_book.specs.Requests as asks
 use Rattle.ot_reason.specs.declared.fault.Fault as code
 use Rattle.ot_reason.specs.declared.fault.Fault.TheVariants as v
@@ -51,10 +51,7 @@ fault_in limits arrays (New name len) = new_fault limits arrays name len (lookup
 fault_in limits arrays (Free name) = free_fault name (lookup (bytes_eq name) arrays)
 fault_in limits arrays (Put name start values) = reach_fault name start (length values) (lookup (bytes_eq name) arrays)
 fault_in limits arrays (Get name start len) = reach_fault name start len (lookup (bytes_eq name) arrays)
-fault_in limits arrays Arrays = None
-fault_in limits arrays asks.Used = None
-fault_in limits arrays Checkpoint = None
-fault_in limits arrays (Run text) = None
+fault_in limits arrays request = None
 
 -- the code that is told of a fault
 abbrev pub code_of : Fault → ℕ
@@ -68,14 +65,9 @@ code_of (TooManyArrays has may) = 416
 
 -- the code of a refusal
 abbrev pub refusal_in : Told → Option ℕ
-refusal_in Accepted = None
-refusal_in (Cells values) = None
-refusal_in (told.Arrays arrays) = None
-refusal_in (told.Used units) = None
-refusal_in (Done tasks units shows) = None
 refusal_in (Refused code) = Some code
 refusal_in (Offends code place) = Some code
-refusal_in Lost = None
+refusal_in other = None
 
 -- a request that is answered at once is refused by this code, or isn't refused
 abbrev pub IsRefusedBy : Option ℕ → Step → Type 0

@@ -6,7 +6,8 @@ ghost use Rattle.ot_model.specs.Programs.{arrays_of};
 ghost use Rattle.ot_book.specs.Requests.{request_of, form_of, new_of, free_of, put_of, get_of};
 ghost use Rattle.ot_reason.specs.Faults.{cells_of, fault_in, free_fault, new_fault, reach_fault, fault_by};
 
-use crate::form::{read_name, read_numbers, read_size};
+use crate::form::read_numbers;
+use ot_book::{read_name, read_size};
 use ot_model::ArrayShape;
 use ot_program::is_word;
 use ot_store::Limits;

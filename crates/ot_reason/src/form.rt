@@ -1,9 +1,8 @@
 //! The forms of requests, and what stands in them.
 ghost use Rattle.std.specs.Prelude.{◌≡◌, ℕ, List, Some, None, length, MatchOption, option_map};
 ghost use Rattle.serde_json.specs.View.{view, items_view};
-ghost use Rattle.ot_book.specs.Requests.{name_in, size_in, numbers_in, all_numbers};
+ghost use Rattle.ot_book.specs.Requests.{numbers_in, all_numbers};
 
-use ot_program::is_name;
 use serde_json::Value;
 
 /// What stands behind the word of a request.
@@ -48,26 +47,6 @@ pub(crate) fn form_called(word: &str) -> Option<Form> {
         _ => return None,
     };
     Some(Form { text, parts })
-}
-
-/// A name of an array.
-pub(crate) fn read_name(value: &Value) -> Option<&str>
-    ensures { option_map (λ name. name.now) result ≡ name_in (view value.now) }
-{
-    match value {
-        Value::String(text) if is_name(text.as_str()) => Some(text.as_str()),
-        _ => None,
-    }
-}
-
-/// A whole number from `low` to 2^32 - 1.
-pub(crate) fn read_size(value: &Value, low: u32) -> Option<u32>
-    ensures { result ≡ size_in low (view value.now) }
-{
-    match value.as_u64() {
-        Some(number) if u64::from(low) <= number && number < 1 << 32 => Some(number as u32),
-        _ => None,
-    }
 }
 
 /// At least one number from 0 to 2^64 - 1: the items that stand for them.

@@ -4,10 +4,10 @@ ghost use Rattle.serde_json.specs.Data.{array};
 ghost use Rattle.serde_json.specs.View.{view, items_view};
 ghost use Rattle.ot_model.specs.Programs.{expanded_of};
 ghost use Rattle.ot_program.specs.Programs.{program_of};
-ghost use Rattle.ot_book.specs.Answers.{value_of};
 ghost use Rattle.ot_reason.specs.Runs.{run_in, run_of, read_or_none};
 
 use crate::program::is_second;
+use ot_book::read_line;
 use ot_model::{Program, Shape};
 use ot_program::{ProgramFault, is_word, read_program};
 use serde_json::Value;
@@ -24,21 +24,6 @@ pub fn program_in_line(
     match read_line(alloc, line)? {
         Some(value) => program_of_value(alloc, &value, shape),
         None => Ok(None),
-    }
-}
-
-/// The value of a line, where it is JSON in UTF-8.
-fn read_line(alloc: Global, line: &[u8]) -> Result<Option<Value>, AllocError>
-    ensures { IfOk result (λ value. option_map view value ≡ value_of line.now) }
-{
-    match Value::from_slice(alloc, line) {
-        Ok(value) => Ok(Some(value)),
-        Err(error) => {
-            if error.is_memory() {
-                return Err(AllocError);
-            }
-            Ok(None)
-        }
     }
 }
 

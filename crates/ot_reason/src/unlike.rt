@@ -1,5 +1,6 @@
 //! Lines that are JSON and no request: which request one begins like, and what that one wants.
-use crate::form::{Form, Part, first_other, form_called, read_name, read_numbers, read_size};
+use crate::form::{Form, Part, first_other, form_called};
+use ot_book::{read_name, read_size};
 use serde_json::Value;
 use std::alloc::{AllocError, Global};
 

@@ -4,7 +4,8 @@ use Rattle.std.specs.Prelude.{Option, Some}
 use Rattle.ot_model.specs.Programs.{Expanded}
 use Rattle.ot_check.specs.Offences.{code_of, Offends}
 use Rattle.ot_check.specs.declared.fault.Offence.{Offence}
-use Rattle.ot_report.specs.Report.{StandAt, StandIn, note_by, stands_of}
+use Rattle.ot_report.specs.Report.{StandAt, StandIn}
+use Rattle.ot_report.specs.NoteView.{note_by, stands_of}
 use Rattle.ot_report.specs.declared.note.Note.{Note}
 
 -- ---- programs

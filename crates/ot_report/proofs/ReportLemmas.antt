@@ -2,9 +2,11 @@
 use Rattle.std.proofs.Common.{◌≡◌, ◌≤◌, ℕ, ◌+◌, List, [], ◌∷◌, ◌++◌, length, map, codes, refl, sym, ap, ◌∙◌, subst, arith, append_assoc, append-nil, length-append}
 use Rattle.std.specs.Prelude.{Option, option_and_then}
 use Rattle.ot_file.specs.declared.position.Position.{Position}
-use Rattle.ot_judge.specs.Judging.{Refusal, code_in, told_in, IsPlaced, Standing, Goes, IsSeen}
+use Rattle.ot_judge.specs.Judging.{Refusal, told_in, IsPlaced, Standing, Goes, IsSeen}
+use Rattle.ot_book.specs.Answers.{code_in}
 use Rattle.ot_judge.specs.declared.findings.Finding.{Finding}
-use Rattle.ot_report.specs.Report.{Names, place_text, words_of, error_line, notes_text, AreNotes, Reports, note_by, stands_of}
+use Rattle.ot_report.specs.Report.{Names, place_text, words_of, error_line, notes_text, AreNotes, Reports}
+use Rattle.ot_report.specs.NoteView.{note_by, stands_of}
 use Rattle.ot_report.specs.declared.note.Note.{Note}
 use Rattle.ot_report.proofs.NoteLemmas.{stands-notes}
 

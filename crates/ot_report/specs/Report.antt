@@ -1,9 +1,10 @@
 -- At which statements the notes behind a refusal stand.
-use Rattle.std.specs.Prelude.{◌≡◌, ℕ, ◌==◌, List, [], ◌∷◌, ◌++◌, map, flat_map, codes, if◌then◌else◌, Option, Some, None, option_and_then, ◌-◌, length, slice_get, All, string_bytes}
+use Rattle.std.specs.Prelude.{◌≡◌, [], ℕ, ◌==◌, List, ◌∷◌, ◌++◌, map, flat_map, codes, if◌then◌else◌, Option, Some, None, option_and_then, ◌-◌, length, slice_get, All}
 use Rattle.std.specs.Fmt.{decimal}
 use Rattle.ot_file.specs.declared.position.Position.{Position}
 use Rattle.ot_reason.specs.Sentences.{sentence_of}
-use Rattle.ot_judge.specs.Judging.{Refusal, code_in, told_in, IsPlaced, statement_position}
+use Rattle.ot_judge.specs.Judging.{Refusal, told_in, IsPlaced, statement_position}
+use Rattle.ot_book.specs.Answers.{code_in}
 use Rattle.ot_model.specs.Programs.{Expanded}
 use Rattle.ot_model.specs.Tree.{Body}
 use Rattle.ot_check.specs.Offences.{code_of, Offends}
@@ -13,7 +14,6 @@ use Rattle.ot_store.specs.Arrays.{shape_in}
 use Rattle.ot_book.specs.Books.{Register}
 use Rattle.ot_book.specs.Answers as r
 use Rattle.ot_reason.specs.Runs.{run_in}
-use Rattle.ot_report.specs.declared.note.Note.{Note}
 
 -- the last line of a book's log, and what was told
 abbrev pub last_entry : Register → Option (List ℕ × r.Told)
@@ -86,12 +86,3 @@ Reports name blank [] text = text ≡ []
 Reports name blank (one ∷ others) text =
     (p : Position) × (notes : List ℕ) × (later : List ℕ) × IsPlaced blank one p × AreNotes name blank one p notes
     × (text ≡ error_line name p (option_and_then code_in (told_in one)) ++ (notes ++ later)) × Reports name blank others later
-
--- What a note of the code stands for.
-
-abbrev pub note_by : Note → Option ℕ × List ℕ
-note_by note = (note.number, string_bytes note.words)
-
--- the statements at which they stand
-abbrev pub stands_of : List Note → List (Option ℕ)
-stands_of notes = map (λ note. note.number) notes

@@ -1,7 +1,9 @@
 //! The notes behind a refusal.
 ghost use Rattle.std.specs.Prelude.{◌≡◌, ◌++◌, ◌≤◌, ℕ, List, OnOk, IfOk, length, map, string_bytes, option_and_then, Some, option_map, [], ◌∷◌};
-ghost use Rattle.ot_judge.specs.Judging.{Refusal, code_in, told_in, IsBehind};
-ghost use Rattle.ot_report.specs.Report.{Names, NamesBy, StandIn, last_entry, notes_text, note_by, stands_of};
+ghost use Rattle.ot_judge.specs.Judging.{Refusal, told_in, IsBehind};
+ghost use Rattle.ot_book.specs.Answers.{code_in};
+ghost use Rattle.ot_report.specs.Report.{Names, NamesBy, StandIn, last_entry, notes_text};
+ghost use Rattle.ot_report.specs.NoteView.{note_by, stands_of};
 
 use crate::line::put_note;
 use crate::note::Note;

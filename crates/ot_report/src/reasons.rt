@@ -1,6 +1,6 @@
 //! The reasons of a refusal as notes.
 ghost use Rattle.std.specs.Prelude.{◌≡◌, None, IfOk, All};
-ghost use Rattle.ot_report.specs.Report.{stands_of};
+ghost use Rattle.ot_report.specs.NoteView.{stands_of};
 
 use crate::note::Note;
 use ot_book::{Book, Code};

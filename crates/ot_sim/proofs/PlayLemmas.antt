@@ -7,7 +7,7 @@ use Rattle.std.proofs.lemmas.Bool.Decides.{leb_tells}
 use Rattle.ot_book.specs.Answers.{Told, text_of as reply_text}
 use Rattle.ot_core.specs.Scenes.{Scene}
 use Rattle.ot_sim.specs.Playing.{reply_lines, replies_at, count_at, news}
-use Rattle.ot_sim.specs.Talk.{counts_at}
+use Rattle.ot_sim.specs.Running.{counts_at}
 
 -- a text so far, and one more reply of the rest
 pub reply-on : (name text : List ℕ) (r : ℕ × Told) (rs : List (ℕ × Told)) (one all : List ℕ) →

@@ -15,7 +15,8 @@ use Rattle.ot_sim.specs.declared.fault.Untold.TheVariants as untold
 use Rattle.ot_sim.specs.declared.fault.SimFault.{SimFault}
 use Rattle.ot_sim.specs.declared.fault.SimFault.TheVariants as fault
 use Rattle.ot_sim.specs.Playing.{empty_play}
-use Rattle.ot_sim.specs.Talk.{PlaysAll, Talks, TalksAll, StopsAtLong, TalksBy, TalksOver, untold_fault, untold_writes, sim_bounds, TakesLine, IsRun}
+use Rattle.ot_sim.specs.Talk.{PlaysAll, Talks, TalksAll, StopsAtLong, TalksBy, TalksOver}
+use Rattle.ot_sim.specs.Running.{untold_fault, untold_writes, sim_bounds, TakesLine, IsRun}
 
 -- ---- what is told
 

@@ -1,3 +1,4 @@
 pub mod Lines
 pub mod Playing
 pub mod Talk
+pub mod Running

@@ -1,6 +1,6 @@
 //! How sim goes wrong.
 ghost use Rattle.std.specs.Prelude.{◌≡◌};
-ghost use Rattle.ot_sim.specs.Talk.{untold_fault};
+ghost use Rattle.ot_sim.specs.Running.{untold_fault};
 ghost use Rattle.ot_sim.specs.declared.fault.Untold.TheVariants.{Memory};
 
 use std::alloc::{AllocError, AllocFailed};

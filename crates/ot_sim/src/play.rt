@@ -5,7 +5,7 @@ ghost use Rattle.ot_core.specs.Scenes.{Scene};
 ghost use Rattle.ot_front.specs.Serving.{count_after};
 ghost use Rattle.ot_sim.specs.declared.line.Line.TheVariants as line;
 ghost use Rattle.ot_sim.specs.Playing.{place_of, answer_text, event_of, answer_of, saying_of, PlaysIn, Happens, replies_at, count_at, last_reply, reply_lines, news, usage_text, Plays, PlaysLine, PlaysOn, empty_play};
-ghost use Rattle.ot_sim.specs.Talk.{untold_writes, WritesText, counts_at, begun};
+ghost use Rattle.ot_sim.specs.Running.{untold_writes, WritesText, counts_at, begun};
 
 use crate::answer::{Answer, write_answer};
 use crate::fault::Untold;

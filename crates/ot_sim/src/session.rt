@@ -4,7 +4,8 @@ ghost use Rattle.std.specs.Io.KnownBytes.{IsAtEnd};
 ghost use Rattle.ot_lines.specs.Lines.{flow, opened};
 ghost use Rattle.ot_front.specs.Serving.{next_count, count_after};
 ghost use Rattle.ot_sim.specs.Playing.{empty_play};
-ghost use Rattle.ot_sim.specs.Talk.{TalksOver, sim_bounds, IsRun, TakesLine};
+ghost use Rattle.ot_sim.specs.Talk.{TalksOver};
+ghost use Rattle.ot_sim.specs.Running.{sim_bounds, IsRun, TakesLine};
 ghost use Rattle.ot_sim.specs.declared.fault.SimFault.TheVariants.{ReadFailed, WriteFailed, TooManyTurns};
 
 use crate::fault::{SimFault, Untold};

@@ -52,8 +52,7 @@ impl Task {
     ghost use Rattle.ot_model.specs.declared.stmt.Use.{Use};
     ghost use Rattle.ot_parts.specs.Parts.{past_control, parts_of};
     ghost use Rattle.ot_parts.specs.Assigns.{AreHeldBy};
-    ghost use Rattle.ot_depend.specs.Siblings.{IsReady, IsUnfinished, is_ready, with_finished};
-    ghost use Rattle.ot_depend.specs.Kept.{LetsTheSame, WaitForLess};
+    ghost use Rattle.ot_depend.specs.Siblings.{IsReady, IsUnfinished, is_ready, with_finished, LetsTheSame, WaitForLess};
     ghost use Rattle.ot_task.specs.Pieces.{leading, behind, test_of, awake, begun, Runs, group_passed, is_at_end};
 
     /// The root task at the beginning of the program's body. It takes no memory.

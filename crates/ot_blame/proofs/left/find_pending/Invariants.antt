@@ -1,7 +1,7 @@
 use Rattle.std.proofs.Common.{◌≡◌, ℕ, ◌≤◌, ◌<◌, length}
 use Rattle.std.specs.Prelude.{None}
 use Rattle.ot_model.specs.View.{stmts_of}
-use Rattle.ot_blame.specs.Races.{carried}
+use Rattle.ot_blame.specs.Walk.{carried}
 use Rattle.ot_blame.proofs.left.find_pending.Given as goal
 
 abbrev pub decreases-loop-task : goal.decreases-loop-task

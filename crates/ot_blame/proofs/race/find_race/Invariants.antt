@@ -1,6 +1,6 @@
 use Rattle.std.proofs.Common.{ℕ, ◌<◌, length}
 use Rattle.ot_model.specs.View.{stmts_of}
-use Rattle.ot_blame.specs.Races.{IsSpared}
+use Rattle.ot_blame.specs.Walk.{IsSpared}
 use Rattle.ot_blame.proofs.race.find_race.Given as goal
 
 abbrev pub decreases-loop-child : goal.decreases-loop-child

@@ -1,7 +1,7 @@
 use Rattle.std.proofs.Common.{ℕ, List, None, Some, ap, subst}
 use Rattle.ot_model.specs.declared.stmt.Use.{Use}
 use Rattle.ot_model.specs.View.{stmt_of, stmts_of}
-use Rattle.ot_blame.specs.Races.{pending_of, Arrives}
+use Rattle.ot_blame.specs.Walk.{pending_of, Arrives}
 use Rattle.ot_blame.proofs.WalkLemmas.{somewhere_of}
 use Rattle.ot_blame.proofs.race.race_with.Goals as goal
 

@@ -1,5 +1,5 @@
 use Rattle.ot_model.specs.View.{stmt_of, stmts_of}
-use Rattle.ot_blame.specs.Races.{pending_of}
+use Rattle.ot_blame.specs.Walk.{pending_of}
 use Rattle.ot_blame.proofs.WalkLemmas.{is_at_of}
 use Rattle.ot_blame.proofs.race.statement_at.Goals as goal
 

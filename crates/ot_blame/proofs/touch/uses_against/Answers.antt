@@ -3,7 +3,8 @@ use Rattle.std.specs.List.{list_any}
 use Rattle.ot_model.specs.Cells.{same_cell}
 use Rattle.ot_model.specs.declared.stmt.Mode.TheVariants.{Writes}
 use Rattle.ot_check.proofs.Cited.{stmt_of-Group}
-use Rattle.ot_blame.specs.Races.{uses_of, is_against}
+use Rattle.ot_blame.specs.Races.{uses_of}
+use Rattle.ot_blame.specs.Walk.{is_against}
 use Rattle.ot_blame.proofs.TouchLemmas.{used-so}
 use Rattle.ot_blame.proofs.touch.uses_against.Goals as goal
 

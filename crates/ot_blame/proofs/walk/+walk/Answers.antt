@@ -6,7 +6,7 @@ use Rattle.ot_model.specs.View.{expr_of, stmt_of, stmts_of}
 use Rattle.ot_check.specs.Offences.{PassesOne, Passes, awaits}
 use Rattle.ot_check.proofs.Cited.{if_ok, stmt_of-Set, stmt_of-Fold, stmt_of-If, stmt_of-Task, stmt_of-Wait, stmt_of-Group, rest_is, rest_none}
 use Rattle.ot_check.specs.Discipline.{through}
-use Rattle.ot_blame.specs.Races.{Pending, pending_of, carried, met, Carries, Arrives, ArrivesOne}
+use Rattle.ot_blame.specs.Walk.{Pending, pending_of, carried, met, Carries, Arrives, ArrivesOne}
 use Rattle.ot_blame.proofs.WalkLemmas.{if_err, carries-set, carries-fold, carries-none, carries-first, carries-second, carries-task, carries-made, carries-wait, carries-group, carries-next, arrives-here, arrives-first, arrives-second, arrives-task, arrives-group, arrives-next, arrives-later}
 use Rattle.ot_blame.proofs.FollowLemmas.{or-cases, if-cases, only-cases, declares_not, met-here, follows_past, follows_still, follows_other, follows_first, carried-next, met-next, met-first}
 use Rattle.ot_blame.proofs.walk.+walk.Goals as goal

@@ -2,7 +2,7 @@ use Rattle.std.proofs.Common.{◌≡◌, ℕ, ◌+◌, drop}
 use Rattle.ot_model.specs.View.{stmts_of}
 use Rattle.ot_model.specs.Tree.{S, size}
 use Rattle.ot_check.specs.Offences.{Passes}
-use Rattle.ot_blame.specs.Races.{Pending, pending_of, carried, met, Carries, Arrives}
+use Rattle.ot_blame.specs.Walk.{Pending, pending_of, carried, met, Carries, Arrives}
 use Rattle.ot_blame.proofs.walk.+walk.Given as goal
 
 abbrev pub invariant-walk-loop-stmt : goal.invariant-walk-loop-stmt

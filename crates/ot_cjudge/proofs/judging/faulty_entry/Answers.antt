@@ -1,7 +1,6 @@
 use Rattle.std.proofs.Common.{◌≡◌, ap, subst, option_map, unwrap_or}
 use Rattle.serde_json.specs.View.{view}
-use Rattle.ot_fault.specs.Walk.{first_fault, found_by}
-use Rattle.ot_fault.specs.Whys.{shape_of}
+use Rattle.ot_fault.specs.Whys.{first_fault, found_by, shape_of}
 use Rattle.ot_cjudge.specs.Reports.{faulty}
 use Rattle.ot_cjudge.proofs.judging.faulty_entry.Goals as goal
 

@@ -2,8 +2,8 @@ use Rattle.std.proofs.Common.{◌∙◌, List, Some, map, sym, ap, arith}
 use Rattle.serde_json.specs.View.{view}
 use Rattle.ot_place.specs.Spots.{Spot}
 use Rattle.ot_place.proofs.PlaceLemmas.{no_program}
-use Rattle.ot_fault.specs.Walk.{first_among, step_by}
-use Rattle.ot_fault.specs.Whys.{shape_of}
+use Rattle.ot_fault.specs.Whys.{first_among, shape_of}
+use Rattle.ot_fault.specs.Walk.{step_by}
 use Rattle.ot_fault.specs.declared.find.Step.{Step}
 use Rattle.ot_fault.proofs.EntryLemmas.{program_walked}
 use Rattle.ot_fault.proofs.FirstLemmas.{placed_of, met_in}

@@ -1,7 +1,8 @@
 use Rattle.std.proofs.Common.{suc, drop, sym, ap, subst, ◌∙◌, Vec, Global}
 use Rattle.std.proofs.lemmas.List.{take_all}
 use Rattle.ot_model.specs.declared.expr.Cell.{Cell}
-use Rattle.ot_graph.specs.Links.{cells_at, IsRow}
+use Rattle.ot_graph.specs.Links.{cells_at}
+use Rattle.ot_graph.specs.Written.{IsRow}
 use Rattle.ot_graph.proofs.LabelLemmas.{cells_met, cells_unmet, nowhere}
 use Rattle.ot_graph.proofs.label.cells_of.Goals as goal
 use Rattle.ot_graph.proofs.label.cells_of.Goals.{then-is_met+in_ok-push, else-is_met}

@@ -1,5 +1,5 @@
 use Rattle.std.proofs.Common.{◌≡◌, map, take}
-use Rattle.ot_graph.specs.Links.{up_to}
+use Rattle.ot_graph.specs.Written.{up_to}
 use Rattle.ot_graph.proofs.label.row_of.Given as goal
 
 abbrev pub invariant-loop-used : goal.invariant-loop-used

@@ -3,7 +3,7 @@ use Rattle.std.proofs.lemmas.List.{get_or-map, length-append, length-map, map-ap
 use Rattle.ot_model.specs.declared.stmt.Use.{Use}
 use Rattle.ot_depend.specs.Siblings.{writes_cell}
 use Rattle.ot_graph.specs.Children.{decls_of}
-use Rattle.ot_graph.specs.Links.{IsRow, up_to}
+use Rattle.ot_graph.specs.Written.{IsRow, up_to}
 use Rattle.ot_graph.specs.declared.child.Child.{Child}
 use Rattle.ot_graph.proofs.LabelLemmas.{row_is, rows_more, upto_more}
 use Rattle.ot_graph.proofs.label.rows_of.Goals as goal

@@ -1,7 +1,7 @@
 use Rattle.std.proofs.Common.{◌≡◌, length, map, take}
 use Rattle.ot_model.specs.declared.expr.Cell.{Cell}
 use Rattle.ot_graph.specs.Children.{decls_of}
-use Rattle.ot_graph.specs.Links.{AreRows, IsWrittenUpTo, up_to}
+use Rattle.ot_graph.specs.Written.{AreRows, IsWrittenUpTo, up_to}
 use Rattle.ot_graph.proofs.label.rows_of.Given as goal
 
 abbrev pub invariant-loop-child : goal.invariant-loop-child

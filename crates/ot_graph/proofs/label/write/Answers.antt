@@ -1,4 +1,4 @@
-use Rattle.ot_graph.specs.Links.{up_to}
+use Rattle.ot_graph.specs.Written.{up_to}
 use Rattle.ot_graph.proofs.LabelLemmas.{write_more, nowhere}
 use Rattle.ot_graph.proofs.label.write.Goals as goal
 

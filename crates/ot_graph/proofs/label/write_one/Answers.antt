@@ -1,7 +1,7 @@
 use Rattle.std.proofs.Common.{cond, sym, ap, ◌∙◌}
 use Rattle.std.specs.BTreeMap.{get}
 use Rattle.ot_model.specs.Cells.{same_cell}
-use Rattle.ot_graph.specs.Links.{cell_order, up_to}
+use Rattle.ot_graph.specs.Written.{cell_order, up_to}
 use Rattle.ot_graph.proofs.LabelLemmas.{kept_more, and_is}
 use Rattle.ot_graph.proofs.label.write_one.Goals as goal
 

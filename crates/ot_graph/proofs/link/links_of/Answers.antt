@@ -1,7 +1,7 @@
 use Rattle.std.proofs.Common.{◌≡◌, ◌+◌, ◌<◌, ◌≤◌, ◌++◌, ◌∙◌, suc, length, map, sym, ap, subst, arith}
 use Rattle.std.proofs.Math.ListN.{length-map}
 use Rattle.ot_depend.specs.Siblings.{IsReady, IsUnfinished}
-use Rattle.ot_graph.specs.Links.{link_from}
+use Rattle.ot_graph.specs.Written.{link_from}
 use Rattle.ot_graph.specs.Children.{decls_of}
 use Rattle.ot_graph.specs.declared.child.Child.{Child}
 use Rattle.ot_graph.proofs.LinkLemmas.{ready, unfinished, one_on, all_links}

@@ -1,5 +1,5 @@
 use Rattle.std.proofs.Common.{◌≡◌, ◌++◌, map, take}
-use Rattle.ot_graph.specs.Links.{link_from}
+use Rattle.ot_graph.specs.Written.{link_from}
 use Rattle.ot_graph.proofs.link.put_links.Given as goal
 
 abbrev pub invariant-loop-later : goal.invariant-loop-later

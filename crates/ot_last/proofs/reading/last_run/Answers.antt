@@ -1,5 +1,5 @@
 use Rattle.std.proofs.Common.{sym, subst, ◌∙◌}
-use Rattle.ot_last.specs.Going.{Finds}
+use Rattle.ot_last.specs.LastRuns.{Finds}
 use Rattle.ot_last.proofs.GoingLemmas.{finds, told_failed, told_worked}
 use Rattle.ot_last.proofs.reading.last_run.Goals as goal
 

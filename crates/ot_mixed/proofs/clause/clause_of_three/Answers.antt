@@ -5,7 +5,7 @@ use Rattle.serde_json.specs.View.{view}
 use Rattle.ot_program.specs.Faults.{clause_faults}
 use Rattle.ot_program.specs.Meanings.{clause}
 use Rattle.ot_place.specs.Spots.{bindings_of}
-use Rattle.ot_mixed.specs.Mixed.{row_of, row_by, Fits}
+use Rattle.ot_mixed.specs.Rows.{row_of, row_by, Fits}
 use Rattle.ot_mixed.proofs.ClauseLemmas.{three_items, three_folds, folds_row}
 use Rattle.ot_mixed.proofs.clause.clause_of_three.Goals as goal
 

@@ -1,6 +1,6 @@
 use Rattle.std.proofs.Common.{◌≡◌, drop}
 use Rattle.ot_model.specs.Programs.{arrays_of}
-use Rattle.ot_mixed.specs.Mixed.{place_from}
+use Rattle.ot_mixed.specs.Rows.{place_from}
 use Rattle.ot_mixed.proofs.clause.place_of.Given as goal
 
 -- what the rest of the arrays gives is what all of them give

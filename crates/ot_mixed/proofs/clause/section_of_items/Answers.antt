@@ -4,7 +4,7 @@ use Rattle.serde_json.specs.Data.{Data}
 use Rattle.ot_program.specs.Faults.{section_faults}
 use Rattle.ot_program.specs.Meanings.{section}
 use Rattle.ot_place.specs.Spots.{bindings_of}
-use Rattle.ot_mixed.specs.Mixed.{row_at, row_by, Fits}
+use Rattle.ot_mixed.specs.Rows.{row_at, row_by, Fits}
 use Rattle.ot_mixed.proofs.ClauseLemmas.{section_wrong, three_items}
 use Rattle.ot_mixed.proofs.clause.section_of_items.Goals as goal
 

@@ -1,7 +1,7 @@
 use Rattle.ot_program.specs.Faults.{clause_faults}
 use Rattle.ot_program.specs.Meanings.{clause}
 use Rattle.ot_place.specs.Spots.{bindings_of}
-use Rattle.ot_mixed.specs.Mixed.{row_of, Fits}
+use Rattle.ot_mixed.specs.Rows.{row_of, Fits}
 use Rattle.ot_mixed.proofs.RowLemmas.{one_faultless, rows_next, rows_end, fits_next, fits_end}
 use Rattle.ot_mixed.proofs.mixed.each_clause.Goals as goal
 

@@ -7,7 +7,7 @@ use Rattle.ot_program.specs.Faults.{clause_faults}
 use Rattle.ot_program.specs.Meanings.{each, clause}
 use Rattle.ot_place.specs.Spots.{bindings_of}
 use Rattle.ot_place.specs.Texts.{Profile}
-use Rattle.ot_mixed.specs.Mixed.{row_of, row_by, Fits}
+use Rattle.ot_mixed.specs.Rows.{row_of, row_by, Fits}
 use Rattle.ot_mixed.proofs.mixed.each_clause.Given as goal
 
 -- the rows so far with those of the rest are those of all; where the rest fits, all do

@@ -1,6 +1,6 @@
 use Rattle.std.proofs.Common.{◌≡◌, drop}
 use Rattle.std.specs.Prelude.{map, None}
-use Rattle.ot_mixed.specs.Mixed.{row_by, sweep}
+use Rattle.ot_mixed.specs.Rows.{row_by, sweep}
 use Rattle.ot_mixed.proofs.mixed.first_mixed.Given as goal
 
 -- what is met among all is met among the rest

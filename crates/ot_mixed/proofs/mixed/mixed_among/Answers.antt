@@ -4,7 +4,7 @@ use Rattle.std.proofs.lemmas.List.Sorted.{IsNonDecreasingBy-from_sort_by_key}
 use Rattle.serde_json.specs.View.{items_view}
 use Rattle.ot_program.specs.Meanings.{each, clause}
 use Rattle.ot_place.specs.Spots.{bindings_of}
-use Rattle.ot_mixed.specs.Mixed.{row_by, sweep}
+use Rattle.ot_mixed.specs.Rows.{row_by, sweep}
 use Rattle.ot_mixed.specs.declared.clause.Named.{Named}
 use Rattle.ot_mixed.proofs.CellLemmas.{told_of}
 use Rattle.ot_mixed.proofs.RowLemmas.{told_among}

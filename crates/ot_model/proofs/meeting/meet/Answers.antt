@@ -1,5 +1,5 @@
 use Rattle.std.proofs.Common.{get_or, ◌∙◌, sym}
-use Rattle.ot_model.specs.Cells.{asked}
+use Rattle.ot_model.specs.Meeting.{asked}
 use Rattle.ot_model.specs.declared.stmt.Mode.TheVariants.{Reads}
 use Rattle.ot_model.specs.declared.stmt.Use.{Use}
 use Rattle.ot_model.proofs.MeetingLemmas.{stands, pass-one, pass-two, pass-both}

@@ -1,5 +1,5 @@
 use Rattle.std.proofs.Common.{length, ◌-◌, ◌+◌}
-use Rattle.ot_model.specs.Cells.{asked}
+use Rattle.ot_model.specs.Meeting.{asked}
 use Rattle.ot_model.proofs.MeetingLemmas.{NoneBefore}
 use Rattle.ot_model.proofs.meeting.meet.Given as goal
 

@@ -1,7 +1,7 @@
 use Rattle.std.proofs.Common.{rules, ap}
 use Rattle.ot_model.specs.Programs.{expanded_of}
 use Rattle.ot_judge.proofs.FindingLemmas.{match_none}
-use Rattle.ot_report.specs.Report.{stands_of}
+use Rattle.ot_report.specs.NoteView.{stands_of}
 use Rattle.ot_report.proofs.NoteLemmas.{no_blame}
 use Rattle.ot_report.proofs.notes.blame_notes.Goals as goal
 

@@ -1,5 +1,6 @@
 use Rattle.std.proofs.Common.{◌≡◌, ◌++◌, map, take}
-use Rattle.ot_report.specs.Report.{note_by, notes_text}
+use Rattle.ot_report.specs.NoteView.{note_by}
+use Rattle.ot_report.specs.Report.{notes_text}
 use Rattle.ot_report.proofs.notes.put_notes.Given as goal
 
 abbrev pub invariant-loop-note : goal.invariant-loop-note

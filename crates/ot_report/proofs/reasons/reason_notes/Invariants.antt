@@ -1,6 +1,6 @@
 use Rattle.std.proofs.Common.{◌≡◌}
 use Rattle.std.specs.Prelude.{None, All}
-use Rattle.ot_report.specs.Report.{stands_of}
+use Rattle.ot_report.specs.NoteView.{stands_of}
 use Rattle.ot_report.proofs.reasons.reason_notes.Given as goal
 
 abbrev pub invariant-loop-reason : goal.invariant-loop-reason

@@ -1,7 +1,8 @@
 use Rattle.std.proofs.Common.{◌++◌, map, sym, ap, ◌∙◌, subst, arith}
 use Rattle.ot_judge.specs.Judging.{IsPlaced, Standing, Goes, IsBehind}
 use Rattle.ot_judge.proofs.FindingLemmas.{match_none, match_some}
-use Rattle.ot_report.specs.Report.{note_by, notes_text}
+use Rattle.ot_report.specs.NoteView.{note_by}
+use Rattle.ot_report.specs.Report.{notes_text}
 use Rattle.ot_report.proofs.ReportLemmas.{reporting_more, reporting_ends, are_notes, more_bytes}
 use Rattle.ot_report.proofs.reporting.report_all.Goals as goal
 

@@ -1,5 +1,5 @@
 use Rattle.std.proofs.Common.{◌≡◌}
-use Rattle.ot_sim.specs.Talk.{counts_at}
+use Rattle.ot_sim.specs.Running.{counts_at}
 use Rattle.ot_sim.proofs.play.counts_given.Given as goal
 
 abbrev pub invariant-loop-tenant : goal.invariant-loop-tenant

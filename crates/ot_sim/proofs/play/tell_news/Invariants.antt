@@ -3,7 +3,7 @@ use Rattle.std.specs.Prelude.{string_bytes}
 use Rattle.std.specs.Io.KnownBytes.{Appends}
 use Rattle.ot_core.specs.Scenes.{Scene}
 use Rattle.ot_sim.specs.Playing.{news}
-use Rattle.ot_sim.specs.Talk.{counts_at}
+use Rattle.ot_sim.specs.Running.{counts_at}
 use Rattle.ot_sim.proofs.play.tell_news.Given as goal
 
 -- what is written, and the news of the rest behind it

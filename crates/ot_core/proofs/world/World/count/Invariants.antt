@@ -1,6 +1,6 @@
 use Rattle.std.proofs.Common.{◌≡◌, ◌≤◌, ◌<◌, ◌*◌, ℕ}
 use Rattle.ot_core.specs.Floors.{job_of}
-use Rattle.ot_core.specs.Draining.{sum_below, moves_at, LivelyAt}
+use Rattle.ot_core.specs.Toil.{sum_below, moves_at, LivelyAt}
 use Rattle.ot_core.proofs.world.World.count.Given as goal
 
 abbrev pub invariant-loop-tenant : goal.invariant-loop-tenant

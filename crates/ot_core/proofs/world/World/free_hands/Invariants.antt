@@ -1,6 +1,6 @@
 use Rattle.std.proofs.Common.{◌≡◌, ◌≤◌, take}
 use Rattle.std.specs.List.{sum_by}
-use Rattle.ot_core.specs.Draining.{free_hand}
+use Rattle.ot_core.specs.Toil.{free_hand}
 use Rattle.ot_core.proofs.world.World.free_hands.Given as goal
 
 abbrev pub invariant-loop-hand : goal.invariant-loop-hand

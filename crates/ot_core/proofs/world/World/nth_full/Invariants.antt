@@ -1,6 +1,6 @@
 use Rattle.std.proofs.Common.{◌≡◌, ◌+◌, take}
 use Rattle.std.specs.List.{sum_by}
-use Rattle.ot_core.specs.Draining.{full_hand}
+use Rattle.ot_core.specs.Toil.{full_hand}
 use Rattle.ot_core.proofs.world.World.nth_full.Given as goal
 
 abbrev pub invariant-loop-hand : goal.invariant-loop-hand

@@ -1,4 +1,5 @@
-use Rattle.ot_core.specs.Draining.{toil, Drains}
+use Rattle.ot_core.specs.Toil.{toil}
+use Rattle.ot_core.specs.Draining.{Drains}
 use Rattle.ot_core.proofs.world.World.take_moves.Given as goal
 
 abbrev pub invariant-loop-alloc : goal.invariant-loop-alloc

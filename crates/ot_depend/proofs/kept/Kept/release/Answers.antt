@@ -4,8 +4,8 @@ use Rattle.std.proofs.lemmas.Option.{slice_get_within}
 use Rattle.std.proofs.lemmas.List.{length-map}
 use Rattle.ot_model.specs.Cells.{updated}
 use Rattle.ot_model.proofs.CellsLemmas.{length-updated}
-use Rattle.ot_depend.specs.Siblings.{Sibling, FinishedAreReady, is_ready, waiting_for}
-use Rattle.ot_depend.specs.Kept.{Kid, has, times, siblings, woken, ended, waiters_of, WaitForAll}
+use Rattle.ot_depend.specs.Siblings.{Sibling, FinishedAreReady, is_ready, waiting_for, has, times}
+use Rattle.ot_depend.specs.Kept.{Kid, siblings, woken, ended, waiters_of, WaitForAll}
 use Rattle.ot_depend.specs.Children.{kid_of, kids_of}
 use Rattle.ot_depend.specs.View.{IsTrueOf}
 use Rattle.ot_depend.specs.declared.child.Child.{Child}

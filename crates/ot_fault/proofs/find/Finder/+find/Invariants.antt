@@ -4,8 +4,8 @@ use Rattle.serde_json.specs.View.{view, items_view}
 use Rattle.ot_program.specs.Copies.{copies, copies_of, turns, in_order}
 use Rattle.ot_place.specs.Spots.{bindings_of}
 use Rattle.ot_place.specs.Texts.{Profile, depth_of}
-use Rattle.ot_fault.specs.Whys.{IsProfile, short}
-use Rattle.ot_fault.specs.Walk.{walk_on}
+use Rattle.ot_fault.specs.Walk.{IsProfile, walk_on}
+use Rattle.ot_fault.specs.Whys.{short}
 use Rattle.ot_fault.proofs.find.Finder.+find.Given as goal
 
 -- a walk through all items goes on through the rest

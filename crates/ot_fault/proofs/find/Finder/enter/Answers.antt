@@ -2,8 +2,8 @@ use Rattle.std.proofs.Common.{◌≡◌, ◌∙◌, ◌+◌, ℕ, sym, ap, arith
 use Rattle.std.specs.Prelude.{option_map}
 use Rattle.ot_place.specs.Spots.{bindings_of}
 use Rattle.ot_place.specs.Texts.{text_by}
-use Rattle.ot_fault.specs.Walk.{counts_with, past_limits}
-use Rattle.ot_fault.specs.Whys.{shape_of, told_by, why_by, short, after}
+use Rattle.ot_fault.specs.Walk.{counts_with, told_by}
+use Rattle.ot_fault.specs.Whys.{past_limits, shape_of, why_by, short, after}
 use Rattle.ot_fault.proofs.FirstLemmas.{entry_is, entry_met, entry_passed}
 use Rattle.ot_fault.proofs.find.Finder.enter.Goals as goal
 

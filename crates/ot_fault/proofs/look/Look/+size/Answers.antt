@@ -2,7 +2,7 @@ use Rattle.std.proofs.Common.{◌∙◌, sym, ap, rules}
 use Rattle.serde_json.specs.View.{view}
 use Rattle.ot_place.proofs.SizeLemmas.{size-number, size-string, size-three, view-Number, view-String}
 use Rattle.ot_place.proofs.SizeLemmas as sizes
-use Rattle.ot_fault.specs.Whys.{told_by, variables_by}
+use Rattle.ot_fault.specs.Walk.{told_by, variables_by}
 use Rattle.ot_fault.proofs.FormLemmas.{no_size, no_size_but_three}
 use Rattle.ot_fault.proofs.PartLemmas.{number_told, size_whys-string, operation_told}
 use Rattle.ot_fault.proofs.look.Look.+size.Goals as goal

@@ -4,7 +4,7 @@ use Rattle.std.specs.Prelude.{unwrap_or}
 use Rattle.ot_model.specs.declared.expr.Op.TheVariants.{Plus}
 use Rattle.ot_program.specs.Meanings.{op_of, section}
 use Rattle.ot_place.proofs.SizeLemmas.{view-Number, view-String}
-use Rattle.ot_fault.specs.Whys.{shape_by, variables_by}
+use Rattle.ot_fault.specs.Walk.{shape_by, variables_by}
 use Rattle.ot_fault.proofs.AfterLemmas.{after-append}
 use Rattle.ot_fault.proofs.FormLemmas.{no_value, zero_value, no_value_but_three, zero_but_three}
 use Rattle.ot_fault.proofs.PartLemmas.{value_whys-number, value-number, value_whys-string, value-string, value_whys-cell, value-cell, value_whys-pick, value-pick, value_whys-operation, value-operation}

@@ -1,5 +1,5 @@
 use Rattle.serde_json.specs.View.{view}
-use Rattle.ot_fault.specs.Whys.{told_by, shape_by}
+use Rattle.ot_fault.specs.Walk.{told_by, shape_by}
 use Rattle.ot_fault.proofs.PartLemmas.{array_told}
 use Rattle.ot_fault.proofs.look.Look.array.Goals as goal
 

@@ -1,5 +1,6 @@
 use Rattle.std.proofs.Common.{◌≡◌, rules, subst, sym}
-use Rattle.ot_fault.specs.Whys.{after, cell_whys, told_by, shape_by, variables_by}
+use Rattle.ot_fault.specs.Whys.{after, cell_whys}
+use Rattle.ot_fault.specs.Walk.{told_by, shape_by, variables_by}
 use Rattle.ot_mixed.proofs.ClauseLemmas.{three_items}
 use Rattle.ot_fault.proofs.AfterLemmas.{after-append}
 use Rattle.ot_fault.proofs.FormLemmas.{no_cell_but_three}

@@ -1,5 +1,5 @@
 use Rattle.std.proofs.Common.{rules}
-use Rattle.ot_fault.specs.Whys.{shape_by, variables_by}
+use Rattle.ot_fault.specs.Walk.{shape_by, variables_by}
 use Rattle.ot_fault.proofs.ClauseLemmas.{no_clause, no_clause_len}
 use Rattle.ot_fault.proofs.look.Look.clause_of_items.Goals as goal
 

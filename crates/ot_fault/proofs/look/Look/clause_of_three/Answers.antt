@@ -2,7 +2,8 @@ use Rattle.std.proofs.Common.{◌≡◌, ◌∙◌, ap, false, true, refl, subst
 use Rattle.ot_model.specs.declared.expr.Section.{Section}
 use Rattle.ot_place.specs.Texts.{is_second}
 use Rattle.ot_program.specs.Meanings.{clause, is_two}
-use Rattle.ot_fault.specs.Whys.{after, clause_whys, told_by, shape_by, variables_by}
+use Rattle.ot_fault.specs.Whys.{after, clause_whys}
+use Rattle.ot_fault.specs.Walk.{told_by, shape_by, variables_by}
 use Rattle.ot_mixed.proofs.ClauseLemmas.{three_items}
 use Rattle.ot_fault.proofs.AfterLemmas.{after-append}
 use Rattle.ot_fault.proofs.ClauseLemmas.{section-three, len-three}

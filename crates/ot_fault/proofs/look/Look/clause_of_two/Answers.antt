@@ -1,7 +1,8 @@
 use Rattle.std.proofs.Common.{◌≡◌, ◌∙◌, subst, sym, ap}
 use Rattle.serde_json.specs.Data.{Data}
 use Rattle.ot_program.specs.Meanings.{clause}
-use Rattle.ot_fault.specs.Whys.{after, clause_whys, told_by, shape_by, variables_by}
+use Rattle.ot_fault.specs.Whys.{after, clause_whys}
+use Rattle.ot_fault.specs.Walk.{told_by, shape_by, variables_by}
 use Rattle.ot_mixed.proofs.ClauseLemmas.{two_items}
 use Rattle.ot_fault.proofs.AfterLemmas.{after-append}
 use Rattle.ot_fault.proofs.look.Look.clause_of_two.Goals as goal

@@ -4,7 +4,8 @@ use Rattle.serde_json.specs.View.{items_view}
 use Rattle.ot_program.specs.Limits.{cells_in}
 use Rattle.ot_program.specs.Meanings.{each, clause}
 use Rattle.ot_place.specs.Texts.{Profile}
-use Rattle.ot_fault.specs.Whys.{after, long, clause_whys, IsProfile, told_by, shape_by, variables_by}
+use Rattle.ot_fault.specs.Whys.{after, long, clause_whys}
+use Rattle.ot_fault.specs.Walk.{IsProfile, told_by, shape_by, variables_by}
 use Rattle.ot_fault.proofs.look.Look.each_clause.Given as goal
 
 -- what is told, and what was counted, with those of the rest are those of all

@@ -1,6 +1,7 @@
 use Rattle.std.proofs.Common.{◌∙◌, sym, arith, rules}
 use Rattle.ot_program.specs.Meanings.{section}
-use Rattle.ot_fault.specs.Whys.{section_whys, shape_by, variables_by}
+use Rattle.ot_fault.specs.Whys.{section_whys}
+use Rattle.ot_fault.specs.Walk.{shape_by, variables_by}
 use Rattle.ot_fault.proofs.LoopLemmas.{told_next, cells_next, cells_end}
 use Rattle.ot_fault.proofs.look.Look.each_section.Goals as goal
 

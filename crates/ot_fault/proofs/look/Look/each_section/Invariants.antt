@@ -3,7 +3,8 @@ use Rattle.std.specs.Prelude.{map, flat_map}
 use Rattle.serde_json.specs.View.{items_view}
 use Rattle.ot_program.specs.Limits.{cells_in}
 use Rattle.ot_program.specs.Meanings.{each, section}
-use Rattle.ot_fault.specs.Whys.{after, long, section_whys, told_by, shape_by, variables_by}
+use Rattle.ot_fault.specs.Whys.{after, long, section_whys}
+use Rattle.ot_fault.specs.Walk.{told_by, shape_by, variables_by}
 use Rattle.ot_fault.proofs.look.Look.each_section.Given as goal
 
 -- what is told, and what was counted, with those of the rest are those of all

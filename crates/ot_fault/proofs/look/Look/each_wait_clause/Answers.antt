@@ -1,6 +1,7 @@
 use Rattle.std.proofs.Common.{◌∙◌, sym, arith, rules}
 use Rattle.ot_program.specs.Meanings.{wait_clause}
-use Rattle.ot_fault.specs.Whys.{wait_clause_whys, shape_by, variables_by}
+use Rattle.ot_fault.specs.Whys.{wait_clause_whys}
+use Rattle.ot_fault.specs.Walk.{shape_by, variables_by}
 use Rattle.ot_fault.proofs.LoopLemmas.{told_next, clause_cells_next, clause_cells_end}
 use Rattle.ot_fault.proofs.look.Look.each_wait_clause.Goals as goal
 

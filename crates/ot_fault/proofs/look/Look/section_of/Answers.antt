@@ -1,6 +1,6 @@
 use Rattle.std.proofs.Common.{rules}
 use Rattle.serde_json.specs.View.{view}
-use Rattle.ot_fault.specs.Whys.{told_by, shape_by, variables_by}
+use Rattle.ot_fault.specs.Walk.{told_by, shape_by, variables_by}
 use Rattle.ot_fault.proofs.PartLemmas.{section_told}
 use Rattle.ot_fault.proofs.look.Look.section_of.Goals as goal
 

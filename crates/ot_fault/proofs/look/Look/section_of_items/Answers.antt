@@ -1,7 +1,8 @@
 use Rattle.std.proofs.Common.{◌∙◌, rules, sym, ap}
 use Rattle.serde_json.specs.Data.{Data}
 use Rattle.ot_program.specs.Meanings.{section}
-use Rattle.ot_fault.specs.Whys.{after, section_whys, told_by, shape_by, variables_by}
+use Rattle.ot_fault.specs.Whys.{after, section_whys}
+use Rattle.ot_fault.specs.Walk.{told_by, shape_by, variables_by}
 use Rattle.ot_mixed.proofs.ClauseLemmas.{three_items}
 use Rattle.ot_fault.proofs.FormLemmas.{no_section_but_three, no_len_but_three}
 use Rattle.ot_fault.proofs.look.Look.section_of_items.Goals as goal

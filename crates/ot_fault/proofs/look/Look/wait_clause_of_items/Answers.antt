@@ -1,5 +1,5 @@
 use Rattle.std.proofs.Common.{rules}
-use Rattle.ot_fault.specs.Whys.{shape_by, variables_by}
+use Rattle.ot_fault.specs.Walk.{shape_by, variables_by}
 use Rattle.ot_fault.proofs.FormLemmas.{no_wait_clause_but_two}
 use Rattle.ot_fault.proofs.ClauseLemmas.{wait_clause_section-other}
 use Rattle.ot_fault.proofs.look.Look.wait_clause_of_items.Goals as goal

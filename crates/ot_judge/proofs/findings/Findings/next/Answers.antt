@@ -1,5 +1,6 @@
 use Rattle.std.proofs.Common.{◌≡◌, ap, sym, subst, refl}
-use Rattle.ot_judge.specs.Judging.{IsPlaced, found_as, Goes, Standing}
+use Rattle.ot_judge.specs.Judging.{IsPlaced, Goes, Standing}
+use Rattle.ot_judge.specs.Found.{found_as}
 use Rattle.ot_judge.proofs.FindingLemmas.{match_none, match_some, behind_found}
 use Rattle.ot_judge.proofs.findings.Findings.next.Goals as goal
 

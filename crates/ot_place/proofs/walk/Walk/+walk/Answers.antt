@@ -3,7 +3,8 @@ use Rattle.serde_json.specs.Data.{depth, items_depth}
 use Rattle.serde_json.specs.View.{view, items_view}
 use Rattle.ot_program.specs.Copies.{copies, Turn}
 use Rattle.ot_program.proofs.Seen.{array_seen}
-use Rattle.ot_place.specs.Spots.{spot, step_by, counts_by, path_of, bindings_of}
+use Rattle.ot_place.specs.Spots.{spot, path_of, bindings_of}
+use Rattle.ot_place.specs.Seeking.{step_by, counts_by}
 use Rattle.ot_place.specs.Texts.{depth_of}
 use Rattle.ot_place.proofs.CopyLemmas.{no_list, a_list, item_depth}
 use Rattle.ot_place.proofs.SeekLemmas.{items_pass, items_end, items_none, turns_pass, turns_end, turns_none}

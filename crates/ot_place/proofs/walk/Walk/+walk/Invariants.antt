@@ -2,7 +2,8 @@ use Rattle.std.proofs.Common.{◌≡◌, ℕ, ◌+◌, ◌-◌, ◌*◌, ◌∷�
 use Rattle.serde_json.specs.Data.{depth, items_depth}
 use Rattle.serde_json.specs.View.{view, items_view}
 use Rattle.ot_program.specs.Copies.{copies, copies_of, turns}
-use Rattle.ot_place.specs.Spots.{in_body, in_turns, seek, counts_by, path_of, bindings_of}
+use Rattle.ot_place.specs.Spots.{in_body, in_turns, path_of, bindings_of}
+use Rattle.ot_place.specs.Seeking.{seek, counts_by}
 use Rattle.ot_place.specs.Texts.{Profile, Stands, depth_of}
 use Rattle.ot_place.proofs.walk.Walk.+walk.Given as goal
 

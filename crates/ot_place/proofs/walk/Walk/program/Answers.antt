@@ -1,7 +1,8 @@
 use Rattle.std.proofs.Common.{◌∙◌, ◌∷◌, [], sym, ap}
 use Rattle.serde_json.specs.View.{view}
 use Rattle.ot_program.specs.Copies.{ProgramText}
-use Rattle.ot_place.specs.Spots.{spot, step_by, counts_by}
+use Rattle.ot_place.specs.Spots.{spot}
+use Rattle.ot_place.specs.Seeking.{step_by, counts_by}
 use Rattle.ot_place.proofs.BodyLemmas.{seen_as, one_passes, one_ends}
 use Rattle.ot_place.proofs.walk.Walk.program.Goals as goal
 
