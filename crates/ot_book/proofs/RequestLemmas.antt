@@ -5,7 +5,7 @@ use Rattle.std.proofs.lemmas.List.{at_drop_more}
 use Rattle.serde_json.specs.View.{view, items_view}
 use Rattle.serde_json.specs.declared.value.Value.{Value}
 use Rattle.ot_program.specs.Meanings.{is_word}
-use Rattle.ot_book.specs.Requests.{Request, New, Free, Put, Get, Arrays, Used, Checkpoint, Run, form_of, name_in, size_in, number_in, numbers_in, all_numbers, new_of, free_of, put_of, get_of, asks_checkpoint}
+use Rattle.ot_book.specs.Requests.{Request, New, Free, Put, Get, Arrays, Used, Checkpoint, Run, form_of, name_in, size_in, number_in, numbers_in, all_numbers, sized_of, new_of, free_of, put_of, get_of, asks_checkpoint}
 
 pub no_form : (vs : List Value) → length vs ≢ 1 → length vs ≢ 2 → length vs ≢ 3 → length vs ≢ 4 → form_of (items_view vs) ≡ None
 no_form [] one two three four = refl
@@ -14,6 +14,12 @@ no_form (a ∷ b ∷ []) one two three four = absurd (two refl)
 no_form (a ∷ b ∷ c ∷ []) one two three four = absurd (three refl)
 no_form (a ∷ b ∷ c ∷ d ∷ []) one two three four = absurd (four refl)
 no_form (a ∷ b ∷ c ∷ d ∷ e ∷ vs) one two three four = refl
+
+pub no_pair : (low : ℕ) (vs : List Value) → length vs ≢ 2 → sized_of low (items_view vs) ≡ None
+no_pair low [] two = refl
+no_pair low (a ∷ []) two = refl
+no_pair low (a ∷ b ∷ []) two = absurd (two refl)
+no_pair low (a ∷ b ∷ c ∷ vs) two = refl
 
 -- the numbers so far with those that are left
 abbrev pub with_numbers : List ℕ → Option (List ℕ) → Option (List ℕ)

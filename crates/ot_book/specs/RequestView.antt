@@ -1,5 +1,7 @@
--- The request that a value of the code stands for.
+-- What values of the code stand for.
+use Rattle.std.specs.Prelude.{ℕ, List, string_bytes}
 use Rattle.serde_json.specs.View.{view}
+use Rattle.ot_model.specs.declared.shape.ArrayShape.{ArrayShape}
 use Rattle.ot_book.specs.Requests as r
 use Rattle.ot_book.specs.declared.request.Request.{Request}
 use Rattle.ot_book.specs.declared.request.Request.TheVariants as v
@@ -13,3 +15,6 @@ asked_by v.Arrays = r.Arrays
 asked_by v.Used = r.Used
 asked_by v.Checkpoint = r.Checkpoint
 asked_by (v.Run text) = r.Run (view text.now)
+
+abbrev pub sized_by : ArrayShape → List ℕ × ℕ
+sized_by array = (string_bytes array.name, array.len)

@@ -30,6 +30,19 @@ number_in d = option_and_then as_u64 (as_number d)
 abbrev pub size_in : ℕ → Data → Option ℕ
 size_in low d = option_and_then (λ n. if nat_le low n && nat_lt n (2 ^ 32) then Some n else None) (number_in d)
 
+-- names with lengths, as replies list them; no length is below `low`
+module _ (low : ℕ) where
+  abbrev pub sized_of : Items → Option (List ℕ × ℕ)
+  sized_of (item name (item len no_items)) = option_and_then (λ n. option_map (λ l. (n, l)) (size_in low len)) (name_in name)
+  sized_of ds = None
+
+  abbrev pub sized_in : Data → Option (List ℕ × ℕ)
+  sized_in d = option_and_then sized_of (as_array d)
+
+  abbrev pub all_sized : Items → Option (List (List ℕ × ℕ))
+  all_sized no_items = Some []
+  all_sized (item d ds) = option_and_then (λ a. option_map (λ more. a ∷ more) (all_sized ds)) (sized_in d)
+
 abbrev pub all_numbers : Items → Option (List ℕ)
 all_numbers no_items = Some []
 all_numbers (item d ds) = option_and_then (λ n. option_map (λ ns. n ∷ ns) (all_numbers ds)) (number_in d)

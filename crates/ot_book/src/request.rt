@@ -1,10 +1,11 @@
-ghost use Rattle.std.specs.Prelude.{◌≡◌, ◌≤◌, ◌^◌, Some, None, IfOk, IfSome, OnOk, option_map, length};
+ghost use Rattle.std.specs.Prelude.{◌≡◌, Some, None, IfOk, IfSome, option_map};
 ghost use Rattle.serde_json.specs.Data.{item, no_items};
 ghost use Rattle.serde_json.specs.View.{view, items_view};
-ghost use Rattle.ot_book.specs.Requests.{request_of, form_of, name_in, size_in, number_in, numbers_in, all_numbers, new_of, free_of, put_of, get_of, IsProper, asks_checkpoint};
+ghost use Rattle.ot_book.specs.Requests.{request_of, form_of, numbers_in, new_of, free_of, put_of, get_of, IsProper, asks_checkpoint};
 ghost use Rattle.ot_book.specs.RequestView.{asked_by};
 
-use ot_program::{is_name, is_word};
+use crate::reading::{read_name, read_numbers, read_size};
+use ot_program::is_word;
 use serde_json::Value;
 use std::alloc::{AllocError, Global};
 
@@ -139,7 +140,7 @@ fn put_request<'a>(
     let (Some(name), Some(start)) = (read_name(name), read_size(start, 0)) else {
         return Ok(None);
     };
-    let Some(values) = read_numbers(alloc, values)? else {
+    let Some(values) = read_some_numbers(alloc, values)? else {
         return Ok(None);
     };
     Ok(Some(Request::Put(name, start, values)))
@@ -155,35 +156,14 @@ fn get_request<'a>(name: &'a Value, start: &Value, len: &Value) -> Option<Reques
     Some(Request::Get(name, start, len))
 }
 
-/// A name of an array.
-pub fn read_name(value: &Value) -> Option<&str>
-    ensures { option_map (λ name. name.now) result ≡ name_in (view value.now) }
-{
-    match value {
-        Value::String(text) if is_name(text.as_str()) => Some(text.as_str()),
-        _ => None,
-    }
-}
-
-/// A whole number from `low` to 2^32 - 1.
-pub fn read_size(value: &Value, low: u32) -> Option<u32>
-    ensures size { result ≡ size_in low (view value.now) }
-    ensures low { IfSome result (λ n. low ≤ n) }
-{
-    match value.as_u64() {
-        Some(number) if u64::from(low) <= number && number < 1 << 32 => Some(number as u32),
-        _ => None,
-    }
-}
-
 /// At least one number from 0 to 2^64 - 1.
-fn read_numbers(alloc: Global, value: &Value) -> Result<Option<Vec<u64>>, AllocError>
+fn read_some_numbers(alloc: Global, value: &Value) -> Result<Option<Vec<u64>>, AllocError>
     ensures { IfOk result (λ numbers. option_map (λ v. v.items) numbers ≡ numbers_in (view value.now)) }
 {
     let Value::Array(items) = value else {
         return Ok(None);
     };
-    let Some(numbers) = read_each(alloc, items)? else {
+    let Some(numbers) = read_numbers(alloc, items)? else {
         return Ok(None);
     };
     if numbers.is_empty() {
@@ -191,17 +171,4 @@ fn read_numbers(alloc: Global, value: &Value) -> Result<Option<Vec<u64>>, AllocE
     } else {
         Ok(Some(numbers))
     }
-}
-
-fn read_each(alloc: Global, items: &Vec<Value>) -> Result<Option<Vec<u64>>, AllocError>
-    ensures { IfOk result (λ numbers. option_map (λ v. v.items) numbers ≡ all_numbers (items_view items.now.items)) }
-{
-    let mut numbers = Vec::with_capacity(alloc, items.len())?;
-    for item in items {
-        let Some(number) = item.as_u64() else {
-            return Ok(None);
-        };
-        numbers.push(number)?;
-    }
-    Ok(Some(numbers))
 }

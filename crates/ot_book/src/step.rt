@@ -5,7 +5,7 @@ ghost use Rattle.ot_model.specs.Cells.{lengths};
 ghost use Rattle.ot_model.specs.Programs.{expanded_of, IsNamedIn};
 ghost use Rattle.ot_program.specs.Programs.{program_of};
 ghost use Rattle.ot_store.specs.Arrays.{cells_in, shape_in};
-ghost use Rattle.ot_book.specs.Answers.{value_of, parsed, performed, started, is_checkpoint};
+ghost use Rattle.ot_book.specs.Answers.{parsed, performed, started, is_checkpoint};
 ghost use Rattle.ot_book.specs.Considering.{ComesToAnswer, ComesTo};
 ghost use Rattle.ot_book.specs.Requests.{Run, IsProper, request_of, asks_checkpoint};
 ghost use Rattle.ot_book.specs.RequestView.{asked_by};
@@ -13,6 +13,7 @@ ghost use Rattle.ot_book.specs.declared.code.Code.TheVariants.{NotJson};
 ghost use Rattle.ot_book.specs.declared.told.Told.TheVariants.{Refused, Lost};
 
 use crate::code::Code;
+use crate::reading::read_line;
 use crate::request::{Request, asks_checkpoint, read_request};
 use crate::told::Told;
 use ot_check::laws::first_offence_is_first;
@@ -68,21 +69,6 @@ fn attempt(
         return Err(Told::Refused(Code::NotRequest));
     };
     perform(alloc, limits, store, used, request)
-}
-
-/// The value of a line, where it is JSON in UTF-8.
-pub fn read_line(alloc: Global, line: &[u8]) -> Result<Option<Value>, AllocError>
-    ensures { IfOk result (λ value. option_map view value ≡ value_of line.now) }
-{
-    match Value::from_slice(alloc, line) {
-        Ok(value) => Ok(Some(value)),
-        Err(error) => {
-            if error.is_memory() {
-                return Err(AllocError);
-            }
-            Ok(None)
-        }
-    }
 }
 
 /// Whether a line asks for a checkpoint.

@@ -1,5 +1,5 @@
 -- The text of a tenant's file.
-use Rattle.std.specs.Prelude.{◌≡◌, [], ◌≢◌, ◌≤◌, ◌<◌, ◌^◌, ◌+◌, ℕ, List, ◌∷◌, ◌++◌, All, length, map, replicate, codes, decimal, if◌then◌else◌, Option, Some, None, option_and_then, option_map}
+use Rattle.std.specs.Prelude.{◌≡◌, [], ◌≢◌, ◌≤◌, ◌<◌, ◌^◌, ◌+◌, ℕ, List, ◌∷◌, ◌++◌, All, length, map, replicate, codes, decimal, if◌then◌else◌, Option, None, option_and_then, option_map}
 use Rattle.std.specs.List.{concat}
 use Rattle.std.specs.Io.{IsEmptyOrEndsWith}
 use Rattle.serde_json.specs.Data.{array, string, Data, Items, no_items, item}
@@ -11,7 +11,7 @@ use Rattle.ot_store.specs.Arrays.{Named, overwritten}
 use Rattle.ot_book.specs.Answers.{nat, nats, value_of}
 use Rattle.serde_json.specs.Find.{as_array}
 use Rattle.ot_program.specs.Meanings.{is_word}
-use Rattle.ot_book.specs.Requests.{all_numbers, name_in, number_in, size_in}
+use Rattle.ot_book.specs.Requests.{all_numbers, all_sized, number_in, size_in}
 
 -- ---- the session
 
@@ -89,23 +89,11 @@ pub data Reply : Type 0 where
   Listed : List (List ℕ × ℕ) → Reply
   Cells : List ℕ → Reply
 
--- a name with a length
-abbrev pub sized_of : Items → Option (List ℕ × ℕ)
-sized_of (item name (item len no_items)) = option_and_then (λ n. option_map (λ l. (n, l)) (size_in 1 len)) (name_in name)
-sized_of ds = None
-
-abbrev pub sized_in : Data → Option (List ℕ × ℕ)
-sized_in d = option_and_then sized_of (as_array d)
-
-abbrev pub all_sized : Items → Option (List (List ℕ × ℕ))
-all_sized no_items = Some []
-all_sized (item d ds) = option_and_then (λ a. option_map (λ more. a ∷ more) (all_sized ds)) (sized_in d)
-
 -- behind the word and the number: units, names with lengths, or numbers
 abbrev pub listed_of : Data → Data → Option Reply
 listed_of tag told =
     if is_word tag (codes "used") then option_map Used (number_in told)
-    else (if is_word tag (codes "arrays") then option_map Listed (option_and_then all_sized (as_array told))
+    else (if is_word tag (codes "arrays") then option_map Listed (option_and_then (all_sized 1) (as_array told))
     else (if is_word tag (codes "cells") then option_map Cells (option_and_then all_numbers (as_array told)) else None))
 
 -- `["ok",n]`, `["used",n,units]`, `["arrays",n,[[name,len],..]]`, `["cells",n,[v,..]]`

@@ -2,12 +2,10 @@
 ghost use Rattle.std.specs.Prelude.{◌≡◌, IfOk, option_map};
 ghost use Rattle.serde_json.specs.Data.{item, no_items};
 ghost use Rattle.serde_json.specs.View.{view, items_view};
-ghost use Rattle.ot_model.specs.Programs.{arrays_of};
-ghost use Rattle.ot_book.specs.Requests.{all_numbers};
-ghost use Rattle.ot_keep.specs.Files.{all_sized, list_in, listed_of, reply_in, reply_of, sized_in, sized_of};
-ghost use Rattle.ot_keep.specs.Answers.{sized_by, reply_by};
+ghost use Rattle.ot_keep.specs.Files.{list_in, listed_of, reply_in, reply_of};
+ghost use Rattle.ot_keep.specs.Answers.{reply_by};
 
-use ot_book::{read_line, read_name, read_size};
+use ot_book::{read_arrays, read_line, read_numbers, read_size};
 use ot_model::ArrayShape;
 use ot_program::is_word;
 use serde_json::Value;
@@ -88,7 +86,7 @@ fn read_told(alloc: Global, tag: &Value, told: &Value) -> Result<Option<Answer>,
         return Ok(None);
     };
     if is_word(tag, "arrays") {
-        return Ok(match read_arrays(alloc, items)? {
+        return Ok(match read_arrays(alloc, items, 1)? {
             Some(arrays) => Some(Answer::Listed(arrays)),
             None => None,
         });
@@ -100,59 +98,4 @@ fn read_told(alloc: Global, tag: &Value, told: &Value) -> Result<Option<Answer>,
         });
     }
     Ok(None)
-}
-
-fn read_numbers(alloc: Global, items: &Vec<Value>) -> Result<Option<Vec<u64>>, AllocError>
-    ensures { IfOk result (λ numbers. option_map (λ v. v.items) numbers ≡ all_numbers (items_view items.now.items)) }
-{
-    let mut numbers = Vec::with_capacity(alloc, items.len())?;
-    for item in items {
-        let Some(number) = item.as_u64() else {
-            return Ok(None);
-        };
-        numbers.push(number)?;
-    }
-    Ok(Some(numbers))
-}
-
-fn read_arrays(alloc: Global, items: &Vec<Value>) -> Result<Option<Vec<ArrayShape>>, AllocError>
-    ensures { IfOk result (λ arrays. option_map (λ v. arrays_of v.items) arrays ≡ all_sized (items_view items.now.items)) }
-{
-    let mut arrays = Vec::new(alloc);
-    for item in items {
-        let Some(array) = read_sized(alloc, item)? else {
-            return Ok(None);
-        };
-        arrays.push(array)?;
-    }
-    Ok(Some(arrays))
-}
-
-/// A name with a length.
-fn read_sized(alloc: Global, value: &Value) -> Result<Option<ArrayShape>, AllocError>
-    ensures { IfOk result (λ array. option_map sized_by array ≡ sized_in (view value.now)) }
-{
-    match value {
-        Value::Array(items) => read_pair(alloc, items),
-        _ => Ok(None),
-    }
-}
-
-#[tactic(auto, using(crate::proofs::ReplyLemmas::no_pair))]
-fn read_pair(alloc: Global, items: &[Value]) -> Result<Option<ArrayShape>, AllocError>
-    ensures { IfOk result (λ array. option_map sized_by array ≡ sized_of (items_view items.now)) }
-{
-    if items.len() != 2 {
-        return Ok(None);
-    }
-    match items {
-        [name, len] => match (read_name(name), read_size(len, 1)) {
-            (Some(name), Some(len)) => Ok(Some(ArrayShape {
-                name: String::from_str(alloc, name)?,
-                len,
-            })),
-            _ => Ok(None),
-        },
-        _ => unreachable!(),
-    }
 }

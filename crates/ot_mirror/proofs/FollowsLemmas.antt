@@ -15,9 +15,9 @@ use Rattle.ot_store.specs.Refusals.{usual_limits}
 use Rattle.ot_book.specs.Answers.{State, Step, Now, Runs, changed, fetched, judged, started, performed, asked, parsed, value_of, step_of, finished, answer_or_lost}
 use Rattle.ot_book.specs.Books.{Register, state_in, logged}
 use Rattle.ot_book.specs.Answers as r
-use Rattle.ot_book.specs.Requests.{Request, New, Free, Put, Get, Arrays, Used, Checkpoint, Run, request_of, size_in}
+use Rattle.ot_book.specs.Requests.{Request, New, Free, Put, Get, Arrays, Used, Checkpoint, Run, request_of, size_in, all_sized}
 use Rattle.ot_book.proofs.BookLemmas.{state-logged}
-use Rattle.ot_mirror.specs.Mirrors.{all_sized, told_in, told_in_data, Sizes, left_by, sent, behind, MirrorFollows}
+use Rattle.ot_mirror.specs.Mirrors.{told_in, told_in_data, Sizes, left_by, sent, behind, MirrorFollows}
 use Rattle.ot_mirror.proofs.SizesLemmas.{left-sent}
 use Rattle.ot_mirror.proofs.GivenLemmas.{listed-finished}
 
@@ -85,7 +85,7 @@ offends_leaves sizes line (Some code) (Some place) = refl
 reply_leaves : (sizes : Sizes) (line : List ℕ) (n : ℕ) (told : r.Told) → behind sizes line (told_in_data (r.json_of n told)) ≡ told_leaves sizes line told
 reply_leaves sizes line n r.Accepted = refl
 reply_leaves sizes line n (r.Cells values) = refl
-reply_leaves sizes line n (r.Arrays arrays) = listed_leaves sizes line (all_sized (items_of (map r.sized arrays)))
+reply_leaves sizes line n (r.Arrays arrays) = listed_leaves sizes line (all_sized 0 (items_of (map r.sized arrays)))
 reply_leaves sizes line n (r.Used units) = refl
 reply_leaves sizes line n (r.Done tasks units shows) = refl
 reply_leaves sizes line n (r.Refused code) = refused_leaves sizes line (size_in 0 (r.nat code))

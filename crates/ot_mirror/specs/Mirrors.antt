@@ -1,5 +1,5 @@
 -- What a server's reply tells of a line, as far as a mirror goes by it.
-use Rattle.std.specs.Prelude.{◌≡◌, [], ◌<◌, ◌≤◌, ℕ, List, map, length, sum, replicate, bytes_eq, All, Bool, Option, Some, codes, None, option_map, ◌∷◌, if◌then◌else◌, option_and_then}
+use Rattle.std.specs.Prelude.{◌≡◌, ◌<◌, ◌≤◌, ℕ, List, map, length, sum, replicate, bytes_eq, All, Bool, Option, Some, codes, None, option_map, if◌then◌else◌, option_and_then}
 use Rattle.std.specs.List.{IsDistinct}
 use Rattle.ot_store.specs.Arrays.{Named, listed}
 use Rattle.ot_store.specs.Refusals.{usual_limits}
@@ -8,24 +8,12 @@ use Rattle.ot_book.specs.Books.{Register, state_in, logged}
 use Rattle.serde_json.specs.Data.{Data, Items, no_items, item}
 use Rattle.serde_json.specs.Find.{as_array}
 use Rattle.ot_program.specs.Meanings.{is_word}
-use Rattle.ot_book.specs.Requests.{name_in, number_in, size_in}
-
--- a name with a length
-abbrev pub sized_of : Items → Option (List ℕ × ℕ)
-sized_of (item name (item len no_items)) = option_and_then (λ n. option_map (λ l. (n, l)) (size_in 0 len)) (name_in name)
-sized_of ds = None
-
-abbrev pub sized_in : Data → Option (List ℕ × ℕ)
-sized_in d = option_and_then sized_of (as_array d)
-
-abbrev pub all_sized : Items → Option (List (List ℕ × ℕ))
-all_sized no_items = Some []
-all_sized (item d ds) = option_and_then (λ a. option_map (λ more. a ∷ more) (all_sized ds)) (sized_in d)
+use Rattle.ot_book.specs.Requests.{all_sized, number_in, size_in}
 
 -- behind the request's number: names with lengths, or a code
 abbrev pub one_behind : Data → Data → Option Told
 one_behind tag d =
-    if is_word tag (codes "arrays") then option_map Arrays (option_and_then all_sized (as_array d))
+    if is_word tag (codes "arrays") then option_map Arrays (option_and_then (all_sized 0) (as_array d))
     else (if is_word tag (codes "err") then option_map Refused (size_in 0 d) else None)
 
 -- a code and the number of a statement

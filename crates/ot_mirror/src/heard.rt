@@ -2,11 +2,10 @@
 ghost use Rattle.std.specs.Prelude.{◌≡◌, IfOk, option_map};
 ghost use Rattle.serde_json.specs.Data.{item, no_items};
 ghost use Rattle.serde_json.specs.View.{view, items_view};
-ghost use Rattle.ot_model.specs.Programs.{arrays_of};
-ghost use Rattle.ot_mirror.specs.Mirrors.{all_sized, one_behind, sized_in, sized_of, told_in_list, told_in, told_in_data, two_behind};
-ghost use Rattle.ot_mirror.specs.HeardView.{sized_as, told_as};
+ghost use Rattle.ot_mirror.specs.Mirrors.{one_behind, told_in_list, told_in, told_in_data, two_behind};
+ghost use Rattle.ot_mirror.specs.HeardView.{told_as};
 
-use ot_book::{read_line, read_name, read_size};
+use ot_book::{read_arrays, read_line, read_size};
 use ot_model::ArrayShape;
 use ot_program::is_word;
 use serde_json::Value;
@@ -90,7 +89,7 @@ fn read_one(alloc: Global, tag: &Value, told: &Value) -> Result<Option<Heard>, A
         let Value::Array(items) = told else {
             return Ok(None);
         };
-        return Ok(match read_arrays(alloc, items)? {
+        return Ok(match read_arrays(alloc, items, 0)? {
             Some(arrays) => Some(Heard::Listed(arrays)),
             None => None,
         });
@@ -116,47 +115,5 @@ fn read_two(tag: &Value, code: &Value, place: &Value) -> Option<Heard>
             place: Some(place),
         })),
         _ => None,
-    }
-}
-
-fn read_arrays(alloc: Global, items: &Vec<Value>) -> Result<Option<Vec<ArrayShape>>, AllocError>
-    ensures { IfOk result (λ arrays. option_map (λ v. arrays_of v.items) arrays ≡ all_sized (items_view items.now.items)) }
-{
-    let mut arrays = Vec::new(alloc);
-    for item in items {
-        let Some(array) = read_sized(alloc, item)? else {
-            return Ok(None);
-        };
-        arrays.push(array)?;
-    }
-    Ok(Some(arrays))
-}
-
-/// A name with a length.
-fn read_sized(alloc: Global, value: &Value) -> Result<Option<ArrayShape>, AllocError>
-    ensures { IfOk result (λ array. option_map sized_as array ≡ sized_in (view value.now)) }
-{
-    match value {
-        Value::Array(items) => read_pair(alloc, items),
-        _ => Ok(None),
-    }
-}
-
-#[tactic(auto, using(crate::proofs::HeardLemmas::no_pair))]
-fn read_pair(alloc: Global, items: &[Value]) -> Result<Option<ArrayShape>, AllocError>
-    ensures { IfOk result (λ array. option_map sized_as array ≡ sized_of (items_view items.now)) }
-{
-    if items.len() != 2 {
-        return Ok(None);
-    }
-    match items {
-        [name, len] => match (read_name(name), read_size(len, 0)) {
-            (Some(name), Some(len)) => Ok(Some(ArrayShape {
-                name: String::from_str(alloc, name)?,
-                len,
-            })),
-            _ => Ok(None),
-        },
-        _ => unreachable!(),
     }
 }

@@ -2,7 +2,7 @@ use Rattle.std.proofs.Common.{◌≡◌, ◌++◌, drop}
 use Rattle.std.specs.Prelude.{option_map}
 use Rattle.serde_json.specs.View.{items_view}
 use Rattle.ot_book.specs.Requests.{all_numbers}
-use Rattle.ot_book.proofs.request.read_each.Given as goal
+use Rattle.ot_book.proofs.reading.read_numbers.Given as goal
 
 abbrev pub invariant-loop-item : goal.invariant-loop-item
 invariant-loop-item l =

@@ -1,6 +1,6 @@
 use Rattle.std.proofs.Common.{◌≡◌, true, sym}
 use Rattle.ot_book.proofs.LineLemmas.{value_of-text, value_of-none}
-use Rattle.ot_book.proofs.step.read_line.Goals as goal
+use Rattle.ot_book.proofs.reading.read_line.Goals as goal
 
 pub returns-in-Ok : goal.returns-in-Ok
 returns-in-Ok c = sym (value_of-text _ _ c.in-Ok.ensures.ok.0 c.in-Ok.ensures.ok.1)
