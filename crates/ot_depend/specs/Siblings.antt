@@ -6,7 +6,6 @@ use Rattle.ot_model.specs.declared.stmt.Use.{Use}
 use Rattle.ot_model.specs.declared.expr.Cell.{Cell}
 use Rattle.ot_model.specs.declared.stmt.Mode.{Mode}
 use Rattle.ot_model.specs.declared.stmt.Mode.TheVariants.{Reads, Writes, Folds}
-use Rattle.ot_depend.specs.Kept.{siblings}
 
 -- a child: what it declares, the groups that were open where it was created, and whether it has finished
 pub record Sibling : Type 0 where

@@ -1,5 +1,5 @@
 -- The first line of a connection, and what is answered to it.
-use Rattle.std.specs.Prelude.{◌≡◌, ◌⊎◌, ◌≤◌, ℕ, ◌+◌, List, [], ◌∷◌, ◌++◌, length, codes, if◌then◌else◌, ⊤, Option, Some, None, option_and_then, Result, Ok, Err}
+use Rattle.std.specs.Prelude.{◌≡◌, [], ◌⊎◌, ◌≤◌, ℕ, ◌+◌, List, ◌∷◌, ◌++◌, length, codes, if◌then◌else◌, ⊤, Option, Some, None, option_and_then, Result, Ok, Err}
 use Rattle.std.specs.Io.KnownBytes.{Appends, Consumes, IsAtEnd}
 use Rattle.serde_json.specs.Data.{Data, string, array, Items, no_items, item}
 use Rattle.serde_json.specs.Find.{as_array}
@@ -9,12 +9,13 @@ use Rattle.ot_book.specs.Answers.{value_of, nat}
 use Rattle.ot_book.specs.Books.{Register, next_number}
 use Rattle.ot_book.specs.Requests.{name_in}
 use Rattle.ot_front.specs.Serving.{AppendsFront}
-use Rattle.ot_front.specs.Session.{HasNoEnd}
+use Rattle.ot_front.specs.Session.{HasNoEnd, Serves}
 use Rattle.ot_front.specs.Desks.{IsKnown}
 use Rattle.ot_front.specs.declared.fault.FrontFault.{FrontFault}
 use Rattle.ot_front.specs.declared.fault.FrontFault.TheVariants.{ReadFailed, WriteFailed, Memory}
 use Rattle.ot_front.specs.declared.refusal.Refusal.{Refusal}
 use Rattle.ot_front.specs.declared.refusal.Refusal.TheVariants.{NotJson, NotGreeting, Unknown, Busy}
+use Rattle.ot_front.specs.declared.fault.End.{End}
 
 -- bytes of a first line, without its LF
 abbrev pub max_first_line : ℕ
@@ -138,3 +139,23 @@ pub record Greets (names : List (List ℕ)) (ahead left : Option (List ℕ)) (en
   pub bytes : List ℕ
   pub reads : Consumes ahead left bytes
   pub tells : AnswersFirstLine names bytes left ended start held result
+
+-- a session of this book, up to this end
+pub record HasSession (book : Register) (ahead left start held : Option (List ℕ)) (result : Result End FrontFault) : Type 0 where
+  pub after : Register
+  pub latest : ℕ
+  pub serves : Serves book after ahead left latest start held result
+
+-- Behind a greeting that gives a book stands its session, and this is how it ended; behind any other stands nothing.
+abbrev pub GoesOn : Result (Option Register) FrontFault → Option (List ℕ) → Option (List ℕ) → Option (List ℕ) → Option (List ℕ) → Option (Result End FrontFault) → Type 0
+GoesOn (Ok (Some book)) ahead left start held (Some result) = HasSession book ahead left start held result
+GoesOn (Ok (Some book)) ahead left start held None = ⊥
+GoesOn given ahead left start held result = (left ≡ ahead) × (held ≡ start) × (result ≡ None)
+
+-- a connection from its first byte to its last, and how its session ended, if it had one
+pub record Connects (names : List (List ℕ)) (ahead left start held : Option (List ℕ)) (result : Option (Result End FrontFault)) : Type 0 where
+  pub given : Result (Option Register) FrontFault
+  pub next : Option (List ℕ)
+  pub told : Option (List ℕ)
+  pub greets : Greets names ahead next ⊤ start told given
+  pub goes_on : GoesOn given next left told held result

@@ -1,11 +1,9 @@
--- A connection: its greeting, and behind it the session of the book that was given.
+-- What becomes of books between a rack and a connection.
 use Rattle.std.specs.Prelude.{◌≡◌, [], ◌⊎◌, ℕ, List, ◌∷◌, ◌++◌, Option, Some, None, Result, Ok, Err}
 use Rattle.ot_book.specs.Books.{Register}
 use Rattle.ot_front.specs.declared.fault.End.{End}
 use Rattle.ot_front.specs.declared.fault.FrontFault.{FrontFault}
-use Rattle.ot_front.specs.Session.{Connects, GoesOn, after}
-
--- What becomes of books between a rack and a connection.
+use Rattle.ot_front.specs.Greetings.{Connects, GoesOn}
 
 -- the books that were taken from a rack, and those that were laid back, one after another
 pub record Moves : Type 0 where

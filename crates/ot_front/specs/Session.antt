@@ -1,5 +1,5 @@
 -- The replies to lines, one after another.
-use Rattle.std.specs.Prelude.{◌≡◌, [], ◌≤◌, ◌⊎◌, ℕ, ◌+◌, ◌-◌, List, ◌∷◌, ◌++◌, length, take, slice_get, codes, Bool, Option, Some, None, Result, Ok, Err, ◌==◌, fold, nat_le, is_some, if◌then◌else◌, map, false, option_map, unwrap_or, ⊤}
+use Rattle.std.specs.Prelude.{◌≡◌, [], ◌≤◌, ◌⊎◌, ℕ, ◌+◌, ◌-◌, List, ◌∷◌, ◌++◌, length, take, slice_get, codes, Bool, Option, Some, None, Result, Ok, Err, ◌==◌, fold, nat_le, is_some, if◌then◌else◌, map, false, option_map, unwrap_or}
 use Rattle.std.specs.Io.KnownBytes.{Appends, Consumes}
 use Rattle.ot_book.specs.Books.{Register, next_number, next_step, reply_at, logged}
 use Rattle.ot_book.specs.Room.{room_in, Room, takes, room_after}
@@ -11,7 +11,6 @@ pub use Rattle.ot_lines.specs.Lines.{HasNoEnd}
 pub use Rattle.ot_lines.specs.Goodbyes.{is_blank, without_front_blanks, trimmed, is_bye}
 use Rattle.ot_model.specs.Programs.{Expanded}
 use Rattle.ot_book.specs.Answers.{Runs, text_of}
-use Rattle.ot_front.specs.Greetings.{Greets}
 
 -- lines, each with whether it is answered for want of memory
 abbrev pub Lines : Type 0
@@ -165,23 +164,3 @@ pub record Serves (old new : Register) (ahead left : Option (List ℕ)) (latest 
   pub session : Session old new (before ++ last) start held result
   pub goes_on : (heard_in old before).end ≡ None
   pub logs : length (heard_in old before).lines ≤ length session.lost
-
--- a session of this book, up to this end
-pub record HasSession (book : Register) (ahead left start held : Option (List ℕ)) (result : Result End FrontFault) : Type 0 where
-  pub after : Register
-  pub latest : ℕ
-  pub serves : Serves book after ahead left latest start held result
-
--- Behind a greeting that gives a book stands its session, and this is how it ended; behind any other stands nothing.
-abbrev pub GoesOn : Result (Option Register) FrontFault → Option (List ℕ) → Option (List ℕ) → Option (List ℕ) → Option (List ℕ) → Option (Result End FrontFault) → Type 0
-GoesOn (Ok (Some book)) ahead left start held (Some result) = HasSession book ahead left start held result
-GoesOn (Ok (Some book)) ahead left start held None = ⊥
-GoesOn given ahead left start held result = (left ≡ ahead) × (held ≡ start) × (result ≡ None)
-
--- a connection from its first byte to its last, and how its session ended, if it had one
-pub record Connects (names : List (List ℕ)) (ahead left start held : Option (List ℕ)) (result : Option (Result End FrontFault)) : Type 0 where
-  pub given : Result (Option Register) FrontFault
-  pub next : Option (List ℕ)
-  pub told : Option (List ℕ)
-  pub greets : Greets names ahead next ⊤ start told given
-  pub goes_on : GoesOn given next left told held result

@@ -1,7 +1,7 @@
 //! One connection: its greeting, and behind it the session of the book that was given.
 ghost use Rattle.std.specs.Prelude.{◌≡◌, ◌≢◌, ◌≤◌, ℕ, None, Some, Ok, Err, IfSome};
 ghost use Rattle.std.specs.Io.KnownBytes.{IsAtEnd};
-ghost use Rattle.ot_front.specs.Session.{Connects, HasSession};
+ghost use Rattle.ot_front.specs.Greetings.{Connects, HasSession};
 ghost use Rattle.ot_front.specs.Racks.{with_laid, ConnectsOver};
 ghost use Rattle.ot_front.specs.Serving.{next_count, count_after};
 ghost use Rattle.ot_front.specs.declared.fault.End.TheVariants.{EndOfInput};
