@@ -5,9 +5,9 @@ ghost use Rattle.ot_book.specs.Answers.{shown, value_of, is_checkpoint};
 ghost use Rattle.ot_book.specs.Readings.{IsReading};
 
 use crate::kept::Kept;
+use crate::reading::read_line;
 use crate::reply::Reply;
 use crate::shelf::Shelf;
-use crate::reading::read_line;
 use crate::step::{Considered, consider, job_over, wants_checkpoint};
 use crate::told::Told;
 use ot_check::{Checked, JobSpec, Outcome};
