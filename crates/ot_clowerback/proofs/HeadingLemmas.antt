@@ -27,7 +27,7 @@ use Rattle.ot_cscope.specs.Sizes.{size}
 use Rattle.ot_cdeclare.specs.Each.{each}
 use Rattle.ot_cclause.specs.Clauses.{Head, number_of, own_of, item_step, clause_step, joining_step}
 use Rattle.ot_cclause.specs.Owns.{is_of, own_count, name_if, name_all}
-use Rattle.ot_cclause.specs.Sections.{is_name, is_counted}
+use Rattle.ot_cclause.specs.Sections.{same_name, is_counted}
 use Rattle.ot_cclause.specs.declared.own.Taking.{Taking}
 use Rattle.ot_cback.specs.Numbering.{name_of}
 use Rattle.ot_cback.specs.Clauses.{Direction, In, Out, Clause, Lists, Goes, Reduces, Combines, direction_role, cell_entry, pointer_entry, at_entry, reduction, claim}
@@ -214,7 +214,7 @@ module _ (number : Text → ℕ) (names : List Text) (shape : Arrays) (known : �
   rest_is x y = omega arith
 
   section_item : (d : Direction) (s : Section) (ds : List Data) (os : List Own) (ts : List Taking) → known s.array ≡ true → Apart s os → item_step at (direction_role d) (Some (span s)) (head ds os ts) (at_entry number names s.array) ≡ Ok (head (ds ++ many_text shape d s ∷ []) os ts)
-  unfolding size constant is_counted is_name known_of
+  unfolding size constant is_counted same_name known_of
   section_item In s ds os ts within apart = let is = (place.knows.cells s.array within).1 in rw (rest_is s.start s.len, apart, is, itself (number (codes "at")), place.knows.text s.array within) refl
   section_item Out s ds os ts within apart = let is = (place.knows.cells s.array within).1 in rw (rest_is s.start s.len, apart, is, itself (number (codes "at")), place.knows.text s.array within) refl
 
