@@ -16,7 +16,8 @@ use Rattle.ot_front.specs.declared.fault.FrontFault.TheVariants as fault
 use Rattle.ot_front.proofs.SessionLemmas.{going_piece, stops_long, stops_in_long}
 use Rattle.ot_front.proofs.ServingLemmas.{IsIdle, serves_nothing, serves_idle}
 use Rattle.ot_front.proofs.StopLemmas.{Stops, session_longer}
-use Rattle.ot_explain.specs.Explaining.{without_remarks, IsWhole, last_code, AreOn, Explains, Explaining, IsStop, Stopped, Served, said_at, Noted, Closing, Remarks}
+use Rattle.ot_explain.specs.Explaining.{without_remarks, last_code, AreOn, Explains, Remarks}
+use Rattle.ot_explain.specs.Listening.{IsWhole, Explaining, IsStop, Stopped, Served, said_at, Noted, Closing}
 use Rattle.ot_explain.specs.declared.explaining.Explained.{Explained}
 use Rattle.ot_explain.specs.declared.explaining.Explained.TheVariants.{AllTaken}
 use Rattle.ot_explain.proofs.LineLemmas.{whole-nil, whole-append, IsPlain, plain-all, plain-append, plain-front, hidden-all}

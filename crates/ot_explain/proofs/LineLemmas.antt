@@ -5,7 +5,8 @@ use Rattle.std.proofs.lemmas.List.{take-append-le}
 use Rattle.std.proofs.lemmas.List.Folds.{list_any-append}
 use Rattle.std.proofs.lemmas.Bool.Decides.{leb_tells, nat_tests}
 use Rattle.ot_front.specs.Session.{HasNoEnd}
-use Rattle.ot_explain.specs.Explaining.{with_first, lines_of, unless_remark, without_remarks, remark_line, IsRemarks, IsWhole}
+use Rattle.ot_explain.specs.Explaining.{with_first, lines_of, unless_remark, without_remarks, remark_line}
+use Rattle.ot_explain.specs.Listening.{IsRemarks, IsWhole}
 
 -- ---- bytes without an LF
 

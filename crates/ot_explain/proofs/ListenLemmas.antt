@@ -20,7 +20,8 @@ use Rattle.ot_front.proofs.ToldLemmas.{pending-after}
 use Rattle.ot_front.proofs.SessionLemmas.{going_piece, session_of, tells_all}
 use Rattle.ot_front.proofs.PrefixLemmas.{last_of, clean_take, consumed}
 use Rattle.ot_front.proofs.LineLemmas.{going_nothing, serves_in}
-use Rattle.ot_explain.specs.Explaining.{without_remarks, Explains, Explaining, IsStop, Stopped, ExplainsLine, Served, said_at, Remarks}
+use Rattle.ot_explain.specs.Explaining.{without_remarks, Explains, Remarks}
+use Rattle.ot_explain.specs.Listening.{Explaining, IsStop, Stopped, ExplainsLine, Served, said_at}
 use Rattle.ot_explain.specs.declared.explaining.Explained.{Explained}
 use Rattle.ot_explain.specs.declared.explaining.Explained.TheVariants.{AllTaken}
 use Rattle.ot_explain.specs.declared.explaining.Talk.{Talk}

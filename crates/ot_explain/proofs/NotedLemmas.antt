@@ -10,7 +10,8 @@ use Rattle.ot_front.specs.declared.fault.End.{End}
 use Rattle.ot_front.specs.declared.fault.End.TheVariants as end
 use Rattle.ot_front.proofs.HeardLemmas.{at_line, heard-append, lines_grow, heard-piece, heard-long}
 use Rattle.ot_front.proofs.ToldLemmas.{texts-more, after-more}
-use Rattle.ot_explain.specs.Explaining.{last_code, AreOn, Remarked, refuses, is_untaken, says, Remarks, said_at, Noted, Closing}
+use Rattle.ot_explain.specs.Explaining.{last_code, AreOn, Remarked, refuses, is_untaken, says, Remarks}
+use Rattle.ot_explain.specs.Listening.{said_at, Noted, Closing}
 use Rattle.ot_explain.specs.declared.explaining.Explained.{Explained}
 use Rattle.ot_explain.proofs.RemarkLemmas.{remarked_more, refuses-more, said_on, says-more}
 

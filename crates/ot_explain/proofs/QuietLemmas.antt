@@ -19,7 +19,8 @@ use Rattle.ot_front.proofs.SessionLemmas.{going_piece, stops_long}
 use Rattle.ot_front.proofs.ServingLemmas.{serves_idle}
 use Rattle.ot_front.proofs.PrefixLemmas.{last_of, clean_take, consumed}
 use Rattle.ot_front.proofs.LineLemmas.{going_nothing, serves_in}
-use Rattle.ot_explain.specs.Explaining.{last_code, AreOn, RemarksOn, refuses, says, said_at, IsStop, RemarksAlone, Hushed, HushedOn, HushesLine}
+use Rattle.ot_explain.specs.Explaining.{last_code, AreOn, RemarksOn, refuses, says, RemarksAlone}
+use Rattle.ot_explain.specs.Listening.{said_at, IsStop, Hushed, HushedOn, HushesLine}
 use Rattle.ot_explain.specs.declared.explaining.Explained.{Explained}
 use Rattle.ot_explain.specs.declared.explaining.Explained.TheVariants.{AllTaken}
 use Rattle.ot_explain.specs.declared.explaining.Talk.{Talk}

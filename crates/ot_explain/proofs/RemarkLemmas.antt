@@ -6,7 +6,8 @@ use Rattle.std.specs.Fmt.{decimal}
 use Rattle.std.proofs.lemmas.List.Elements.{All-append}
 use Rattle.ot_book.specs.Books.{Register, logged}
 use Rattle.ot_front.specs.Session.{HasNoEnd, Lines, after, reply_line}
-use Rattle.ot_explain.specs.Explaining.{remark_line, IsRemarks, IsWhole, last_code, with_code, OpensWith, AreOn, Remarked, refuses, says}
+use Rattle.ot_explain.specs.Explaining.{remark_line, last_code, with_code, OpensWith, AreOn, Remarked, refuses, says}
+use Rattle.ot_explain.specs.Listening.{IsRemarks, IsWhole}
 use Rattle.ot_explain.specs.declared.explaining.Explained.{Explained}
 use Rattle.ot_explain.specs.declared.explaining.Explained.TheVariants.{SomeRefused}
 use Rattle.ot_explain.proofs.LineLemmas.{is_end, HasNone, or_left, or_right, none-append, whole-nil, IsHidden, hidden-nil, remarks-whole, remarks-hidden, flat_more}

@@ -12,7 +12,7 @@ use Rattle.ot_book.specs.Books.{Register, logged, reply_at}
 use Rattle.ot_front.specs.Session.{Lines, told, reply_line, last_reply, closing}
 use Rattle.ot_front.specs.declared.fault.End.{End}
 use Rattle.ot_front.specs.declared.fault.End.TheVariants as end
-use Rattle.ot_explain.specs.Explaining.{IsWhole}
+use Rattle.ot_explain.specs.Listening.{IsWhole}
 use Rattle.ot_explain.proofs.LineLemmas.{HasNone, or_right, none-append, whole-nil, whole-append, whole-line, IsPlain, plain-nil, plain-append, plain-line}
 
 -- ---- texts of JSON

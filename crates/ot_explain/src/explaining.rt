@@ -5,7 +5,8 @@ ghost use Rattle.ot_book.specs.Books.{Register, next_number};
 ghost use Rattle.ot_front.specs.Session.{HasNoEnd, max_line};
 ghost use Rattle.ot_front.specs.Serving.{session_bounds};
 ghost use Rattle.ot_front.specs.declared.fault.End.{End};
-ghost use Rattle.ot_explain.specs.Explaining.{beginner, Explains, Explaining, GoesOn, Remarks, said_at, ExplainsLine};
+ghost use Rattle.ot_explain.specs.Explaining.{beginner, Explains, Remarks};
+ghost use Rattle.ot_explain.specs.Listening.{Explaining, GoesOn, said_at, ExplainsLine};
 ghost use Rattle.ot_explain.specs.declared.explaining.Explained.TheVariants.{AllTaken};
 
 use crate::telling::tell_last;

@@ -5,7 +5,8 @@ ghost use Rattle.ot_book.specs.Books.{Register, next_number};
 ghost use Rattle.ot_front.specs.Session.{HasNoEnd, max_line};
 ghost use Rattle.ot_front.specs.Serving.{session_bounds};
 ghost use Rattle.ot_front.specs.declared.fault.End.{End};
-ghost use Rattle.ot_explain.specs.Explaining.{beginner, said_at, RemarksAlone, Hushed, HushedOn, HushesLine};
+ghost use Rattle.ot_explain.specs.Explaining.{beginner, RemarksAlone};
+ghost use Rattle.ot_explain.specs.Listening.{said_at, Hushed, HushedOn, HushesLine};
 ghost use Rattle.ot_explain.specs.declared.explaining.Explained.TheVariants.{AllTaken};
 
 use crate::explaining::{Explained, Talk, said_at};
