@@ -6,7 +6,8 @@ use Rattle.std.proofs.Math.Bool.{or-false, or-true}
 use Rattle.std.proofs.KnownBytes.{Appends-nil, Appends-trans, Consumes-nil, Consumes-trans}
 use Rattle.std.proofs.lemmas.List.Folds.{concat-append, list_any-append}
 use Rattle.std.proofs.lemmas.List.Elements.{All-nil, All-push, All-take, AllZip-push}
-use Rattle.ot_ask.specs.Asking.{BreaksBy, Counts, Ends, GoesOn, IsAnswered, IsCutShort, IsShown, LeavesServer, SaysBye, TakesOneLine, Talk, Talks, Ways, asked_after, asked_of, tally_of, with_reply}
+use Rattle.ot_ask.specs.Asking.{BreaksBy, Counts, Ends, GoesOn, IsCutShort, IsShown, LeavesServer, SaysBye, Talk, Talks, Ways, tally_of}
+use Rattle.ot_ask.specs.Exchanges.{IsAnswered, TakesOneLine, asked_after, asked_of, with_reply}
 use Rattle.ot_ask.specs.Streams.{IsWhole, is_last, is_refusal, sent_for, Gives, Incoming, Link, Outgoing, Writes}
 use Rattle.ot_ask.specs.declared.asked.Tally.{Tally}
 use Rattle.ot_ask.specs.declared.asked.Asked.TheVariants.{AllTaken, SomeRefused, CutShort}

@@ -4,7 +4,8 @@ use Rattle.std.proofs.Math.Bool.{or-false, or-true}
 use Rattle.std.specs.List.{position_from}
 use Rattle.std.specs.Prelude.{All}
 use Rattle.ot_ask.specs.Streams.{is_last, is_refusal}
-use Rattle.ot_ask.specs.Asking.{first_or, is_untaken, tally, tally_of, with_reply}
+use Rattle.ot_ask.specs.Exchanges.{first_or, with_reply}
+use Rattle.ot_ask.specs.Asking.{is_untaken, tally, tally_of}
 
 abbrev Replies : Type 0
 Replies = List (List ℕ)

@@ -1,5 +1,5 @@
 -- The greeting.
-use Rattle.std.specs.Prelude.{◌≡◌, ◌⊎◌, ◌-◌, ◌^◌, ◌&&◌, ℕ, Bool, true, false, if◌then◌else◌, List, [], ◌∷◌, ◌++◌, length, map, take, Result, Ok, Err, ◌||◌, ◌+◌, Option, Some, None, ◌≢◌, ⊤}
+use Rattle.std.specs.Prelude.{◌≡◌, [], ◌⊎◌, ◌-◌, ◌^◌, ◌&&◌, ℕ, Bool, true, false, List, ◌∷◌, ◌++◌, length, map, take, Result, Ok, Err, ◌||◌, ◌+◌, Option, None, ◌≢◌, ⊤}
 use Rattle.std.specs.List.{All, AllZip, concat, list_any, filter, position_from}
 use Rattle.std.specs.Io.KnownBytes.{Consumes}
 use Rattle.ot_ask.specs.Streams.{IsWhole, goodbye, is_last, is_refusal, says_bye, sent_for, BreaksOff, Gives, GivesLine, HasFailed, Incoming, IsLost, IsStreamOver, Link, Outgoing, Writes, link, busy_text, hello_line, is_welcome, unknown_text, IsUnanswered}
@@ -8,8 +8,6 @@ use Rattle.ot_ask.specs.declared.asked.Asked.{Asked}
 use Rattle.ot_ask.specs.declared.asked.Asked.TheVariants.{AllTaken, SomeRefused, CutShort}
 use Rattle.ot_ask.specs.declared.asked.AskFault.{AskFault}
 use Rattle.ot_ask.specs.declared.asked.AskFault.TheVariants.{Closed, Memory, ReadFailed, TooManyLines, WriteFailed, Busy, StrangeGreeting, UnknownTenant}
-use Rattle.ot_ask.specs.declared.exchange.Step.{Step}
-use Rattle.ot_ask.specs.declared.exchange.Step.TheVariants as step
 use Rattle.ot_program.specs.Meanings.{is_name}
 
 -- the server's answer to a greeting is this line
@@ -50,16 +48,6 @@ tally_of replies = tally (length replies) (length (filter is_untaken replies)) (
 -- that of none
 abbrev pub none_counted : Tally
 none_counted = tally 0 0 None
-
--- the first refusal, where none stands before this one
-abbrev pub first_or : Option ℕ → ℕ → Option ℕ
-first_or None number = Some number
-first_or (Some first) number = Some first
-
--- with one reply more, which refuses its line or doesn't
-abbrev pub with_reply : Tally → Bool → Tally
-with_reply t is_refused =
-    if is_refused then tally (t.lines + 1) (t.refused + 1) (first_or t.first_refused (t.lines + 1)) else tally (t.lines + 1) t.refused t.first_refused
 
 -- What a client reads, sends, hears and prints.
 
@@ -107,19 +95,6 @@ pub record IsCutShort (old new : Ways) : Type 0 where
   pub last : is_last reply ≡ true
 
 module _ (Says : List ℕ → List ℕ → Type 0) where
-  -- a line is read and sent, and its reply heard and printed, with what may be said behind it
-  pub record IsAnswered (old new : Ways) (is_refused : Bool) : Type 0 where
-    pub line : List ℕ
-    pub reply : List ℕ
-    pub reads : Gives old.typed new.typed line
-    pub sends : Writes old.link.sent new.link.sent (sent_for line)
-    pub hears : GivesLine old.link.heard new.link.heard reply
-    pub text : List ℕ
-    pub shows : IsShown Says reply text
-    pub prints : Writes old.printed new.printed text
-    pub goes_on : is_last reply ≡ false
-    pub told : is_refused ≡ is_refusal reply
-
   -- Where something goes wrong: which failure it was, and that nothing more is printed, but of a reply that can't be printed
   -- a front.
   abbrev pub BreaksBy : AskFault → Ways → Ways → Type 0
@@ -135,23 +110,7 @@ module _ (Says : List ℕ → List ℕ → Type 0) where
   BreaksBy Memory old new = new.printed ≡ old.printed
   BreaksBy fault old new = ⊥
 
-  -- one line, by what it came to
-  abbrev pub TakesOneLine : Ways → Ways → Result Step AskFault → Type 0
-  TakesOneLine old new (Ok (step.Answered is_refused)) = IsAnswered old new is_refused
-  TakesOneLine old new (Ok step.Bye) = SaysBye old new
-  TakesOneLine old new (Ok step.CutShort) = IsCutShort old new
-  TakesOneLine old new (Err fault) = BreaksBy fault old new
-
 -- ---- all lines
-
--- what a client comes to whose lines were all answered
-abbrev pub asked_of : Bool → Asked
-asked_of false = AllTaken
-asked_of true = SomeRefused
-
--- and what it comes to with one reply more
-abbrev pub asked_after : Asked → Bool → Asked
-asked_after asked is_refused = if is_refused then SomeRefused else asked
 
 -- behind a refusal a goodbye is sent, and then the server's stream is over; or it can't be sent
 abbrev pub LeavesServer : Link → Link → Result Asked AskFault → Type 0
@@ -218,13 +177,6 @@ module _ (Says : List ℕ → List ℕ → Type 0) where
       × (tally ≡ none_counted))
 
 -- A line that is read to be sent, and a reply that is heard.
-
--- what was read, and what is to be sent for it
-abbrev pub ReadsToSend : Incoming → Incoming → List ℕ → Result ⊤ AskFault → Type 0
-ReadsToSend old new line (Ok done) = (given : List ℕ) × Gives old new given × (line ≡ sent_for given)
-ReadsToSend old new line (Err ReadFailed) = HasFailed old new
-ReadsToSend old new line (Err Memory) = ⊤
-ReadsToSend old new line (Err fault) = ⊥
 
 -- a whole reply, or none
 abbrev pub HearsReply : Incoming → Incoming → List ℕ → Result ⊤ AskFault → Type 0

@@ -1,6 +1,7 @@
 //! What a client comes to.
 ghost use Rattle.std.specs.Prelude.{◌≡◌, ◌<◌, ◌+◌, ◌^◌};
-ghost use Rattle.ot_ask.specs.Asking.{none_counted, with_reply};
+ghost use Rattle.ot_ask.specs.Asking.{none_counted};
+ghost use Rattle.ot_ask.specs.Exchanges.{with_reply};
 
 /// How a client's session ended where nothing went wrong.
 #[derive(Clone, Copy, Debug, PartialEq, Eq)]

@@ -1,6 +1,7 @@
 //! A client's session.
 ghost use Rattle.std.specs.Prelude.{◌≡◌};
-ghost use Rattle.ot_ask.specs.Asking.{Asks, Talks, asked_after, is_silent, ways};
+ghost use Rattle.ot_ask.specs.Asking.{Asks, Talks, is_silent, ways};
+ghost use Rattle.ot_ask.specs.Exchanges.{asked_after};
 ghost use Rattle.ot_ask.specs.Streams.{outgoing};
 
 use crate::asked::{AskFault, Asked, Tally};

@@ -1,7 +1,8 @@
 //! One line and its reply, and a goodbye behind a refusal.
 ghost use Rattle.std.specs.Prelude.{◌≡◌, OnOk, IfErr};
 ghost use Rattle.ot_ask.specs.declared.asked.AskFault.TheVariants.{Memory};
-ghost use Rattle.ot_ask.specs.Asking.{IsShown, LeavesServer, TakesOneLine, ways};
+ghost use Rattle.ot_ask.specs.Asking.{IsShown, LeavesServer, ways};
+ghost use Rattle.ot_ask.specs.Exchanges.{TakesOneLine};
 ghost use Rattle.ot_ask.specs.Streams.{link, outgoing};
 
 use crate::asked::{AskFault, Asked};

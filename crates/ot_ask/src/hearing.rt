@@ -1,6 +1,7 @@
 //! One line that is read, and one that is heard.
 ghost use Rattle.std.specs.Prelude.{◌≡◌, [], Ok, Err, Option, List, ℕ};
-ghost use Rattle.ot_ask.specs.Asking.{HearsReply, ReadsToSend};
+ghost use Rattle.ot_ask.specs.Asking.{HearsReply};
+ghost use Rattle.ot_ask.specs.Exchanges.{ReadsToSend};
 
 use crate::asked::AskFault;
 use crate::line::complete;

@@ -11,7 +11,8 @@ use Rattle.ot_job.specs.Moves.{Claimed, Settles as HasSettled}
 use Rattle.ot_job.specs.Taken.{Taken as Piece, Came as Done}
 use Rattle.ot_job.specs.declared.state.State.TheVariants.{Working, Failing, Ended, Failed}
 use Rattle.ot_job.proofs.DealingsLemmas.{claimed-gives}
-use Rattle.ot_core.specs.Floors.{job_of, Begins, Floor, with_job, IsFree, SubmitsFor, EntersFor, NothingAt, ClaimsFor, ClaimsOf, IsWorking, FailsIn, AbortsJob, HasJob, HasOver, LeavesFor, CollectsFor, SettlesFor, units_of, RunsShort}
+use Rattle.ot_core.specs.Floors.{job_of, Floor, with_job, IsFree, SubmitsFor, EntersFor, NothingAt, ClaimsFor, ClaimsOf, IsWorking, FailsIn, AbortsJob, HasJob, HasOver, LeavesFor, CollectsFor, SettlesFor, units_of, RunsShort}
+use Rattle.ot_core.specs.Index.{Begins}
 use Rattle.ot_core.specs.declared.hall.Collected.TheVariants as collected
 
 -- who has a job is there

@@ -7,7 +7,7 @@ use Rattle.std.proofs.lemmas.Option.{none-some, same_Some, slice_get_within}
 use Rattle.std.proofs.Math.ListN.{get_or-map}
 use Rattle.slab.specs.Slab.{Slab, get, with_value}
 use Rattle.ot_job.specs.Dealings.{Live}
-use Rattle.ot_core.specs.Floors.{job_at, key_of, Indexes}
+use Rattle.ot_core.specs.Index.{job_at, key_of, Indexes}
 
 -- what is read of many of the same
 pub replicated-at : {X : Type 0} (x : X) (n u : ℕ) → get_or (replicate n x) u x ≡ x

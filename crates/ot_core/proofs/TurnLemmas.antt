@@ -6,7 +6,8 @@ use Rattle.std.proofs.Math.ListN.{get_or-map}
 use Rattle.std.proofs.lemmas.Bool.{cases_lt, ltb-false}
 use Rattle.std.proofs.lemmas.List.{get_or_past, get_or-set_same, length-map, length-set, map-set, nil_from_length}
 use Rattle.ot_job.specs.Dealings.{Live, claimable_in}
-use Rattle.ot_core.specs.Floors.{job_of, has_claimable, NothingAt, NothingIn, NothingAnywhere, IsNext}
+use Rattle.ot_core.specs.Floors.{job_of, has_claimable, NothingAt, NothingAnywhere}
+use Rattle.ot_core.specs.Index.{NothingIn, IsNext}
 use Rattle.ot_core.specs.FloorView.{IsHall}
 use Rattle.ot_core.specs.Marking.{is_marked, IsFirst}
 use Rattle.ot_core.specs.declared.hall.Hall.TheInside.{Inside}

@@ -1,5 +1,5 @@
 -- Where each tenant's job lies.
-use Rattle.std.specs.Prelude.{◌≡◌, ◌+◌, ◌⊎◌, ℕ, List, [], replicate, Option, Some, None, slice_get, slice_set, slice_index_or, nat_lt, Bool, false, length, IsSome, map, ◌≤◌, ◌<◌}
+use Rattle.std.specs.Prelude.{◌≡◌, [], ◌+◌, ◌⊎◌, ℕ, List, replicate, Option, Some, None, slice_get, slice_set, slice_index_or, nat_lt, Bool, false, length}
 use Rattle.std.specs.List.{sum_by}
 use Rattle.ot_check.specs.Jobs.{Spec, IsMeaning}
 use Rattle.ot_job.specs.Dealings.{Live, Starts, Fails as HasFailed, claimable_in, aborted, IsOf, IsOver, NoneOut, state_of}
@@ -10,8 +10,6 @@ use Rattle.ot_job.specs.declared.piece.Refused.TheVariants.{Stranger}
 use Rattle.ot_job.specs.declared.state.State.TheVariants as state
 use Rattle.ot_core.specs.declared.hall.Collected.{Collected}
 use Rattle.ot_core.specs.declared.hall.Collected.TheVariants as collected
-use Rattle.slab.specs.Slab.{Slab, get}
-use Rattle.ot_core.specs.declared.live.Jobs.TheInside.{Inside}
 
 -- the tenant's job
 abbrev pub job_of : List (Option Live) → ℕ → Option Live
@@ -21,32 +19,6 @@ job_of jobs tenant = slice_index_or jobs tenant None
 abbrev pub has_claimable : Option Live → Bool
 has_claimable None = false
 has_claimable (Some j) = nat_lt 0 (length (claimable_in j))
-
--- the job at a key
-abbrev pub job_at : Slab Live → Option ℕ → Option Live
-job_at s None = None
-job_at s (Some key) = get s key
-
-abbrev pub jobs_of : Inside → List (Option Live)
-jobs_of l = map (job_at l.slab) l.keys.items
-
--- the key of the tenant's job
-abbrev pub key_of : List (Option ℕ) → ℕ → Option ℕ
-key_of keys tenant = slice_index_or keys tenant None
-
--- each key has a job, and no two tenants have one key
-pub record Indexes (slab : Slab Live) (keys : List (Option ℕ)) : Type 0 where
-  pub there : (t k : ℕ) → key_of keys t ≡ Some k → IsSome (get slab k)
-  pub apart : (t u k : ℕ) → key_of keys t ≡ Some k → key_of keys u ≡ Some k → t ≡ u
-
-abbrev pub IsIndexed : Inside → Type 0
-IsIndexed l = Indexes l.slab l.keys.items
-
--- the tenant has a job that begins
-pub record Begins (old : List (Option Live)) (tenant : ℕ) (spec : Spec) (new : List (Option Live)) : Type 0 where
-  pub job : Live
-  pub starts : Starts spec job
-  pub new_is : new ≡ slice_set old tenant (Some job)
 
 -- The live jobs of all tenants, and the units that were settled for each.
 
@@ -175,18 +147,9 @@ pub record LeavesFor (old : Floor) (t : ℕ) (job : Live) (new : Floor) : Type 0
 
 -- Claims by turn.
 
--- no tenant from one number up to another has a claimable task
-abbrev pub NothingIn : List (Option Live) → ℕ → ℕ → Type 0
-NothingIn jobs from to = (t : ℕ) → from ≤ t → t < to → NothingAt jobs t
-
 -- no tenant has a claimable task
 abbrev pub NothingAnywhere : List (Option Live) → Type 0
 NothingAnywhere jobs = (t : ℕ) → NothingAt jobs t
-
--- the first tenant with a claimable task from one number on, and else the first of all
-abbrev pub IsNext : List (Option Live) → ℕ → Option ℕ → Type 0
-IsNext jobs first None = NothingAnywhere jobs
-IsNext jobs first (Some t) = ¬ (NothingAt jobs t) × (((first ≤ t) × NothingIn jobs first t) ⊎ (NothingIn jobs first (length jobs) × NothingIn jobs 0 t))
 
 -- a piece of some tenant, where a tenant has a claimable task
 abbrev pub ClaimsSome : Floor → ℕ → ℕ → Option (ℕ × Piece) → Floor → Type 0

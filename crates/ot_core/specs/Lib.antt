@@ -10,3 +10,4 @@ pub mod Openings
 pub mod Headline
 pub mod Draining
 pub mod Toil
+pub mod Index

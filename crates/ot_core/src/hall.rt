@@ -63,7 +63,8 @@ impl Model for Hall {
 
 impl Hall {
     ghost use Rattle.ot_job.specs.Dealings.{claimable_in, state_of};
-    ghost use Rattle.ot_core.specs.Floors.{job_of, new_floor, units_of, total_of, IsFree, SubmitsFor, EntersFor, ClaimsOf, IsWorking, NothingAt, SettlesFor, RefusesIn, FailsIn, AbortsJob, CollectsFor, HasOver, LeavesFor, NothingAnywhere, IsNext, ClaimsSome, RunsShort};
+    ghost use Rattle.ot_core.specs.Floors.{job_of, new_floor, units_of, total_of, IsFree, SubmitsFor, EntersFor, ClaimsOf, IsWorking, NothingAt, SettlesFor, RefusesIn, FailsIn, AbortsJob, CollectsFor, HasOver, LeavesFor, NothingAnywhere, ClaimsSome, RunsShort};
+    ghost use Rattle.ot_core.specs.Index.{IsNext};
     ghost use Rattle.ot_core.specs.Draining.{claimable_of, over_of};
     ghost use Rattle.ot_core.specs.Toil.{LivelyAt};
     ghost use Rattle.ot_core.specs.declared.hall.SubmitFault.TheVariants.{Busy};

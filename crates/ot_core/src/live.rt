@@ -24,7 +24,7 @@ impl Model for Jobs {
 
     ghost coded = { Prim.hlevel (codes, body_code) };
 
-    ghost use Rattle.ot_core.specs.Floors.{jobs_of, IsIndexed};
+    ghost use Rattle.ot_core.specs.Index.{jobs_of, IsIndexed};
 
     ghost view = { jobs_of };
 
@@ -34,7 +34,8 @@ impl Model for Jobs {
 impl Jobs {
     ghost use Rattle.std.specs.Borrow.{sem};
     ghost use Rattle.ot_core.specs.Lending.{LendsJob};
-    ghost use Rattle.ot_core.specs.Floors.{job_of, has_claimable, Begins};
+    ghost use Rattle.ot_core.specs.Floors.{job_of, has_claimable};
+    ghost use Rattle.ot_core.specs.Index.{Begins};
 
     /// Nobody has a job.
     pub(crate) fn new(alloc: Global, tenants: u32) -> Result<Jobs, AllocError>

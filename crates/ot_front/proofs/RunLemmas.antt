@@ -5,7 +5,7 @@ use Rattle.ot_model.specs.Programs.{Expanded, expanded_of}
 use Rattle.ot_check.specs.Jobs.{Spec}
 use Rattle.ot_book.specs.Answers.{Step, Now, Runs}
 use Rattle.ot_book.specs.Books.{Register, opened, open_step, OpensLine}
-use Rattle.ot_front.specs.Serving.{WouldRun}
+use Rattle.ot_front.specs.Turns.{WouldRun}
 use Rattle.ot_book.specs.declared.book.Opened.{Opened}
 use Rattle.ot_book.specs.declared.book.Opened.TheVariants.{ToRun}
 use Rattle.ot_front.specs.Session.{RunsProgram}

@@ -10,7 +10,8 @@ use Rattle.ot_book.specs.Books.{Register, next_number, logged}
 use Rattle.ot_book.specs.Room.{room_in, takes, room_after}
 use Rattle.ot_book.proofs.RoomLemmas.{full-takes, free-takes}
 use Rattle.ot_check.proofs.SetLemmas.{slice_get-more}
-use Rattle.ot_front.specs.Serving.{AppendsFront, result_of, Going, Goes, LogsLine, WouldRun}
+use Rattle.ot_front.specs.Serving.{AppendsFront, result_of, Going, Goes}
+use Rattle.ot_front.specs.Turns.{LogsLine, WouldRun}
 use Rattle.ot_front.specs.Session.{Heard, hear, with_line, is_bye, max_line, HasNoEnd, closing, heard_in, session_text, logged_lines, TellsAll, LeavesRun, BreaksOff, SessionTells, Session, Lines, texts, marks, marked, after, told, reply_line, last_reply, RunsProgram}
 use Rattle.ot_front.specs.declared.fault.End.{End}
 use Rattle.ot_front.specs.declared.fault.End.TheVariants as end

@@ -10,7 +10,7 @@ use Rattle.ot_book.specs.Answers.{is_checkpoint, answer_or_lost}
 use Rattle.ot_book.specs.Room.{Room, room_in, room_after}
 use Rattle.ot_book.proofs.BookLemmas.{logged-by}
 use Rattle.ot_book.proofs.RoomLemmas.{room-logged}
-use Rattle.ot_front.specs.Serving.{LogsLine}
+use Rattle.ot_front.specs.Turns.{LogsLine}
 use Rattle.ot_front.specs.Session.{Lines, texts, marks, marked, after, told, reply_line}
 
 -- ---- lines and marks

@@ -5,3 +5,4 @@ pub mod Desks
 pub mod FirstLines
 pub mod Greetings
 pub mod Racks
+pub mod Turns

@@ -2,7 +2,8 @@
 ghost use Rattle.std.specs.Prelude.{◌≡◌, ◌≢◌, ◌<◌, ◌⊎◌, ℕ, None, length, take, string_bytes, IfOk, IfErr, OnOk, OnErr};
 ghost use Rattle.std.specs.Io.KnownBytes.{Appends};
 ghost use Rattle.ot_book.specs.declared.executor.NotDone.TheVariants as not_done;
-ghost use Rattle.ot_front.specs.Serving.{count_after, failed_writes, LogsLine, WouldRun};
+ghost use Rattle.ot_front.specs.Serving.{count_after, failed_writes};
+ghost use Rattle.ot_front.specs.Turns.{LogsLine, WouldRun};
 ghost use Rattle.ot_front.specs.Session.{last_reply};
 ghost use Rattle.ot_front.specs.declared.stop.Stop.TheVariants.{WriteFailed, Memory};
 

@@ -2,7 +2,8 @@
 ghost use Rattle.std.specs.Prelude.{◌≡◌, ◌≢◌, ◌≤◌, ℕ, None, Ok, Err};
 ghost use Rattle.std.specs.Io.KnownBytes.{IsAtEnd};
 ghost use Rattle.ot_lines.specs.Lines.{flow, opened};
-ghost use Rattle.ot_front.specs.Serving.{next_count, count_after, session_bounds, IsServed};
+ghost use Rattle.ot_front.specs.Serving.{next_count, count_after, session_bounds};
+ghost use Rattle.ot_front.specs.Turns.{IsServed};
 ghost use Rattle.ot_front.specs.Session.{Serves};
 ghost use Rattle.ot_front.specs.declared.fault.End.TheVariants.{EndOfInput};
 ghost use Rattle.ot_front.specs.declared.fault.FrontFault.TheVariants.{ReadFailed, WriteFailed, TooManyTurns};

@@ -2,7 +2,8 @@
 ghost use Rattle.std.specs.Prelude.{◌≡◌, ◌≤◌, ◌++◌, ◌∷◌, [], ℕ, List, Option, Some, None, OnOk, OnErr, IfOk, IfErr};
 ghost use Rattle.std.specs.Io.KnownBytes.{Appends};
 ghost use Rattle.ot_book.specs.Books.{Register, next_number};
-ghost use Rattle.ot_front.specs.Serving.{AppendsFront, next_count, count_after, failed_writes, Going, Goes, TakesLine};
+ghost use Rattle.ot_front.specs.Serving.{AppendsFront, next_count, count_after, failed_writes, Going, Goes};
+ghost use Rattle.ot_front.specs.Turns.{TakesLine};
 ghost use Rattle.ot_front.specs.Session.{closing};
 ghost use Rattle.ot_front.specs.declared.fault.End.TheVariants as end;
 ghost use Rattle.ot_front.specs.declared.fault.FrontFault.TheVariants as fault;

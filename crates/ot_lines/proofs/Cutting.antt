@@ -6,7 +6,8 @@ use Rattle.std.proofs.lemmas.List.{get_or-take, length-take-le, drop-take, take-
 use Rattle.std.proofs.lemmas.Bool.Decides.{nat_tests}
 use Rattle.memchr.specs.Find.{Nowhere, NoneBefore, Passes, is_byte}
 use Rattle.ot_lines.specs.declared.lines.Heard.TheVariants.{Line, Long}
-use Rattle.ot_lines.specs.Lines.{HasNoEnd, Hearing, Cuts, taken, passed}
+use Rattle.ot_lines.specs.Lines.{HasNoEnd, Hearing}
+use Rattle.ot_lines.specs.Cutting.{Cuts, taken, passed}
 use Rattle.ot_lines.proofs.Passing.{passes_front}
 
 passes_ten : (b : ℕ) → b ≡ 10 → (b == 10) ≡ true

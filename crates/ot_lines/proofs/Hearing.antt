@@ -6,7 +6,8 @@ use Rattle.ot_lines.specs.declared.lines.Heard.{Heard}
 use Rattle.ot_lines.specs.declared.lines.Heard.TheVariants.{Line, End, Long}
 use Rattle.ot_lines.specs.declared.lines.LineFault.{LineFault}
 use Rattle.ot_lines.specs.declared.lines.LineFault.TheVariants.{ReadFailed, TooManyReads}
-use Rattle.ot_lines.specs.Lines.{Flow, next_count, count_after, HasNoEnd, Hearing, Passes, IsIdle, Hears, Cuts, Fills}
+use Rattle.ot_lines.specs.Lines.{Flow, next_count, count_after, HasNoEnd, Hearing, Passes, IsIdle, Hears}
+use Rattle.ot_lines.specs.Cutting.{Cuts, Fills}
 use Rattle.ot_lines.proofs.Passing.{passes_on, passes_front}
 
 reads_behind : (old new : List ℕ) (before after : Option (List ℕ)) → old ≡ [] → Consumes before after new → Consumes (prepend_known old before) (prepend_known new after) []

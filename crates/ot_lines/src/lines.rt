@@ -1,6 +1,7 @@
 //! Lines, one by one.
 ghost use Rattle.std.specs.Prelude.{◌≡◌, ◌<◌, ◌≤◌, ◌++◌, ◌+◌, suc, length, take, drop, vec_len, IfOk, OnErr, OnOk, []};
-ghost use Rattle.ot_lines.specs.Lines.{flow, opened, Hears, Cuts, Fills, taken, passed};
+ghost use Rattle.ot_lines.specs.Lines.{flow, opened, Hears};
+ghost use Rattle.ot_lines.specs.Cutting.{Cuts, Fills, taken, passed};
 
 use crate::source::Source;
 use memchr::memchr;

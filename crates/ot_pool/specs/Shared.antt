@@ -1,5 +1,5 @@
 -- What all threads share, and what each turn under the lock does to it.
-use Rattle.std.specs.Prelude.{◌≡◌, ◌+◌, ◌<◌, ◌^◌, ◌↔◌, ◌⊎◌, ◌&&◌, ℕ, length, Bool, true, false, not, Option, Some, None, option_map, Result, Ok, Err}
+use Rattle.std.specs.Prelude.{◌≡◌, ◌+◌, ◌<◌, ◌^◌, ◌↔◌, ◌⊎◌, ℕ, length, Bool, true, false, Option, Some, None, option_map, Result, Ok, Err}
 use Rattle.ot_check.specs.Jobs.{Spec}
 use Rattle.ot_check.specs.declared.job.Outcome.{Outcome}
 use Rattle.ot_job.specs.Dealings.{Live, state_of}
@@ -9,7 +9,7 @@ use Rattle.ot_job.specs.Taken.{Came as Done}
 use Rattle.ot_job.specs.declared.piece.Refused.{Refused}
 use Rattle.ot_book.specs.declared.executor.NotDone.{NotDone}
 use Rattle.ot_book.specs.declared.executor.NotDone.TheVariants.{Memory, Closed, Stranger}
-use Rattle.ot_core.specs.Floors.{job_of, Floor, new_floor, total_of, IsFree, IsWorking, NothingAt, RefusesIn, FailsIn, AbortsJob, ClaimsSome, NothingAnywhere}
+use Rattle.ot_core.specs.Floors.{job_of, Floor, new_floor, total_of, IsFree, IsWorking, NothingAt, RefusesIn, FailsIn, AbortsJob, ClaimsSome}
 use Rattle.ot_core.specs.Floors as floors
 use Rattle.ot_core.specs.declared.hall.Collected.TheVariants as collected
 use Rattle.ot_pool.specs.declared.hub.Claimed.{Claimed}
@@ -123,10 +123,6 @@ is_going (Some Working) = true
 is_going (Some Failing) = true
 is_going _ = false
 
--- the pool is open, and the tenant has a job that isn't over
-abbrev pub is_pending : Shared → ℕ → Bool
-is_pending s t = not s.closed && is_going (option_map (λ j. state_of j) (job_of s.floor.jobs t))
-
 -- ---- a collect in two calls: the turn takes out a job that is over, and behind it the client is told what it came to
 
 -- the tenant has a job that isn't over
@@ -140,40 +136,3 @@ Leaves old t (Some (Ok job)) new = Turns (λ f g. floors.LeavesFor f t job g) ol
 Leaves old t (Some (Err Memory)) new = ⊥
 Leaves old t (Some (Err Stranger)) new = Turns (λ f g. (job_of f.jobs t ≡ None) × (g ≡ f)) old new
 Leaves old t (Some (Err Closed)) new = FindsClosed old new
-
--- ---- a worker's round
-
--- a piece comes back, where there is one
-abbrev pub TakesBack : Shared → Option (ℕ × Done) → Shared → Type 0
-TakesBack old None new = new ≡ old
-TakesBack old (Some p) new = (units : Option ℕ) × ReturnsPiece old p.0 p.1 units new
-
--- a worker hands back what it ran, and claims behind it
-pub record Rounds (old : Shared) (back : Option (ℕ × Done)) (turn worker : ℕ) (got : Claimed) (new : Shared) : Type 0 where
-  pub between : Shared
-  pub takes : TakesBack old back between
-  pub claims : ClaimsAny between turn worker got new
-
--- whose piece came back
-abbrev pub client_of : Option (ℕ × Done) → Option ℕ
-client_of None = None
-client_of (Some p) = Some p.0
-
--- that client has no job any more that isn't over, or the pool is closed
-abbrev pub is_over : Option ℕ → Shared → Bool
-is_over None s = false
-is_over (Some t) s = not (is_pending s t)
-
--- a claim aborted a job
-abbrev pub is_aborted : Claimed → Bool
-is_aborted (claimed.Aborted t) = true
-is_aborted _ = false
-
--- a worker waits, and a task is claimable
-abbrev pub CallsWorkers : Bool → Shared → Type 0
-CallsWorkers waits s = (waits ≡ true) × ¬ (NothingAnywhere s.floor.jobs)
-
--- Behind a round somebody who waits may go on: the client whose piece came back, for its job is over, the client of a job that
--- was aborted, or a worker.
-abbrev pub IsToTell : Option (ℕ × Done) → Claimed → Bool → Shared → Type 0
-IsToTell back got waits new = (is_over (client_of back) new ≡ true) ⊎ ((is_aborted got ≡ true) ⊎ CallsWorkers waits new)

@@ -267,7 +267,8 @@ impl<L: Ledger> Hub<L> {
 ghost use Rattle.ot_check.specs.Jobs.{IsMeaning, Spec};
 ghost use Rattle.ot_job.specs.Dealings.{Starts, IsOf, IsOver, state_of};
 ghost use Rattle.ot_book.specs.declared.executor.NotDone.TheVariants.{Stranger};
-ghost use Rattle.ot_pool.specs.Shared.{is_aborted, new_shared, Submits, Enters, RefusesSpec, ClaimsAny, ReturnsPiece, Collects, Leaves, is_pending, Shared, HasRoomForUnits};
+ghost use Rattle.ot_pool.specs.Rounds.{is_aborted, is_pending};
+ghost use Rattle.ot_pool.specs.Shared.{new_shared, Submits, Enters, RefusesSpec, ClaimsAny, ReturnsPiece, Collects, Leaves, Shared, HasRoomForUnits};
 
 /// What whoever submitted this spec is told of a job that is over and was taken out. It takes no lock: with the turn
 /// that took the job out it is a collect. `Stranger` comes where the job is of another spec, which is let go then, and

@@ -1,5 +1,5 @@
 ghost use Rattle.std.specs.Prelude.{◌≡◌, ◌<◌, ◌≤◌, ◌↔◌, ◌&&◌, IsTrue, not};
-ghost use Rattle.ot_pool.specs.Shared.{TakesBack, Rounds, IsToTell, CallsWorkers, client_of, is_over, is_aborted};
+ghost use Rattle.ot_pool.specs.Rounds.{TakesBack, Rounds, IsToTell, CallsWorkers, client_of, is_over, is_aborted};
 
 use crate::hub::{Claimed, Hub};
 use ot_job::Done;

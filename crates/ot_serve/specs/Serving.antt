@@ -1,19 +1,12 @@
 -- What is printed when a server ends.
-use Rattle.std.specs.Prelude.{◌≡◌, ◌≤◌, ℕ, List, [], Option, Some, ⊤, length, ◌<◌, ◌&&◌, Bool, true, false, not, ◌∷◌, Result, Ok, Err, codes, ◌++◌, sum}
+use Rattle.std.specs.Prelude.{◌≡◌, [], ◌≤◌, ℕ, List, Option, Some, length, ◌&&◌, Bool, true, not, ◌∷◌, codes, ◌++◌, sum}
 use Rattle.std.specs.Io.KnownBytes.{Appends}
-use Rattle.ot_store.specs.Refusals.{usual_limits}
-use Rattle.ot_book.specs.Books.{Register, new_register}
 use Rattle.ot_serve.specs.declared.fault.Fault.{Fault}
-use Rattle.ot_serve.specs.declared.fault.Fault.TheVariants.{Memory, Stranger, SocketFailed, NoThread, BadTenantName, TooManyTenants}
 use Rattle.ot_serve.specs.declared.serve.Serve.{Serve}
 use Rattle.std.specs.List.{list_any}
 use Rattle.std.specs.Str.{bytes_eq}
 use Rattle.ot_program.specs.Meanings.{is_name}
 use Rattle.ot_serve.specs.declared.fault.Fault.TheVariants as of
-use Rattle.ot_front.specs.declared.fault.FrontFault.{FrontFault}
-use Rattle.ot_front.specs.declared.fault.FrontFault.TheVariants as front
-use Rattle.ot_pool.specs.declared.crew.NotStarted.{NotStarted}
-use Rattle.ot_pool.specs.declared.crew.NotStarted.TheVariants as start
 use Rattle.std.specs.Fmt.{decimal}
 
 -- the line of one tenant
@@ -40,18 +33,6 @@ pub record IsInRange (s : Serve) : Type 0 where
   pub sessions : IsFrom1To 16 s.sessions
   pub count : (n : ℕ) → s.count ≡ Some n → IsFrom1To 1000000 n
 
--- the book of a tenant whom nobody has served: it has the usual limits and no arrays
-abbrev pub newcomer : List ℕ → Register
-newcomer name = new_register name usual_limits []
-
--- the faults of a server whose tenants have names, before it prints
-abbrev pub IsLate : Fault → Type 0
-IsLate Memory = ⊤
-IsLate Stranger = ⊤
-IsLate SocketFailed = ⊤
-IsLate NoThread = ⊤
-IsLate _ = ⊥
-
 -- what is printed in the end: the units of each tenant, and their sum
 abbrev pub Prints : List (List ℕ) → Option (List ℕ) → Option (List ℕ) → Type 0
 Prints names old new = (units : List ℕ) × (length units ≡ length names) × Appends old new (usage_text names units)
@@ -62,13 +43,6 @@ Prints names old new = (units : List ℕ) × (length units ≡ length names) × 
 abbrev pub are_tenants : List (List ℕ) → Bool
 are_tenants [] = true
 are_tenants (name ∷ names) = is_name name && not (list_any (bytes_eq name) names) && are_tenants names
-
--- what is told of them: first whether they can be names of tenants, then whether they are too many
-abbrev pub TellsOf : {T : Type 0} → List (List ℕ) → Result T Fault → Type 0
-TellsOf names (Ok _) = (are_tenants names ≡ true) × (length names ≤ 64)
-TellsOf names (Err BadTenantName) = are_tenants names ≡ false
-TellsOf names (Err TooManyTenants) = (are_tenants names ≡ true) × (64 < length names)
-TellsOf names (Err _) = ⊥
 
 -- What the program tells of a fault.
 
@@ -87,27 +61,4 @@ stderr_line of.NoThread = codes "omptaskd: no thread"
 
 -- the exit status
 abbrev pub status_of : Fault → ℕ
-status_of of.ReadFailed = 1
-status_of of.WriteFailed = 1
-status_of of.Memory = 1
-status_of of.Stranger = 1
-status_of of.TooManyReads = 1
-status_of of.LineTooLong = 1
-status_of of.BadTenantName = 1
-status_of of.TooManyTenants = 1
-status_of of.SocketFailed = 1
-status_of of.NoThread = 1
-
--- the program's fault where a session, or the sessions at a socket, ended with one
-abbrev pub front_fault : FrontFault → Fault
-front_fault front.ReadFailed = of.ReadFailed
-front_fault front.WriteFailed = of.WriteFailed
-front_fault front.Memory = of.Memory
-front_fault front.Stranger = of.Stranger
-front_fault front.TooManyTurns = of.TooManyReads
-front_fault front.SocketFailed = of.SocketFailed
-
--- the program's fault where not every worker was started
-abbrev pub fault_of_start : NotStarted → Fault
-fault_of_start start.Memory = of.Memory
-fault_of_start start.NoThread = of.NoThread
+status_of fault = 1

@@ -1,7 +1,8 @@
 //! Workers and sessions side by side.
 ghost use Rattle.std.specs.Prelude.{◌≡◌, ◌≤◌, ◌<◌, IfOk, IfErr, vec_len, sum};
 ghost use Rattle.std.specs.List.{All, sum_by};
-ghost use Rattle.ot_serve.specs.Serving.{IsInRange, IsLate};
+ghost use Rattle.ot_serve.specs.Serving.{IsInRange};
+ghost use Rattle.ot_serve.specs.Starting.{IsLate};
 
 use crate::door::Door;
 use crate::fault::Fault;

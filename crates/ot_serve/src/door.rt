@@ -18,7 +18,7 @@ pub(crate) struct Door {
 
 impl Door {
     ghost use Rattle.std.specs.Prelude.{IfErr};
-    ghost use Rattle.ot_serve.specs.Serving.{IsLate};
+    ghost use Rattle.ot_serve.specs.Starting.{IsLate};
 
     /// A socket for this place. What a server that is gone has left there is removed.
     pub(crate) fn build<R: Files + Net>(rt: &R, alloc: Global, place: &str) -> Result<Door, Fault>

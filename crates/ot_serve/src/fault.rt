@@ -1,6 +1,7 @@
 //! What the program tells of a fault, and the status that it ends with.
 ghost use Rattle.std.specs.Prelude.{◌≡◌};
-ghost use Rattle.ot_serve.specs.Serving.{stderr_line, status_of, front_fault, fault_of_start};
+ghost use Rattle.ot_serve.specs.Serving.{stderr_line, status_of};
+ghost use Rattle.ot_serve.specs.Starting.{front_fault, fault_of_start};
 
 use ot_front::FrontFault;
 use ot_pool::NotStarted;

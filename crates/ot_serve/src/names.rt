@@ -2,7 +2,8 @@
 ghost use Rattle.std.specs.Prelude.{◌≡◌, map, string_bytes};
 ghost use Rattle.std.specs.List.{list_any};
 ghost use Rattle.std.specs.Str.{bytes_eq};
-ghost use Rattle.ot_serve.specs.Serving.{are_tenants, TellsOf};
+ghost use Rattle.ot_serve.specs.Serving.{are_tenants};
+ghost use Rattle.ot_serve.specs.Starting.{TellsOf};
 
 use crate::fault::Fault;
 use ot_program::is_name;

@@ -2,7 +2,8 @@
 ghost use Rattle.std.specs.Prelude.{◌≡◌, ◌≢◌, ◌↔◌, ◌<◌, ◌≤◌, Err, None, IfOk, IfErr, OnOk, true, false, length, map, string_bytes};
 ghost use Rattle.std.specs.List.{All};
 ghost use Rattle.ot_front.specs.Serving.{next_count};
-ghost use Rattle.ot_serve.specs.Serving.{IsInRange, Prints, newcomer, are_tenants};
+ghost use Rattle.ot_serve.specs.Serving.{IsInRange, Prints, are_tenants};
+ghost use Rattle.ot_serve.specs.Starting.{newcomer};
 
 use crate::crew::run;
 use crate::door::Door;

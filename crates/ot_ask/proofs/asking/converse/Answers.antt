@@ -1,6 +1,7 @@
 use Rattle.std.proofs.Common.{◌≡◌, ◌||◌, ◌&&◌, ◌∙◌, Ok, Err, true, false, refl, sym, ap, subst, rules, arith, length, filter, ◌+◌, ◌≤◌}
 use Rattle.std.proofs.lemmas.List.Elements.{All-nil}
-use Rattle.ot_ask.specs.Asking.{asked_after, ways, is_untaken}
+use Rattle.ot_ask.specs.Exchanges.{asked_after}
+use Rattle.ot_ask.specs.Asking.{ways, is_untaken}
 use Rattle.ot_ask.specs.Streams.{is_refusal, outgoing}
 use Rattle.ot_ask.specs.declared.asked.Tally.{Tally}
 use Rattle.ot_ask.specs.declared.asked.AskFault.TheVariants.{TooManyLines}

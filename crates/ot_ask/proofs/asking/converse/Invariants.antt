@@ -1,5 +1,6 @@
 use Rattle.std.proofs.Common.{◌≡◌, ◌≤◌, Bool, length}
-use Rattle.ot_ask.specs.Asking.{Talk, asked_of, ways, tally_of}
+use Rattle.ot_ask.specs.Asking.{Talk, ways, tally_of}
+use Rattle.ot_ask.specs.Exchanges.{asked_of}
 use Rattle.ot_ask.specs.Streams.{outgoing}
 use Rattle.ot_ask.proofs.TallyLemmas.{Calm}
 use Rattle.ot_ask.proofs.asking.converse.Given as goal

@@ -3,7 +3,7 @@ use Rattle.std.specs.List.{All}
 use Rattle.std.proofs.lemmas.Grind.{common_steps}
 use Rattle.std.proofs.lemmas.List.Elements.{All-push}
 use Rattle.ot_book.specs.Books.{Register}
-use Rattle.ot_serve.specs.Serving.{newcomer}
+use Rattle.ot_serve.specs.Starting.{newcomer}
 use Rattle.ot_serve.proofs.socket.empty_books.Goals as goal
 
 pub loop-name-preserved : goal.loop-name-preserved

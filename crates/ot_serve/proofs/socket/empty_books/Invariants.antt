@@ -1,7 +1,7 @@
 use Rattle.std.proofs.Common.{◌≡◌, map, None}
 use Rattle.std.specs.Prelude.{string_bytes, take}
 use Rattle.std.specs.List.{All}
-use Rattle.ot_serve.specs.Serving.{newcomer}
+use Rattle.ot_serve.specs.Starting.{newcomer}
 use Rattle.ot_serve.proofs.socket.empty_books.Given as goal
 
 -- each name so far has a new book, which is closed

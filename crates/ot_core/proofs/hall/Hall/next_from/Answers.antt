@@ -1,6 +1,7 @@
 use Rattle.std.proofs.Common.{subst}
 use Rattle.std.specs.Prelude.{Some}
-use Rattle.ot_core.specs.Floors.{Floor, IsNext}
+use Rattle.ot_core.specs.Floors.{Floor}
+use Rattle.ot_core.specs.Index.{IsNext}
 use Rattle.ot_core.proofs.TurnLemmas.{next-on, next-again}
 use Rattle.ot_core.proofs.hall.Hall.next_from.Goals as goal
 

@@ -1,5 +1,5 @@
 use Rattle.std.proofs.Common.{ap, ◌∙◌, replicate, None, arith}
-use Rattle.ot_core.specs.Floors.{job_at}
+use Rattle.ot_core.specs.Index.{job_at}
 use Rattle.ot_core.proofs.IndexLemmas.{map-replicate, indexes-none}
 use Rattle.ot_core.proofs.live.Jobs.new.Goals as goal
 

@@ -2,7 +2,8 @@ use Rattle.std.proofs.Common.{◌≡◌, ◌≤◌, ◌+◌, ◌-◌, length, sy
 use Rattle.std.proofs.lemmas.List.{length-take-le}
 use Rattle.std.specs.Prelude.{Some, None}
 use Rattle.memchr.specs.Find.{Nowhere, NoneBefore, Passes, is_byte}
-use Rattle.ot_lines.specs.Lines.{Hearing, Cuts, taken, passed}
+use Rattle.ot_lines.specs.Lines.{Hearing}
+use Rattle.ot_lines.specs.Cutting.{Cuts, taken, passed}
 use Rattle.ot_lines.specs.declared.lines.Heard.TheVariants.{Line, Long}
 use Rattle.ot_lines.proofs.Cutting.{long, cuts_line, cuts_long, cuts_all}
 use Rattle.ot_lines.proofs.lines.Lines.cut.Goals as goal

@@ -1,5 +1,6 @@
 use Rattle.std.proofs.Common.{◌≤◌, ◌+◌, length, ap, ◌∙◌, arith}
-use Rattle.ot_lines.specs.Lines.{Hearing, passed}
+use Rattle.ot_lines.specs.Lines.{Hearing}
+use Rattle.ot_lines.specs.Cutting.{passed}
 use Rattle.ot_lines.proofs.Cutting.{long, is_passed}
 use Rattle.ot_lines.proofs.lines.Lines.pass.Goals as goal
 

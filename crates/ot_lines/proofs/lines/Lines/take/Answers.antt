@@ -1,6 +1,7 @@
 use Rattle.std.proofs.Common.{◌≤◌, ◌+◌, ◌++◌, length, ap, ◌∙◌, arith}
 use Rattle.std.specs.Prelude.{slice_range}
-use Rattle.ot_lines.specs.Lines.{Hearing, taken}
+use Rattle.ot_lines.specs.Lines.{Hearing}
+use Rattle.ot_lines.specs.Cutting.{taken}
 use Rattle.ot_lines.proofs.Cutting.{long, is_taken}
 use Rattle.ot_lines.proofs.lines.Lines.take.Goals as goal
 
