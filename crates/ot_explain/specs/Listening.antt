@@ -12,6 +12,16 @@ use Rattle.ot_explain.specs.declared.explaining.Explained.{Explained}
 use Rattle.ot_explain.specs.declared.explaining.Explained.TheVariants.{SomeRefused}
 use Rattle.ot_explain.specs.Explaining.{Remarked, RemarksOn, refuses, remark_line, says, without_remarks}
 
+-- remarks, one after another
+pub record IsRemarks (text : List ℕ) : Type 0 where
+  pub lines : List (List ℕ)
+  pub are : All HasNoEnd lines
+  pub is : text ≡ flat_map remark_line lines
+
+-- the text ends where a line ends: what follows has lines of its own
+abbrev pub IsWhole : List ℕ → Type 0
+IsWhole text = (more : List ℕ) → without_remarks (text ++ more) ≡ without_remarks text ++ without_remarks more
+
 -- what is said at such an end, where this was said of the lines before it
 abbrev pub said_at : End → Explained → Explained
 said_at Full said = SomeRefused
@@ -111,13 +121,3 @@ pub record HushesLine (old : Register) (before : Explained) (held : Option (List
   pub goes : (first : Register) (start : Option (List ℕ)) (bytes : List ℕ) → first.pending ≡ None → HasNoEnd line → length line ≤ max_line →
       Hushed first start bytes old held before → HushedOn first start (bytes ++ (line ++ 10 ∷ [])) old new held now before said result
   pub grows : next_number old ≤ next_number new
-
--- remarks, one after another
-pub record IsRemarks (text : List ℕ) : Type 0 where
-  pub lines : List (List ℕ)
-  pub are : All HasNoEnd lines
-  pub is : text ≡ flat_map remark_line lines
-
--- the text ends where a line ends: what follows has lines of its own
-abbrev pub IsWhole : List ℕ → Type 0
-IsWhole text = (more : List ℕ) → without_remarks (text ++ more) ≡ without_remarks text ++ without_remarks more
