@@ -8,7 +8,7 @@ import subprocess
 import sys
 import time
 
-from parts import COMPANION, DEPLOY, PROGRAM, folder, start, wait_for
+from parts import COMPANION, DEPLOY, PROGRAM, ROOT, folder, is_unproved, start, wait_for
 
 LAYER = """
 mount --make-rprivate /
@@ -32,6 +32,7 @@ exec chroot . env -i container=other PATH=/usr/sbin:/usr/bin:/sbin:/bin /lib/sys
 """
 GROUPS = [path for path in ("/sys/fs/cgroup/systemd", "/sys/fs/cgroup/unified") if os.path.isdir(path)]
 INSIDE = "srv/programs"
+HERE = "srv/repository"
 ENTERED = "DEPLOY_TEST_ENTERED"
 
 
@@ -42,9 +43,11 @@ def enter():
     if os.geteuid() != 0:
         sys.exit("a machine of its own wants root")
     at = folder()
-    # The programs come along, since they may stand in /tmp, which isn't seen from inside.
+    # The programs and the repository come along, since they may stand in /tmp or on another disk, which aren't seen from inside.
     inside = f"""
-mkdir -p {INSIDE}
+mkdir -p {INSIDE} {HERE}
+mount --bind "$1" {HERE} && mount -o remount,bind,ro {HERE}
+shift
 for name in omptaskd omptask; do
   [ ! -e "$1" ] || install -m 755 "$1" "{INSIDE}/$name"
   shift
@@ -53,9 +56,12 @@ cd / && exec chroot "$OLDPWD" "$@"
 """
     spaces = "--net --mount --uts --pid --fork --kill-child"
     command = ["unshare", *spaces.split(), "sh", "-ec", LAYER + inside, at, "test"]
-    command += [os.path.abspath(PROGRAM), os.path.abspath(COMPANION)]
-    command += [sys.executable, os.path.abspath(sys.argv[0]), *sys.argv[1:]]
+    command += [str(ROOT), os.path.abspath(PROGRAM), os.path.abspath(COMPANION)]
+    test = pathlib.Path(sys.argv[0]).resolve().relative_to(ROOT)
+    command += [sys.executable, f"/{HERE}/{test}", *sys.argv[1:]]
     environment = {**os.environ, "OMPTASKD": f"/{INSIDE}/omptaskd", "OMPTASK": f"/{INSIDE}/omptask", ENTERED: "1"}
+    # git takes the repository for a stranger's where it isn't root's.
+    environment |= {"GIT_CONFIG_COUNT": "1", "GIT_CONFIG_KEY_0": "safe.directory", "GIT_CONFIG_VALUE_0": "*"}
     environment.pop("TMPDIR", None)
     sys.exit(subprocess.run(command, env=environment, cwd="/").returncode)
 
@@ -87,6 +93,13 @@ def removed(path):
             time.sleep(0.1)
 
 
+def give_addresses():
+    """Units have no LimitAS, for a program that couldn't run in it."""
+    at = pathlib.Path("/etc/systemd/system/service.d")
+    at.mkdir(parents=True, exist_ok=True)
+    (at / "addresses.conf").write_text("[Service]\nLimitAS=infinity\n")
+
+
 class Machine:
     """A machine that systemd begins, on the bridge of the one that the test is in."""
 
@@ -96,6 +109,8 @@ class Machine:
         self.name, self.address, self.at = name, address, folder()
         if Machine.bridge is None:
             Machine.bridge = "bridge"
+            if is_unproved():
+                give_addresses()
             for words in ("add bridge type bridge", "set bridge up"):
                 subprocess.run(["ip", "link", *words.split()], check=True)
             subprocess.run(["ip", "addr", "add", "192.0.2.100/24", "dev", "bridge"], check=True)

@@ -41,6 +41,12 @@ def finish():
     sys.exit(wrong > 0)
 
 
+def is_unproved():
+    """Whether the program is one of scripts/build_unproved: the checks in it take more addresses than a limit on them leaves."""
+    with open(PROGRAM, "rb") as file:
+        return b"AddressSanitizer" in file.read()
+
+
 # ---- parts
 
 _parts = []
@@ -118,9 +124,9 @@ def etcd(at):
     return members, ",".join(f"127.0.0.1:{port}" for port in ports)
 
 
-def run(*command, **more):
+def run(*command, timeout=120, **more):
     """Runs a command; its status, what it wrote, and what it complained of."""
-    ran = subprocess.run(list(map(str, command)), capture_output=True, text=True, timeout=120, **more)
+    ran = subprocess.run(list(map(str, command)), capture_output=True, text=True, timeout=timeout, **more)
     return ran.returncode, ran.stdout, ran.stderr
 
 
@@ -132,7 +138,8 @@ class Party:
 
     def __init__(self, place, pem=None, authority=None, name="front.example", timeout=30, room=None):
         """`place` is a socket's path or (host, port); by TLS where an authority is given."""
-        self.raw = socket.socket(socket.AF_UNIX if isinstance(place, str) else socket.AF_INET)
+        family = socket.AF_UNIX if isinstance(place, str) else socket.AF_INET6 if ":" in place[0] else socket.AF_INET
+        self.raw = socket.socket(family)
         if room:
             self.raw.setsockopt(socket.SOL_SOCKET, socket.SO_RCVBUF, room)
         self.raw.settimeout(timeout)
@@ -175,6 +182,11 @@ class Party:
         except (OSError, ssl.SSLError) as fault:
             how = type(fault).__name__
         return b"".join(out).decode(), how
+
+    def is_ended(self):
+        """Whether the stream ends with nothing more said, well or cut off."""
+        text, how = self.end()
+        return text == "" and how != "TimeoutError"
 
     def half_close(self):
         socket.socket(fileno=os.dup(self.stream.fileno())).shutdown(socket.SHUT_WR)

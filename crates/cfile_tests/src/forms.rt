@@ -112,7 +112,7 @@ const TAKEN: [(&str, &str); 30] = [
 ];
 
 /// What stands in the region, from the first column of line 7 on, and why and where it is refused.
-const REFUSED: [(&str, Reason, usize, usize); 44] = [
+const REFUSED: [(&str, Reason, usize, usize); 46] = [
     ("y = 1;", Reason::Unknown, 7, 1),
     ("x = 1; x = y;", Reason::Unknown, 7, 8),
     ("a = 1;", Reason::WholeArray, 7, 1),
@@ -231,6 +231,18 @@ const REFUSED: [(&str, Reason, usize, usize); 44] = [
         1,
     ),
     (
+        "\n#pragma omp taskgroup task_reduction(+: a[0:2])\n#pragma omp task in_reduction(+: a[0:1])\na[0] += 1;",
+        Reason::NoGroup,
+        9,
+        1,
+    ),
+    (
+        "\n#pragma omp taskgroup task_reduction(+: a[0:2])\n#pragma omp task in_reduction(+: a[0:2])\na[2] += 1;",
+        Reason::Combined,
+        10,
+        1,
+    ),
+    (
         "\n#pragma omp taskgroup task_reduction(max: x)\n#pragma omp task in_reduction(max: x)\nif (x > s) x = s;",
         Reason::OwnCopy,
         10,
@@ -275,7 +287,7 @@ const REFUSED: [(&str, Reason, usize, usize); 44] = [
 ];
 
 /// Files whole, and why and where they are refused.
-const FILES: [(&str, Reason, usize, usize); 18] = [
+const FILES: [(&str, Reason, usize, usize); 19] = [
     (
         "int a[2];\nint main(void) {\n#pragma omp parallel\n#pragma omp single\n{ uint64_t *p = &a[0]; }\n}",
         Reason::OtherType,
@@ -382,6 +394,12 @@ const FILES: [(&str, Reason, usize, usize); 18] = [
         "int main(void) {\n#pragma omp parallel shared(x)\n#pragma omp single\n{ }\n}",
         Reason::Unknown,
         2,
+        1,
+    ),
+    (
+        "uint64_t x;\nint main(void) {\n#pragma omp parallel default(none)\n#pragma omp single\nx = 1;\n}",
+        Reason::Unlisted,
+        5,
         1,
     ),
 ];

@@ -3,7 +3,7 @@ use crate::telling::{Told, told_statement};
 use std::alloc::Global;
 use std::test::Fail;
 
-const STATEMENTS: [(&str, Told); 47] = [
+const STATEMENTS: [(&str, Told); 49] = [
     ("a[0] = 1;", Told::Read),
     ("a[i + 1] += b[2 * i] * 3;", Told::Read),
     ("x++;", Told::Read),
@@ -79,6 +79,14 @@ const STATEMENTS: [(&str, Told); 47] = [
     (
         "#pragma omp taskwait in_reduction(+: x)",
         Told::Refused("other clause", 1, 1),
+    ),
+    (
+        "#pragma omp task untied depend(in: x) untied\n{ }",
+        Told::Refused("other clause", 1, 1),
+    ),
+    (
+        "if (x)\n#pragma omp taskwait",
+        Told::Refused("directive", 2, 1),
     ),
     (
         "#pragma omp critical\n{ }",

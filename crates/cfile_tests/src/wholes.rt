@@ -26,7 +26,7 @@ const WHOLES: [(&str, &str, &str, &str); 5] = [
         "[4, 5, 8, 9]",
     ),
     (
-        "uint64_t x;\nint main(void) {\n#pragma omp parallel default(none)\n#pragma omp single\nfor (int i = 0; i < 2; i++)\n#pragma omp task shared(x) firstprivate(i) priority(2) mergeable untied\nx = i;\n}",
+        "uint64_t x;\nint main(void) {\n#pragma omp parallel default(none), shared(x)\n#pragma omp single\nfor (int i = 0; i < 2; i++)\n#pragma omp task shared(x) firstprivate(i) priority(2) mergeable untied\nx = i;\n}",
         r#"["program2",[["x",0,1]],[["group","+",[],[["for","i",0,2,[["task",[],[["set",["c","x",0],"i"]]]]]]]]]"#,
         "[[0]]",
         "[3, 5, 6, 7]",

@@ -7,14 +7,16 @@ use std::test::Fail;
 /// Statements stand at the bytes from 0 on.
 const TEXT: &str = "1234567890123456789012345678901234567890";
 
-/// What is ordered by `red` alone, as reductions are by names, in this order: a sibling behind in the group; one before the group, with and without a wait;
-/// a wait for the cell alone; folds beside one another.
+/// What is ordered by `red` alone, as reductions are by names, in this order: a sibling behind in the group that declares the cell; one before the group, with and without a wait;
+/// a wait for the cell alone; folds beside one another; a read of the cell before the group, awaited in it: a fold touches a copy, and the
+/// group's end the cell. A server wants a wait before that group.
 const REDUCTIONS: &str =
-    r#"[["group","+",[["x",0,1]],[["task",[["red","+",["x",0,1]]],[["fold","+",["c","x",0],1]]],["task",[["out",["x",0,1]]],[["set",["c","x",0],5]]]]]]|5 x 3
-[["task",[["out",["x",0,1]]],[["set",["c","x",0],5]]],["group","+",[["x",0,1]],[["task",[["red","+",["x",0,1]]],[["fold","+",["c","x",0],1]]]]]]|5 x 2
+    r#"[["group","+",[["x",0,1]],[["task",[["red","+",["x",0,1]],["out",["a",0,1]]],[["fold","+",["c","x",0],1],["set",["c","a",0],1]]],["task",[["out",["x",0,1]]],[["set",["c","a",1],["c","a",0]]]]]]]|6 a[0] 4
+[["task",[["out",["x",0,1]]],[["set",["c","x",0],5]]],["group","+",[["x",0,1]],[["task",[["red","+",["x",0,1]]],[["fold","+",["c","x",0],1]]]]]]|3 x 2
 [["task",[["out",["x",0,1]]],[["set",["c","x",0],5]]],["wait"],["group","+",[["x",0,1]],[["task",[["red","+",["x",0,1]]],[["fold","+",["c","x",0],1]]]]],["set",["c","a",0],["c","x",0]]]|
 [["group","+",[["x",0,1]],[["task",[["red","+",["x",0,1]],["out",["a",0,1]]],[["fold","+",["c","x",0],1],["set",["c","a",0],1]]],["wait",[["out",["x",0,1]]]],["set",["c","a",1],["c","a",0]]]]]|6 a[0] 4
 [["group","+",[["x",0,1]],[["for","i",0,4,[["task",[["red","+",["x",0,1]],["in",["a","i",1]]],[["fold","+",["c","x",0],["c","a","i"]]]]]]]],["set",["c","a",0],["c","x",0]]]|
+[["task",[["out",["a",0,2]],["in",["x",0,1]]],[["set",["c","a",1],["c","x",0]]]],["group","+",[["x",0,1]],[["task",[["red","+",["x",0,1]]],[["fold","+",["c","x",0],1]]],["wait",[["in",["a",0,2]]]]]]]|3
 "#;
 
 /// The same as reductions are by pointers, whose `red` stands for an `in` too, in this order: a task before the group that
@@ -22,7 +24,7 @@ const REDUCTIONS: &str =
 /// another way alone a task before the group. Where there is no race, a server wants a wait before the group, in these columns.
 const POINTERS: &str =
     r#"[["task",[["out",["x",0,1]]],[["set",["c","x",0],5]]],["group","+",[["x",0,1]],[["task",[["red","+",["x",0,1]]],[["fold","+",["c","x",0],1]]]]]]|3
-[["task",[["out",["a",0,1]]],[["set",["c","x",0],5]]],["group","+",[["x",0,1]],[["task",[["red","+",["x",0,1]]],[["fold","+",["c","x",0],1]]]]]]|5 x 2
+[["task",[["out",["a",0,1]]],[["set",["c","x",0],5]]],["group","+",[["x",0,1]],[["task",[["red","+",["x",0,1]]],[["fold","+",["c","x",0],1]]]]]]|3 x 2
 [["task",[["out",["x",0,1]],["out",["a",0,1]]],[["set",["c","a",0],5]]],["group","+",[["x",0,1]],[["task",[["red","+",["x",0,1]]],[["fold","+",["c","x",0],["c","a",0]]]]]]]|3
 [["group","+",[["x",0,1]],[["task",[["red","+",["x",0,1]],["out",["a",0,1]]],[["fold","+",["c","x",0],1],["set",["c","a",0],1]]],["wait",[["out",["x",0,1]]]],["set",["c","a",1],["c","a",0]]]]]|
 [["if",["c","x",0],[["task",[["out",["x",0,1]]],[["set",["c","x",0],5]]]],[]],["group","+",[["x",0,1]],[["task",[["red","+",["x",0,1]]],[["fold","+",["c","x",0],1]]]]]]|4
@@ -33,7 +35,7 @@ const POINTERS: &str =
 const WAYS: &str =
     r#"[["if",["c","x",0],[["task",[["out",["a",0,1]]],[["set",["c","a",0],7]]]],[]],["set",["c","a",0],5]]|4 a[0] 3
 [["if",["c","x",0],[["task",[["out",["a",0,1]]],[["set",["c","a",0],7]]],["wait"]],[]],["set",["c","a",0],5]]|
-[["if",["c","x",0],[["task",[["out",["x",0,1]]],[["set",["c","x",0],5]]]],[]],["group","+",[["x",0,1]],[["task",[["red","+",["x",0,1]]],[["fold","+",["c","x",0],1]]]]]]|6 x 3
+[["if",["c","x",0],[["task",[["out",["x",0,1]]],[["set",["c","x",0],5]]]],[]],["group","+",[["x",0,1]],[["task",[["red","+",["x",0,1]]],[["fold","+",["c","x",0],1]]]]]]|4 x 3
 [["task",[["out",["a",1,1]]],[["set",["c","a",1],5]]],["set",["c","x",0],["pick",["a",0,2],["c","x",0]]]]|3 a[1] 2
 "#;
 
@@ -51,8 +53,9 @@ const MANY_JUDGED: &str =
 /// Items that overlap, with the column of the statement that is told: of siblings, of one task, in two turns, of a wait, one that
 /// reads before one that writes, two that write behind one that reads. Behind them items that don't, or of which none writes: of a
 /// child and its parent, the same ones, one that only folds, two that read.
-/// At last iterators, whose cells are items of their own: beside a section of two of them, and a wait for such a section; and beside
-/// one of the cells, beside other iterators over some, in turns that move, within one task.
+/// Then iterators, whose cells are items of their own: beside a section of two of them, and a wait for such a section; and beside
+/// one of the cells, beside other iterators over some, in turns that move, within one task. At last of tasks of two regions, which are
+/// groups of the program's own body; in a group of one region and beside it; beside a `red`, which is none here.
 const ITEMS: &str =
     r#"[["task",[["out",["a",0,2]]],[["set",["c","a",0],1]]],["task",[["in",["a",1,2]]],[]]]|3
 [["task",[["in",["a",0,2]],["inout",["a",1,2]]],[]]]|1
@@ -70,6 +73,16 @@ const ITEMS: &str =
 [["task",[["out",["a",0,["-",3,0]]]],[["set",["c","a",0],1]]],["task",[["inout",["a",1,["-",4,1]]]],[["set",["c","a",1],1]]]]|
 [["for","i",0,3,[["task",[["out",["a","i",["-",["+","i",2],"i"]]]],[["set",["c","a","i"],1]]]]]]|
 [["task",[["in",["a",0,["-",2,0]]],["inout",["a",1,1]]],[["set",["c","a",1],1]]]]|
+[["group","+",[],[["task",[["out",["a",0,2]]],[["set",["c","a",0],1]]]]],["group","+",[],[["task",[["out",["a",1,2]]],[["set",["c","a",1],1]]]]]]|
+[["group","+",[],[["group","+",[],[["task",[["out",["a",0,2]]],[["set",["c","a",0],1]]]]],["task",[["out",["a",1,2]]],[["set",["c","a",1],1]]]]]]|5
+[["group","+",[],[["task",[["out",["a",0,2]]],[["set",["c","a",0],1]]],["wait"],["group","+",[["a",1,1]],[["task",[["red","+",["a",1,1]]],[["fold","+",["c","a",1],1]]]]]]]]|
+"#;
+
+/// The same where tasks take part by pointers, whose `red` is an item that reads: beside a section that has its cell, and beside that
+/// cell.
+const RED_ITEMS: &str =
+    r#"[["group","+",[],[["task",[["out",["a",0,2]]],[["set",["c","a",0],1]]],["wait"],["group","+",[["a",1,1]],[["task",[["red","+",["a",1,1]]],[["fold","+",["c","a",1],1]]]]]]]]|6
+[["group","+",[],[["task",[["out",["a",1,1]]],[["set",["c","a",1],1]]],["wait"],["group","+",[["a",1,1]],[["task",[["red","+",["a",1,1]]],[["fold","+",["c","a",1],1]]]]]]]]|
 "#;
 
 /// What is written about a text that this body stands for, where this orders its tasks. It is None where the body can't be read.
@@ -171,14 +184,14 @@ fn told_rows(
 
 #[test]
 fn reductions_by_names(rt: HostRuntime) -> Result<(), Fail> {
-    assert_eq!(rt; told_rows(rt.alloc(), Order::OfC, REDUCTIONS)?, (5, ""));
+    assert_eq!(rt; told_rows(rt.alloc(), Order::OfC, REDUCTIONS)?, (6, ""));
     Ok(())
 }
 
 #[test]
 fn reductions_by_pointers(rt: HostRuntime) -> Result<(), Fail> {
     assert_eq!(rt;
-        told_rows(rt.alloc(), Order::OfLanguage, POINTERS)?,
+        told_rows(rt.alloc(), Order::OfCByPointers, POINTERS)?,
         (5, "")
     );
     Ok(())
@@ -216,7 +229,7 @@ fn only_run(alloc: Global, column: &str) -> Result<String, AllocError> {
         return String::from_str(alloc, line);
     }
     format!(in alloc;
-        "k.c:1:{column}: warning: no race, but omptaskd refuses it: the task lacks depend(out: a[2]) [425]\n{line}"
+        "k.c:1:{column}: warning: with these numbers nothing races, but omptaskd refuses it: the task lacks depend(out: a[2]) [425]\n{line}"
     )
 }
 
@@ -227,7 +240,7 @@ fn many_ways_of_what_is_judged(rt: HostRuntime) -> Result<(), Fail> {
     for line in MANY_JUDGED.lines() {
         if let Some((body, column)) = line.split_once("|") {
             let wanted = only_run(alloc, column)?;
-            let told = tells(alloc, Order::OfC, body, Verdict::Clean, wanted.as_str())?;
+            let told = tells(alloc, Order::OfC, body, Verdict::OnlyRun, wanted.as_str())?;
             assert!(rt; told, "{line}");
             rows = rows.wrapping_add(1);
         }
@@ -236,24 +249,51 @@ fn many_ways_of_what_is_judged(rt: HostRuntime) -> Result<(), Fail> {
     Ok(())
 }
 
-#[test]
-fn items(rt: HostRuntime) -> Result<(), Fail> {
-    let alloc = rt.alloc();
-    let mut rows = 0u32;
-    for line in ITEMS.lines() {
+/// Whether an overlap is told at this column, or nothing where there is none.
+fn tells_overlap(
+    alloc: Global,
+    order: Order,
+    body: &str,
+    column: &str,
+) -> Result<bool, AllocError> {
+    if column.is_empty() {
+        return tells(alloc, order, body, Verdict::Clean, "");
+    }
+    let lines = format!(in alloc;
+        "k.c:1:{column}: error: an item of a depend clause overlaps in part with another one of this task or of a sibling [outside]\n"
+    )?;
+    tells(alloc, order, body, Verdict::Outside, lines.as_str())
+}
+
+/// How many of these rows are told as they say, where this orders tasks, or the first that isn't.
+fn told_items(
+    alloc: Global,
+    order: Order,
+    rows: &'static str,
+) -> Result<(u32, &'static str), AllocError> {
+    let mut told = 0u32;
+    for line in rows.lines() {
         if let Some((body, column)) = line.split_once("|") {
-            let told = if column.is_empty() {
-                tells(alloc, Order::OfC, body, Verdict::Clean, "")?
-            } else {
-                let lines = format!(in alloc;
-                    "k.c:1:{column}: error: an item of a depend clause overlaps in part with another one of this task or of a sibling [outside]\n"
-                )?;
-                tells(alloc, Order::OfC, body, Verdict::Outside, lines.as_str())?
-            };
-            assert!(rt; told, "{line}");
-            rows = rows.wrapping_add(1);
+            if !tells_overlap(alloc, order, body, column)? {
+                return Ok((told, line));
+            }
+            told = told.wrapping_add(1);
         }
     }
-    assert!(rt; rows == 16);
+    Ok((told, ""))
+}
+
+#[test]
+fn items(rt: HostRuntime) -> Result<(), Fail> {
+    assert_eq!(rt; told_items(rt.alloc(), Order::OfC, ITEMS)?, (19, ""));
+    Ok(())
+}
+
+#[test]
+fn items_of_pointers(rt: HostRuntime) -> Result<(), Fail> {
+    assert_eq!(rt;
+        told_items(rt.alloc(), Order::OfCByPointers, RED_ITEMS)?,
+        (2, "")
+    );
     Ok(())
 }

@@ -6,7 +6,7 @@ use std::alloc::{AllocError, Global};
 use std::test::Fail;
 
 /// Files, and where each refused request is refused, with its code. There is an array `a` of 3 cells.
-const FILES: [(&str, &str); 20] = [
+const FILES: [(&str, &str); 25] = [
     ("", ""),
     ("// nothing\n", ""),
     ("[\"list\"]", ""),
@@ -48,9 +48,21 @@ const FILES: [(&str, &str); 20] = [
     ),
     ("[\"program\",[],\n 7]", "1:1 420 "),
     ("[\"program\",[],\n [[\"wait\"],\n 7]]", "3:2 420 "),
+    ("[\"run\",\n 7]", "1:1 420 "),
+    ("[\"run\",\n [\"program\",[],7]]", "2:2 420 "),
+    ("[\"runs\",\n [\"program\",[],7]]", "1:1 411 "),
+    (
+        "[\"free\", \"a\nb\"]\n[\"get\", \"a\", 0, 3, 1 2]",
+        "1:10 410 3:22 410 ",
+    ),
+    (
+        "[\"program\",[], // none\n [ [\"set\",  [\"c\",\"a\",0] 1]]]",
+        "2:25 410 ",
+    ),
 ];
 
-/// What is found in a file: of each refused request the line, the column and the code. It is None where it can't be judged.
+/// What is found in a file: of each refused request the line, the column and the code, or that its line is too long. It is None
+/// where it can't be judged.
 fn findings_in(alloc: Global, text: &str) -> Result<Option<String>, AllocError> {
     let name = String::from_str(alloc, "a")?;
     let arrays = vec![in alloc; ArrayShape { name, len: 3 }]?;
@@ -71,6 +83,9 @@ fn findings_in(alloc: Global, text: &str) -> Result<Option<String>, AllocError> 
 
 fn shown_of(alloc: Global, found: &Finding) -> Result<String, AllocError> {
     let position = found.position;
+    if found.is_long {
+        return format!(in alloc; "{}:{} long ", position.line, position.column);
+    }
     let code = found.code.unwrap_or(0);
     format!(in alloc; "{}:{} {code} ", position.line, position.column)
 }
@@ -84,6 +99,31 @@ fn requests_are_refused_where_they_stand(rt: HostRuntime) -> Result<(), Fail> {
             return Ok(());
         };
         assert!(rt; shown.as_str() == *wanted, "{text}: {}", shown.as_str());
+    }
+    Ok(())
+}
+
+/// A request of one word, of so many bytes without the white space between its brackets, and one more that is refused.
+fn file_of(alloc: Global, len: usize) -> Result<String, AllocError> {
+    let mut text = String::new(alloc);
+    text.push_str("\n [ // a comment\n \"")?;
+    for _ in 4..len {
+        text.push('x')?;
+    }
+    text.push_str("\" \t ]\n[1]")?;
+    Ok(text)
+}
+
+#[test]
+fn a_line_that_is_too_long_ends_a_file(rt: HostRuntime) -> Result<(), Fail> {
+    for (len, wanted) in &[(65_536, "2:2 411 4:1 411 "), (65_537, "2:2 long ")] {
+        let text = file_of(rt.alloc(), *len)?;
+        let shown = findings_in(rt.alloc(), text.as_str())?;
+        let Some(shown) = shown else {
+            assert!(rt; false, "{len}");
+            return Ok(());
+        };
+        assert!(rt; shown.as_str() == *wanted, "{len}: {}", shown.as_str());
     }
     Ok(())
 }

@@ -30,11 +30,15 @@ const PIECES: [(&str, &str); 10] = [
 ];
 
 /// Pieces, and their lines.
-const LINES: [(&str, &str); 4] = [
+const LINES: [(&str, &str); 8] = [
     ("[1]", "[1]"),
-    ("[\n\t1,\r\n2 ]", "[  1,  2 ]"),
-    ("[\"a\tb\",\t3]", "[\"a\tb\", 3]"),
-    ("[\"\\\"\n\",\n3]", "[\"\\\"\n\", 3]"),
+    ("[\n\t1,\r\n2 ]", "[1,2]"),
+    ("[\"a\tb\",\t3]", "[\"a\tb\",3]"),
+    ("[\"\\\" \n\",\n3]", "[\"\\\" \t\",3]"),
+    ("[1 \n 2, tr\tue]", "[1 2,tr ue]"),
+    ("{ \"a\" : [ ] , \"b\" : null }", "{\"a\":[],\"b\":null}"),
+    ("[\"a\" \"b\" 1 \"c\"]", "[\"a\"\"b\"1\"c\"]"),
+    ("[ 1 ", "[1"),
 ];
 
 /// Bytes of `a\n\u{e4}b\n\nc`, which has 8 of them, with their lines and columns, and its end.

@@ -54,8 +54,9 @@ AsksFor entered (asked.Ask ask manner) =
     (entered_name entered ≡ Some (codes "ask")) × IfSome (entered_rows entered) (λ rows. AsksServer rows ask × AsksManner rows manner)
 AsksFor entered (asked.Save ask) =
     (entered_name entered ≡ Some (codes "save")) × IfSome (entered_rows entered) (λ rows. AsksServer rows ask)
-AsksFor entered (asked.Restore ask) =
-    (entered_name entered ≡ Some (codes "restore")) × IfSome (entered_rows entered) (λ rows. AsksServer rows ask)
+AsksFor entered (asked.Restore ask replace) =
+    (entered_name entered ≡ Some (codes "restore"))
+    × IfSome (entered_rows entered) (λ rows. AsksServer rows ask × IsSaid (one_of (codes "replace") rows) replace)
 AsksFor entered asked.Graph = entered_name entered ≡ Some (codes "graph")
 AsksFor entered asked.C = entered_name entered ≡ Some (codes "c")
 AsksFor entered (asked.Check check) =
@@ -67,7 +68,7 @@ AsksFor entered (asked.Lines check) =
 abbrev pub socket_of : Words → List ℕ
 socket_of (asked.Ask ask manner) = string_bytes ask.socket
 socket_of (asked.Save ask) = string_bytes ask.socket
-socket_of (asked.Restore ask) = string_bytes ask.socket
+socket_of (asked.Restore ask replace) = string_bytes ask.socket
 socket_of other = []
 
 -- the word of which a fault tells, empty where there is none

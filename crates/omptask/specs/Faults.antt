@@ -1,5 +1,5 @@
 -- What the program tells of a fault, and the status that it ends with.
-use Rattle.std.specs.Prelude.{ℕ, Bool, if◌then◌else◌, List, codes}
+use Rattle.std.specs.Prelude.{ℕ, Bool, nat_lt, if◌then◌else◌, List, codes}
 use Rattle.std.specs.declared.io.ErrorKind.{ErrorKind}
 use Rattle.std.specs.declared.io.ErrorKind.TheVariants as kind
 use Rattle.ot_ask.specs.declared.asked.AskFault.{AskFault}
@@ -15,7 +15,7 @@ use Rattle.ot_keep.specs.declared.fault.KeepFault.TheVariants as keep
 use Rattle.ot_last.specs.declared.fault.LastFault.{LastFault}
 use Rattle.ot_last.specs.declared.fault.LastFault.TheVariants as last
 use Rattle.omptask.specs.declared.ended.Ended.{Ended}
-use Rattle.omptask.specs.declared.ended.Ended.TheVariants.{Well, Refused, Outside}
+use Rattle.omptask.specs.declared.ended.Ended.TheVariants.{Well, Refused, Outside, OnlyRun}
 use Rattle.omptask.specs.declared.reaching.Cause.{Cause}
 use Rattle.omptask.specs.declared.reaching.Cause.TheVariants as cause
 use Rattle.omptask.specs.declared.fault.Fault.{Fault}
@@ -132,15 +132,21 @@ ended_of asked.CutShort = Refused
 -- how it ends by a verdict on a text in C
 abbrev pub ended_by : Verdict → Ended
 ended_by verdict.Clean = Well
+ended_by verdict.OnlyRun = OnlyRun
 ended_by verdict.Races = Refused
 ended_by verdict.Outside = Outside
 
--- how it ends where one file ends so, and another so: what isn't judged outweighs what is refused
-abbrev pub worse : Ended → Ended → Ended
-worse Outside other = Outside
-worse Refused Outside = Outside
-worse Refused other = Refused
-worse Well other = other
+-- how much an end outweighs others: most of all that something was refused, or races, then that something isn't judged, and then
+-- that only the run of something was
+abbrev pub weight_of : Ended → ℕ
+weight_of Refused = 3
+weight_of Outside = 2
+weight_of OnlyRun = 1
+weight_of Well = 0
+
+-- how it ends where one file ends so, and another so
+abbrev pub worse_of : Ended → Ended → Ended
+worse_of one other = if nat_lt (weight_of one) (weight_of other) then other else one
 
 -- the status of a fault: where another session is there it can be tried again, and where a line was refused it can't; a bad
 -- definition is a word of the command line that can't be read
@@ -155,3 +161,4 @@ abbrev pub status_of : Ended → ℕ
 status_of Well = 0
 status_of Refused = 3
 status_of Outside = 1
+status_of OnlyRun = 4

@@ -24,7 +24,7 @@ unfoldable pub save_words : Shape
 save_words = (with_rule (with_rule (new_app (codes "save")) socket_rule) name_rule).top
 
 unfoldable pub restore_words : Shape
-restore_words = (with_rule (with_rule (new_app (codes "restore")) socket_rule) name_rule).top
+restore_words = (with_rule (with_rule (with_rule (new_app (codes "restore")) socket_rule) (flag_rule (codes "replace"))) name_rule).top
 
 unfoldable pub graph_words : Shape
 graph_words = (new_app (codes "graph")).top

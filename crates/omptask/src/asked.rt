@@ -10,8 +10,8 @@ pub enum Words {
     Ask(Ask, Manner),
     /// A tenant of a server as a file.
     Save(Ask),
-    /// A file as a tenant of a server.
-    Restore(Ask),
+    /// A file as a tenant of a server, and whether arrays that he has are to be replaced.
+    Restore(Ask, bool),
     /// The last run of a session as a task graph.
     Graph,
     /// The last run of a session as a program in C.

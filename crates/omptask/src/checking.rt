@@ -1,6 +1,6 @@
 //! Files that are judged, or written as lines.
 ghost use Rattle.std.specs.Prelude.{◌≡◌};
-ghost use Rattle.omptask.specs.Faults.{ended_by, worse};
+ghost use Rattle.omptask.specs.Faults.{ended_by, weight_of, worse_of};
 ghost use Rattle.omptask.specs.Asked.{is_c};
 
 use crate::asked::Check;
@@ -38,7 +38,7 @@ pub(crate) fn check_files<R: Input + Print + Eprint + Files>(
             (false, true) => judge_c(rt, alloc, name, text.as_slice())?,
             (false, false) => judge_requests(rt, alloc, name, text.as_slice(), &arrays)?,
         };
-        ended = worse(ended, one);
+        ended = worse_of(ended, one);
     }
     Ok(ended)
 }
@@ -61,14 +61,27 @@ fn is_c(name: &str) -> bool
     name.as_bytes().ends_with(b".c".as_slice())
 }
 
-/// How the program ends where one file ends so, and another so: what isn't judged outweighs what is refused.
-fn worse(one: Ended, other: Ended) -> Ended
-    ensures { result ≡ worse one other }
+/// How the program ends where one file ends so, and another so.
+fn worse_of(one: Ended, other: Ended) -> Ended
+    ensures { result ≡ worse_of one other }
 {
-    match (one, other) {
-        (Ended::Outside, _) | (_, Ended::Outside) => Ended::Outside,
-        (Ended::Refused, _) | (_, Ended::Refused) => Ended::Refused,
-        _ => Ended::Well,
+    if weight_of(one) < weight_of(other) {
+        other
+    } else {
+        one
+    }
+}
+
+/// How much an end outweighs others: most of all that something was refused, or races, then that something isn't judged, and
+/// then that only the run of something was.
+fn weight_of(ended: Ended) -> u8
+    ensures { result ≡ weight_of ended }
+{
+    match ended {
+        Ended::Refused => 3,
+        Ended::Outside => 2,
+        Ended::OnlyRun => 1,
+        Ended::Well => 0,
     }
 }
 
@@ -118,6 +131,7 @@ fn ended_by(verdict: Verdict) -> Ended
 {
     match verdict {
         Verdict::Clean => Ended::Well,
+        Verdict::OnlyRun => Ended::OnlyRun,
         Verdict::Races => Ended::Refused,
         Verdict::Outside => Ended::Outside,
     }

@@ -37,7 +37,7 @@ fn asked_for(alloc: Global, matches: &ArgMatches<'_>) -> Result<Words, AllocErro
     }
     if let Some(found) = matches.subcommand_matches("restore") {
         let ask = ask_of(alloc, found)?;
-        return Ok(Words::Restore(ask));
+        return Ok(Words::Restore(ask, flag(found, "replace")));
     }
     if let Some(found) = matches.subcommand_matches("explain") {
         return Ok(Words::Explain(number(found, "code", MAX_CODE), flag(found, "quiet")));

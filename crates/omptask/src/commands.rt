@@ -38,6 +38,7 @@ The status is 4 where the tenant has another session, and 1 where the tenant cou
 const RESTORE_HELP: &str = "\
 It reads such a file on standard input, and makes the arrays at the server, where the tenant has none; it asks
 for them then, and compares. Numbers and used units begin anew. A file that isn't whole is refused at once.
+With --replace the tenant's arrays are freed first: so a restore that failed, or was killed, is made again.
 The status is 4 where the tenant has another session, 3 where a line was refused, and 1 for other faults.";
 
 /// What `graph` writes.
@@ -61,7 +62,7 @@ Any other FILE has requests over any number of lines, and comments from `//` to 
 or \"program2\" stands for the `run` of it. `-` is standard input. No program is run. For each request that is refused
 a line `FILE:LINE:COLUMN: error: CODE: ..` is written, and behind it lines `FILE:LINE:COLUMN: note: ..`. Each such FILE
 begins with the arrays of --define; it makes others by its own requests.
-The status is 1 where a FILE couldn't be judged, else 3 where anything was refused or races.";
+The status is 3 where anything was refused or races, else 1 where a FILE couldn't be judged.";
 
 /// What `lines` writes.
 const LINES_HELP: &str = "\
@@ -155,6 +156,11 @@ fn restore_command<'a>(alloc: Global) -> Result<Command<'a>, AllocError>
         .about("Make a tenant of a server of its file")
         .after_help(RESTORE_HELP)
         .arg(socket_arg(alloc, SOCKET_HELP))?
+        .arg(flag_arg(
+            alloc,
+            "replace",
+            "Free the tenant's arrays first, where it has some",
+        ))?
         .arg(name_arg(alloc))
 }
 

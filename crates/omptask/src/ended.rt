@@ -9,4 +9,6 @@ pub enum Ended {
     Refused,
     /// A text isn't judged.
     Outside,
+    /// Of a text only the run was judged, and it doesn't race.
+    OnlyRun,
 }

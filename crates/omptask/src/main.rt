@@ -26,6 +26,7 @@ use explaining::ask_explained;
 pub use fault::{Fault, Want, fault_line, want_text};
 use ot_ask::{Asked, LineSource, LinesOf, Tally, ask};
 use ot_c::c_text;
+use ot_commands::hold_standard;
 use ot_explain::{Explained, explain, explain_quietly};
 use ot_front::{Reading, Sink, Writing, write_whole};
 use ot_graph::draw;
@@ -48,6 +49,7 @@ use std::{env, io};
 const MANY_TASKS: u32 = 200;
 
 fn main(rt: HostRuntime) -> ExitCode {
+    hold_standard(&rt);
     let alloc = rt.alloc();
     let owned = match given_words(&rt, alloc) {
         Ok(owned) => owned,
@@ -88,7 +90,7 @@ fn run<R: Input + Print + Eprint + Files + Net>(
     let ended = match &asked {
         Words::Ask(asked, manner) => ask_server(rt, alloc, asked, *manner, is_typed),
         Words::Save(asked) => save_tenant(rt, alloc, asked),
-        Words::Restore(asked) => restore_tenant(rt, alloc, asked),
+        Words::Restore(asked, replace) => restore_tenant(rt, alloc, asked, *replace),
         Words::Explain(None, quiet) => explain_session(rt, alloc, *quiet),
         Words::Explain(Some(code), _) => explain_code(rt, alloc, *code),
         Words::Graph => draw_run(rt, alloc),
@@ -129,7 +131,9 @@ fn socket_of(asked: &Words) -> &str
     ensures { result.now ≡ socket_of asked.now }
 {
     match asked {
-        Words::Ask(asked, _) | Words::Save(asked) | Words::Restore(asked) => asked.socket.as_str(),
+        Words::Ask(asked, _) | Words::Save(asked) | Words::Restore(asked, _) => {
+            asked.socket.as_str()
+        }
         _ => "",
     }
 }
@@ -315,11 +319,12 @@ fn save_tenant<R: Print + Files + Net>(rt: &R, alloc: Global, asked: &Ask) -> Re
     }
 }
 
-/// Makes a tenant of a server of the file on standard input.
+/// Makes a tenant of a server of the file on standard input, in the place of the arrays that he has where that is asked for.
 fn restore_tenant<R: Input + Files + Net>(
     rt: &R,
     alloc: Global,
     asked: &Ask,
+    replace: bool,
 ) -> Result<Ended, Fault> {
     let mut file = Vec::new(alloc);
     if let Err(error) = rt.reader().read_to_end(&mut file) {
@@ -336,6 +341,7 @@ fn restore_tenant<R: Input + Files + Net>(
         alloc,
         asked.name.as_str(),
         file.as_slice(),
+        replace,
         &mut heard,
         &mut Writing::new(&stream),
     );
@@ -362,6 +368,7 @@ fn status_of(ended: Ended) -> ExitCode
         Ended::Well => ExitCode::SUCCESS,
         Ended::Refused => ExitCode::from(3),
         Ended::Outside => ExitCode::from(1),
+        Ended::OnlyRun => ExitCode::from(4),
     }
 }
 

@@ -1,11 +1,11 @@
 //! omptaskd, a task server for many tenants.
 #![tactic(auto)]
 
-ghost use Rattle.std.specs.Prelude.{◌≡◌, ◌≢◌};
+ghost use Rattle.std.specs.Prelude.{◌≡◌, ◌≢◌, option_map};
 ghost use Rattle.std.specs.Process.{exit_status};
 ghost use Rattle.clap.specs.Words.{kind_of};
 ghost use Rattle.ot_serve.specs.Serving.{status_of, IsInRange};
-ghost use Rattle.omptaskd.specs.Faults.{sim_fault};
+ghost use Rattle.omptaskd.specs.Faults.{name_of, sim_fault};
 
 pub mod asked;
 pub mod command_line;
@@ -15,8 +15,9 @@ pub use asked::Words;
 use clap::error::ErrorKind;
 pub use command_line::words;
 use ot_book::{Book, Solo};
+use ot_commands::hold_standard;
 use ot_front::{Reading, Writing, serve};
-pub use ot_serve::{Fault, Serve, fault_line, serve_socket};
+pub use ot_serve::{Fault, Serve, bad_name, fault_line, serve_socket};
 pub use ot_sim::{SimFault, sim_lines};
 use ot_store::{Limits, Store};
 use std::alloc::Global;
@@ -29,6 +30,7 @@ use std::thread::Threads;
 use std::{env, io};
 
 fn main(rt: HostRuntime) -> ExitCode {
+    hold_standard(&rt);
     let alloc = rt.alloc();
     let owned = match given_words(&rt, alloc) {
         Ok(owned) => owned,
@@ -37,7 +39,7 @@ fn main(rt: HostRuntime) -> ExitCode {
     let given: Result<Vec<&str>, _> = owned.iter().map(|word| word.as_str()).collect(alloc);
     match given {
         Ok(given) => run(&rt, alloc, given.as_slice()),
-        Err(_) => tell(&rt, &Fault::Memory),
+        Err(_) => tell(&rt, &Fault::Memory, None),
     }
 }
 
@@ -49,7 +51,7 @@ fn given_words(rt: &(impl Env + AllocGlobal), alloc: Global) -> io::Result<Vec<S
 /// Tells why the words of the command line could not be had, and answers the status for it.
 fn refuse(rt: &impl Eprint, error: &io::Error) -> ExitCode {
     if error.kind() == io::ErrorKind::OutOfMemory {
-        return tell(rt, &Fault::Memory);
+        return tell(rt, &Fault::Memory, None);
     }
     let _ = eprintln!(rt; "error: invalid UTF-8 was detected in one or more arguments");
     ExitCode::from(2)
@@ -65,14 +67,24 @@ fn run<R: Input + Print + Eprint + Threads + Wait + Sync + Files + Net>(
         Ok(asked) => asked,
         Err(error) => return explain(rt, &error),
     };
-    let ended = match asked {
+    let ended = match &asked {
         Words::Solo => solo(rt, alloc),
         Words::Sim => sim(rt, alloc),
-        Words::Serve(server) => serve_tenants(rt, alloc, &server),
+        Words::Serve(server) => serve_tenants(rt, alloc, server),
     };
     match ended {
         Ok(()) => ExitCode::SUCCESS,
-        Err(fault) => tell(rt, &fault),
+        Err(fault) => tell(rt, &fault, name_of(&asked, &fault)),
+    }
+}
+
+/// The name of which a fault tells, where it tells of one.
+fn name_of<'a>(asked: &'a Words, fault: &Fault) -> Option<&'a str>
+    ensures { option_map (λ name. name.now) result ≡ name_of asked.now fault.now }
+{
+    match (asked, fault) {
+        (Words::Serve(server), Fault::BadTenantName) => bad_name(server.names.as_slice()),
+        _ => None,
     }
 }
 
@@ -83,7 +95,7 @@ fn explain(rt: &(impl Print + Eprint), error: &clap::Error) -> ExitCode
         kind_of error.now ≢ ErrorKind.DisplayVersion → exit_status result ≡ 2 }
 {
     if error.kind() == ErrorKind::OutOfMemory {
-        return tell(rt, &Fault::Memory);
+        return tell(rt, &Fault::Memory, None);
     }
     let printed = error.print(rt);
     if error.use_stderr() {
@@ -91,7 +103,7 @@ fn explain(rt: &(impl Print + Eprint), error: &clap::Error) -> ExitCode
     }
     match printed {
         Ok(()) => ExitCode::SUCCESS,
-        Err(_) => tell(rt, &Fault::WriteFailed),
+        Err(_) => tell(rt, &Fault::WriteFailed, None),
     }
 }
 
@@ -141,11 +153,15 @@ fn serve_tenants<R: Print + Threads + Wait + Sync + Files + Net>(
     serve_socket(rt, alloc, server, &mut sink)
 }
 
-/// Prints what went wrong, where standard error takes it, and answers the status for it.
-fn tell(rt: &impl Eprint, fault: &Fault) -> ExitCode
+/// Prints what went wrong, with the name of which it tells, where standard error takes it, and answers the status for it. The
+/// name stands in quotes, and what a terminal wouldn't show in it as escapes, so that it is one line whatever the name is.
+fn tell(rt: &impl Eprint, fault: &Fault, name: Option<&str>) -> ExitCode
     ensures { exit_status result ≡ status_of fault.now }
 {
     let (line, status) = fault_line(fault);
-    let _ = eprintln!(rt; "{line}");
+    let _ = match name {
+        Some(name) => eprintln!(rt; "{line}: {name:?}"),
+        None => eprintln!(rt; "{line}"),
+    };
     ExitCode::from(status)
 }

@@ -1,2 +1,3 @@
 pub mod Races
+pub mod Words
 pub mod Walk

@@ -1,6 +1,8 @@
 //! What a statement offends against, and which other statement has a part in it.
-ghost use Rattle.std.specs.Prelude.{◌≡◌, None, IfOk, MatchOption, option_and_then};
-ghost use Rattle.ot_model.specs.View.{stmts_of};
+ghost use Rattle.std.specs.Prelude.{◌≡◌, ◌++◌, None, IfOk, OnOk, MatchOption, option_and_then};
+ghost use Rattle.ot_model.specs.View.{stmt_of, stmts_of};
+ghost use Rattle.ot_model.specs.Signs.{identifier};
+ghost use Rattle.ot_blame.specs.Words.{use_words, declared_words, touch_words};
 ghost use Rattle.ot_check.specs.Offences.{Offends};
 ghost use Rattle.ot_blame.specs.Races.{IsNamed};
 
@@ -10,7 +12,7 @@ use crate::race::{find_race, statement_at};
 use crate::wanted::{Touched, Wanted};
 use crate::wrong::{wrong, wrong_by};
 use ot_check::Offence;
-use ot_model::{ArrayShape, Cell, Mode, Program, Stmt};
+use ot_model::{ArrayShape, Cell, Fold, Mode, Program, Stmt};
 use ot_print::Printer;
 use std::alloc::{AllocError, Global};
 
@@ -184,22 +186,54 @@ fn put_around(
 }
 
 /// How a statement uses a cell, or declares it.
-fn put_use(printer: &mut Printer<'_>, stmt: &Stmt, mode: Mode) -> Result<(), AllocError> {
-    match (stmt, mode) {
-        (Stmt::Group(_, _, _), _) => printer.words("it names "),
-        (Stmt::Task(_, _), Mode::Reads) => printer.words("it declares, for reading, "),
-        (Stmt::Task(_, _), Mode::Writes) => printer.words("it declares, for writing, "),
-        (Stmt::Task(_, _), Mode::Folds(op)) => {
-            printer.words("it declares, under `red` by `")?;
-            printer.operation(op)?;
-            printer.words("`, ")
-        }
-        (_, Mode::Reads) => printer.words("it reads "),
-        (_, Mode::Writes) => printer.words("it writes "),
-        (_, Mode::Folds(op)) => {
-            printer.words("it folds by `")?;
-            printer.operation(op)?;
-            printer.words("` into ")
+fn put_use(printer: &mut Printer<'_>, stmt: &Stmt, mode: Mode) -> Result<(), AllocError>
+    ensures text { OnOk result (printer.new.text ≡ printer.old.text ++ use_words (stmt_of stmt.now) mode) }
+    ensures names { printer.new.names ≡ printer.old.names }
+{
+    match stmt {
+        Stmt::Group(_, _, _) => printer.words("it names "),
+        Stmt::Task(_, _) => put_declared(printer, mode),
+        Stmt::Set(_, _) | Stmt::Fold(_, _, _) | Stmt::If(_, _, _) | Stmt::Wait(_) => {
+            put_touch(printer, mode)
         }
     }
+}
+
+/// How a task declares a cell.
+fn put_declared(printer: &mut Printer<'_>, mode: Mode) -> Result<(), AllocError>
+    ensures text { OnOk result (printer.new.text ≡ printer.old.text ++ declared_words mode) }
+    ensures names { printer.new.names ≡ printer.old.names }
+{
+    match mode {
+        Mode::Reads => printer.words("it declares, for reading, "),
+        Mode::Writes => printer.words("it declares, for writing, "),
+        Mode::Folds(op) => put_operation(printer, "it declares, under `red` by `", op, "`, "),
+    }
+}
+
+/// How a statement touches a cell.
+fn put_touch(printer: &mut Printer<'_>, mode: Mode) -> Result<(), AllocError>
+    ensures text { OnOk result (printer.new.text ≡ printer.old.text ++ touch_words mode) }
+    ensures names { printer.new.names ≡ printer.old.names }
+{
+    match mode {
+        Mode::Reads => printer.words("it reads "),
+        Mode::Writes => printer.words("it writes "),
+        Mode::Folds(op) => put_operation(printer, "it folds by `", op, "` into "),
+    }
+}
+
+/// An operation between words.
+fn put_operation(
+    printer: &mut Printer<'_>,
+    before: &str,
+    op: Fold,
+    behind: &str,
+) -> Result<(), AllocError>
+    ensures text { OnOk result (printer.new.text ≡ printer.old.text ++ (before.now ++ (identifier op ++ behind.now))) }
+    ensures names { printer.new.names ≡ printer.old.names }
+{
+    printer.words(before)?;
+    printer.operation(op)?;
+    printer.words(behind)
 }

@@ -267,7 +267,8 @@ impl Book {
         Ok(Opened::ToRun(spec))
     }
 
-    // Keeps how the line of the open request was read. Where memory is refused it isn't kept.
+    // Keeps how the line of the open request was read. It isn't kept where memory is refused, or its program names too many
+    // cells.
     fn keep(&mut self, alloc: Global, line: &[u8], spec: &JobSpec)
         requires open { IsOpenFor self.old spec.now }
         requires line { self.old.pending ≡ Some line.now }
@@ -284,7 +285,9 @@ impl Book {
         let Ok(checked) = spec.share() else {
             return;
         };
-        self.kept.keep(Kept::new(line, shape, checked));
+        if let Some(kept) = Kept::new(line, shape, checked) {
+            let _ = self.kept.keep(kept);
+        }
     }
 
     // Takes a line, of which this is the value.

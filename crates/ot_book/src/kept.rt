@@ -1,6 +1,7 @@
-ghost use Rattle.std.specs.Prelude.{◌≡◌, IsTrue, string_bytes, IfSome};
+ghost use Rattle.std.specs.Prelude.{◌≡◌, ◌<◌, IsTrue, string_bytes, IfSome, MatchOption};
 ghost use Rattle.ot_model.specs.Programs.{arrays_of};
 
+use crate::named::cells_named;
 use ot_check::Checked;
 use ot_model::{ArrayShape, Shape};
 use std::marker::Model;
@@ -13,12 +14,18 @@ pub(crate) struct Kept {
     line: Vec<u8>,
     shape: Shape,
     checked: Arc<Checked>,
+    // How many cells the program names.
+    named: u32,
 }
+
+/// How many cells the programs that are kept may name in all.
+pub(crate) const MAX_NAMED: u32 = 262_144;
 
 impl Model for Kept {
     ghost use Rattle.std.specs.Coded.{codes};
     ghost use Rattle.ot_check.specs.contracts.checked.Checked as e;
     ghost use Rattle.ot_book.specs.Readings.{Reading, IsReading};
+    ghost use Rattle.ot_book.specs.Shelves.{IsCounted};
 
     ghost Value = { Reading };
 
@@ -28,23 +35,33 @@ impl Model for Kept {
 
     ghost view = { λ k. record { line = k.line.items; shape = k.shape; checked = arc_value k.checked } };
 
-    ghost invariant = { λ k. IsReading (record { line = k.line.items; shape = k.shape; checked = arc_value k.checked }) };
+    ghost invariant = { λ k.
+        let r : Reading = record { line = k.line.items; shape = k.shape; checked = arc_value k.checked } in
+        IsReading r × IsCounted r k.named };
 }
 
 impl Kept {
     ghost use Rattle.std.specs.Arc.{arc_value};
-    ghost use Rattle.ot_book.specs.Readings.{IsReading};
+    ghost use Rattle.ot_book.specs.Readings.{Reading, IsReading};
+    ghost use Rattle.ot_book.specs.Shelves.{named_of, IsCounted};
 
-    /// What was read. It takes no memory.
-    pub(crate) fn new(line: Vec<u8>, shape: Shape, checked: Arc<Checked>) -> Kept
+    /// What was read, unless its program alone names more cells than all that are kept may. It takes no memory, and looks
+    /// once at the program.
+    pub(crate) fn new(line: Vec<u8>, shape: Shape, checked: Arc<Checked>) -> Option<Kept>
         requires { IsReading (record { line = line.items; shape = shape; checked = arc_value checked }) }
-        ensures { result ≡ record { line = line.items; shape = shape; checked = arc_value checked } }
+        ensures { let r : Reading = record { line = line.items; shape = shape; checked = arc_value checked } in
+            MatchOption result (262144 < named_of r) (λ kept. kept ≡ r) }
     {
-        Kept {
+        let named = cells_named(&checked.program.body);
+        if named > MAX_NAMED {
+            return None;
+        }
+        Some(Kept {
             line,
             shape,
             checked,
-        }
+            named,
+        })
     }
 
     /// Whether it is this line, over whatever it was read.
@@ -59,6 +76,13 @@ impl Kept {
         ensures { result ≡ self.now.checked.program.statements }
     {
         self.checked.program.statements
+    }
+
+    /// How many cells its program names.
+    pub(crate) fn named(&self) -> u32
+        ensures { IsCounted self.now result }
+    {
+        self.named
     }
 
     /// The program, if it was read of this line over this shape. It takes no memory, and is refused only where more

@@ -6,6 +6,7 @@ pub mod code;
 pub mod executor;
 mod kept;
 pub mod laws;
+mod named;
 mod reading;
 pub mod reply;
 mod request;

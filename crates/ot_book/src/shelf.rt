@@ -1,16 +1,17 @@
-ghost use Rattle.std.specs.Prelude.{◌≡◌, ◌+◌, ◌≤◌, ◌⊎◌, length, take, ◌<◌, ◌∷◌, [], Some, slice_get, remove, IfSome, MatchOption};
+ghost use Rattle.std.specs.Prelude.{◌≡◌, ◌+◌, ◌≤◌, ◌⊎◌, length, take, ◌<◌, ◌∷◌, [], Some, slice_get, remove, IfSome, MatchOption, MatchResult};
 ghost use Rattle.ot_book.specs.Shelves.{FitOn, Keeps, Uses};
 
-use crate::kept::Kept;
+use crate::kept::{Kept, MAX_NAMED};
 use ot_check::Checked;
 use ot_model::Shape;
-use std::alloc::Global;
+use std::alloc::{AllocError, Global};
 use std::fmt;
 use std::marker::Model;
 use std::sync::Arc;
 
-/// The programs that a book keeps, the one that was used last first: at most 8, with at most 80,000 statements in all.
-/// A program has at most 20,000, so there is always room for four.
+/// The programs that a book keeps, the one that was used last first: at most 8, with at most 80,000 statements in all, that
+/// name at most 262,144 cells in all. A program has at most 20,000 statements, so there is room for four, but where they
+/// name too many cells.
 #[derive(Drop)]
 pub(crate) struct Shelf {
     kept: Vec<Kept>,
@@ -103,28 +104,29 @@ impl Shelf {
     }
 
     /// Keeps one more, used last. Those that were used longest ago go, as few as serves. Where memory is refused nothing
-    /// changes.
-    pub(crate) fn keep(&mut self, kept: Kept)
-        ensures { (self.new ≡ self.old) ⊎ Keeps self.old kept self.new }
+    /// changes. It looks at each that is kept, and not at their programs.
+    pub(crate) fn keep(&mut self, kept: Kept) -> Result<(), AllocError>
+        ensures { MatchResult result (λ _. Keeps self.old kept self.new) (λ _. self.new ≡ self.old) }
     {
-        let Ok(()) = self.kept.insert(0, kept) else {
-            return;
-        };
+        self.kept.insert(0, kept)?;
         let stay = fitting(&self.kept);
         self.kept.truncate(stay);
+        Ok(())
     }
 }
 
 /// How many of the first of these may be kept.
 fn fitting(kept: &[Kept]) -> usize
     ensures within { result ≤ length kept.now }
+    ensures one { (result ≡ length kept.now) ⊎ (1 ≤ result) }
     ensures fit { FitOn (take result kept.now) }
     ensures most { (result ≡ length kept.now) ⊎ (¬ (FitOn (take (result + 1) kept.now))) }
 {
-    let mut statements = 0u32;
+    let (mut statements, mut named) = (0u32, 0u32);
     for place in 0..kept.len() {
         statements += kept[place].statements();
-        if place >= MAX_KEPT || statements > MAX_STATEMENTS {
+        named += kept[place].named();
+        if place >= MAX_KEPT || statements > MAX_STATEMENTS || named > MAX_NAMED {
             return place;
         }
     }

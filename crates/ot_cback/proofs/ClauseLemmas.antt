@@ -26,7 +26,7 @@ use Rattle.ot_cread.specs.declared.tree.Role.TheVariants as r
 use Rattle.ot_cread.specs.Signs.{sign_of, any_sign}
 use Rattle.ot_cread.specs.Tree.{Literal, Variable, Entry, Span, Claim, Cells}
 use Rattle.ot_cread.specs.Reading.{call_of, is_unsigned, open_at, close_at, close_index_at, comma_at, colon_at, assign_at, name_at, value_at}
-use Rattle.ot_cread.specs.Clauses.{steps, length_at, part_at, item_at, item_end, item_step, items_at, role_of, role_at, mark_operation, name_operation, operation_at, is_iterator, iterator_end, range_at, dependence_at, reduction_at, kind_of, bracket_by, clause_at, directive_end, clause_step, clauses_at}
+use Rattle.ot_cread.specs.Clauses.{steps, length_at, part_at, item_at, item_end, item_step, items_at, role_of, role_at, mark_operation, name_operation, operation_at, is_iterator, iterator_end, range_at, dependence_at, reduction_at, kind_of, bracket_by, clause_at, directive_end, past_comma, between, clause_step, clauses_at}
 use Rattle.ot_cread.specs.Spelling.{IsName, goes_on}
 use Rattle.ot_cread.proofs.SpellingLemmas.{back, ends}
 use Rattle.ot_cback.specs.Numbering.{word_of, words_of, name_of}
@@ -248,9 +248,17 @@ module _ (number : Text → ℕ) (names : List Text) where
   goes_on_clause (Reduces op cs) rest = refl
   goes_on_clause (Combines op cs) rest = refl
 
+  no_comma : (front : List Claim) (c : Clause) (rest : List Word) → between front (words_of number (clause_words names c) ++ rest) ≡ words_of number (clause_words names c) ++ rest
+  unfolding past_comma
+  no_comma [] c rest = refl
+  no_comma (x ∷ xs) (Lists d cs) rest = refl
+  no_comma (x ∷ xs) (Goes d s) rest = refl
+  no_comma (x ∷ xs) (Reduces op cs) rest = refl
+  no_comma (x ∷ xs) (Combines op cs) rest = refl
+
   one_clause : (front : List Claim) (c : Clause) (rest : List Word) → HasItems c → clause_step front (words_of number (clause_words names c) ++ rest) ≡ Ok (front ++ claim number names c ∷ [], true, rest)
   unfolding clause_step
-  one_clause front c rest some = rw (goes_on_clause c rest, clause_back c rest some) refl
+  one_clause front c rest some = rw (goes_on_clause c rest, no_comma front c rest, clause_back c rest some) refl
 
   no_clause : (front : List Claim) (rest : List Word) → clause_step front (w.End ∷ rest) ≡ Ok (front, false, rest)
   unfolding clause_step directive_end

@@ -18,13 +18,14 @@ use Rattle.ot_cscope.specs.declared.scope.Sense.TheVariants as s
 use Rattle.ot_cscope.specs.Forms.{form}
 use Rattle.ot_cscope.specs.Kinds.{is_signed}
 use Rattle.ot_cscope.specs.Results.{Refusal, ◌>>=◌}
-use Rattle.ot_cscope.specs.Scopes.{Around, Run, sense, is_pointed, with_opening}
+use Rattle.ot_cscope.specs.Scopes.{Around, Run, sense, is_pointed, with_opening, with_portion}
 use Rattle.ot_cclause.specs.declared.clause.Heading.{Heading}
 use Rattle.ot_cclause.specs.declared.own.Own.{Own}
 use Rattle.ot_cclause.specs.declared.own.Taking.{Taking}
 use Rattle.ot_cdeclare.specs.Each.{each}
 use Rattle.ot_cclause.specs.Operations.{operation_word, is_same, is_extreme}
 use Rattle.ot_cclause.specs.Owns.{own_count, name_all, is_run, taking_of}
+use Rattle.ot_cclause.specs.Portions.{is_item}
 use Rattle.ot_cclause.specs.Sections.{Sectioned, part, pointed, section, cells_named}
 
 -- clauses of the language, or a group's sections; what names mean behind them; the cells that the task folds into by pointers;
@@ -55,18 +56,24 @@ is_in (r.Combines op) = false
 is_in r.Shared = false
 is_in r.Firstprivate = false
 is_in r.Default = false
+is_in r.DefaultNone = false
 is_in r.NumThreads = false
 is_in r.Priority = false
 is_in r.Untied = false
 is_in r.Mergeable = false
 
+-- whether so many cells are as many items: an iterator's, or a single one
+abbrev pub are_single : Option Span → ℕ → Bool
+are_single None n = n == 1
+are_single (Some over) n = true
+
 abbrev pub depends_by : ℕ → Head → Role → List ℕ → Option Span → Entry → Run → Headed
 depends_by at h role word over item cells =
     if own_count item.array cells h.own == 0 then (section h.around at over item >>= λ d. Ok (with_clause h (form word (d ∷ []))))
-    else if is_in role && is_run cells (own_count item.array cells h.own) then Ok (record h { own = name_all item.array cells h.own })
+    else if is_in role && is_run cells (own_count item.array cells h.own) && are_single over (own_count item.array cells h.own) then Ok (record h { own = name_all item.array cells h.own })
     else Err (at, why.Combined)
 
--- Under `in`, `out` or `inout`. Where the task folds into the cells by pointers, `red` says all that `in` does.
+-- Under `in`, `out` or `inout`. Where the task folds into the cells by pointers, `red` says all that `in` does: each is an item.
 abbrev pub depends : ℕ → Head → Role → List ℕ → Option Span → Entry → Headed
 depends at h role word over item = depends_by at h role word over item (cells_named h.around over item)
 
@@ -99,8 +106,10 @@ own_of (Some cell) = record { cell = cell; named = false } ∷ []
 abbrev pub joined_by : ℕ → Head → Operation → Entry → Option (Option Pointee × Option ℕ) → Headed
 joined_by at h op item None = Err (at, why.NoGroup)
 joined_by at h op item (Some found) =
-    part_or_cell h.around at item.array found.0 found.1 item.part >>= λ d.
-    Ok (record { clauses = h.clauses ++ form (codes "red") (string (operation_word op) ∷ d ∷ []) ∷ []; around = with_opening h.around (opening item.array op true found.0); own = h.own ++ own_of found.0; taking = h.taking ++ taking_of found.0 ∷ [] })
+    if is_item h.around found item
+    then (part_or_cell h.around at item.array found.0 found.1 item.part >>= λ d.
+    Ok (record { clauses = h.clauses ++ form (codes "red") (string (operation_word op) ∷ d ∷ []) ∷ []; around = with_opening h.around (opening item.array op true found.0); own = h.own ++ own_of found.0; taking = h.taking ++ taking_of found.0 ∷ [] }))
+    else Err (at, why.NoGroup)
 
 -- under `in_reduction`: the task has a copy of its own
 abbrev pub takes_part : ℕ → Operation → Head → Entry → Headed
@@ -145,12 +154,17 @@ ordered at op (s.Combined c k length) = Ok tt
 ordered at op (s.Pointer x p) = Ok tt
 ordered at op (s.Function i) = Ok tt
 
+-- in a group that combines over an item: a part of an array, or the cell of a pointer
+abbrev pub with_part : Around → Option Pointee → Entry → Around
+with_part a None item = with_portion a (number_of item.array) item.part
+with_part a (Some cell) item = a
+
 -- under `task_reduction`: a section of the group
 abbrev pub combines : ℕ → Head → Operation → Entry → Headed
 combines at h op item =
     combined_over h.around at item (pointer_in (sense h.around item.array)) >>= λ d.
     ordered at op (sense h.around item.array) >>= λ u.
-    Ok (record h { clauses = h.clauses ++ d ∷ []; around = with_opening h.around (opening item.array op false (pointer_in (sense h.around item.array))) })
+    Ok (record h { clauses = h.clauses ++ d ∷ []; around = with_part (with_opening h.around (opening item.array op false (pointer_in (sense h.around item.array)))) (pointer_in (sense h.around item.array)) item })
 
 -- under `shared`: what is so anyway
 abbrev pub shared : ℕ → Sense → Result (Unit {0}) Refusal
@@ -183,6 +197,7 @@ item_step at (r.Combines op) over h item = combines at h op item
 item_step at r.Shared over h item = shared at (sense h.around item.array) >>= λ x. Ok h
 item_step at r.Firstprivate over h item = private at (sense h.around item.array) >>= λ x. Ok h
 item_step at r.Default over h item = Ok h
+item_step at r.DefaultNone over h item = Ok h
 item_step at r.NumThreads over h item = Ok h
 item_step at r.Priority over h item = Ok h
 item_step at r.Untied over h item = Ok h
@@ -203,6 +218,7 @@ reduced_by (r.Combines op) = None
 reduced_by r.Shared = None
 reduced_by r.Firstprivate = None
 reduced_by r.Default = None
+reduced_by r.DefaultNone = None
 reduced_by r.NumThreads = None
 reduced_by r.Priority = None
 reduced_by r.Untied = None
@@ -236,6 +252,7 @@ combined_by (r.Reduces op) = o.Plus
 combined_by r.Shared = o.Plus
 combined_by r.Firstprivate = o.Plus
 combined_by r.Default = o.Plus
+combined_by r.DefaultNone = o.Plus
 combined_by r.NumThreads = o.Plus
 combined_by r.Priority = o.Plus
 combined_by r.Untied = o.Plus

@@ -1,4 +1,5 @@
 pub mod Operations
 pub mod Sections
+pub mod Portions
 pub mod Owns
 pub mod Clauses

@@ -8,6 +8,7 @@ ghost use Rattle.ot_cdeclare.specs.Each.{each};
 ghost use Rattle.ot_cclause.specs.Clauses as meant;
 
 use crate::own::{Own, Taking, are_named, is_run, name_all, own_count, taking_of};
+use crate::portion::is_item;
 use crate::section::{cells_named, no_cells, part, pointed, section};
 use crate::words::{is_extreme, is_same, operation_word};
 use ot_cread::{Clause, Item, Operation, Range, Role};
@@ -33,6 +34,13 @@ fn is_in(role: Role) -> bool
     matches!(role, Role::In)
 }
 
+/// Whether so many cells are as many items: an iterator's, or a single one.
+fn are_single(over: &Option<Range>, count: usize) -> bool
+    ensures { result ≡ meant.are_single (over_of over.now) count }
+{
+    over.is_some() || count == 1
+}
+
 /// An item under `in`, `out` or `inout`. Where the task folds into its cells by pointers, `red` says all that `in` does.
 fn depends<'a>(
     alloc: Global,
@@ -52,7 +60,7 @@ fn depends<'a>(
         heading.clauses.push(json::form1(alloc, word, section)?)?;
         return Ok(heading);
     }
-    if !is_in(role) || !is_run(cells, count) {
+    if !is_in(role) || !is_run(cells, count) || !are_single(over, count) {
         return Err(CFault::Outside(start, Reason::Combined));
     }
     Ok(Heading {
@@ -141,6 +149,9 @@ fn takes_part<'a>(
     let Some(found) = may_join(heading.scope.sense(item.array), operation) else {
         return Err(CFault::Outside(start, Reason::NoGroup));
     };
+    if !is_item(&heading.scope, found, item) {
+        return Err(CFault::Outside(start, Reason::NoGroup));
+    }
     let section = part_or_cell(alloc, &heading.scope, start, found, item)?;
     let word = json::text(alloc, operation_word(operation))?;
     heading
@@ -224,13 +235,27 @@ fn ordered(start: usize, operation: Operation, sense: Sense) -> Result<(), CFaul
     }
 }
 
+/// The place in a group that combines over an item, which is a part of an array or the cell of a pointer.
+fn with_part<'a>(
+    scope: Scope<'a>,
+    pointer: Option<Pointee>,
+    item: &'a Item,
+) -> Result<Scope<'a>, AllocError>
+    ensures { IfOk result (λ s. s ≡ meant.with_part scope.entry pointer (item_of item.now)) }
+{
+    match pointer {
+        None => scope.with_portion(number_of(item.array), &item.place),
+        Some(_) => Ok(scope),
+    }
+}
+
 /// An item under `task_reduction`: a section of the group.
 fn combines<'a>(
     alloc: Global,
     start: usize,
     mut heading: Heading<'a>,
     operation: Operation,
-    item: &Item,
+    item: &'a Item,
 ) -> Result<Heading<'a>, CFault>
     ensures { Gives head_of result (meant.combines start (head_of heading.entry) operation (item_of item.now)) }
 {
@@ -240,6 +265,7 @@ fn combines<'a>(
     heading.clauses.push(section)?;
     let opening = opening(item.array, operation, false, pointer);
     let scope = heading.scope.with_opening(alloc, opening)?;
+    let scope = with_part(scope, pointer, item)?;
     Ok(Heading {
         clauses: heading.clauses,
         scope,
@@ -275,7 +301,7 @@ fn item_step<'a>(
     heading: Heading<'a>,
     role: Role,
     over: &Option<Range>,
-    item: &Item,
+    item: &'a Item,
 ) -> Result<Heading<'a>, CFault>
     ensures { Gives head_of result (meant.item_step start role (over_of over.now) (head_of heading.entry) (item_of item.now)) }
 {
@@ -293,7 +319,7 @@ fn item_step<'a>(
             private(start, heading.scope.sense(item.array))?;
             Ok(heading)
         }
-        Role::Default | Role::NumThreads => Ok(heading),
+        Role::Default | Role::DefaultNone | Role::NumThreads => Ok(heading),
         Role::Priority | Role::Untied | Role::Mergeable => Ok(heading),
     }
 }
@@ -305,7 +331,7 @@ fn items<'a>(
     heading: Heading<'a>,
     role: Role,
     over: &Option<Range>,
-    items: &[Item],
+    items: &'a [Item],
 ) -> Result<Heading<'a>, CFault>
     ensures { Gives head_of result (each (meant.item_step start role (over_of over.now)) (head_of heading.entry) (items_of items.now)) }
 {
@@ -321,7 +347,7 @@ fn clause_step<'a>(
     alloc: Global,
     start: usize,
     heading: Heading<'a>,
-    clause: &Clause,
+    clause: &'a Clause,
 ) -> Result<Heading<'a>, CFault>
     ensures { Gives head_of result (meant.clause_step start (head_of heading.entry) (clause_of clause.now)) }
 {
@@ -342,7 +368,7 @@ fn reduced_by(role: Role) -> Option<Operation>
     match role {
         Role::Reduces(operation) => Some(operation),
         Role::In | Role::Out | Role::Inout | Role::Combines(_) => None,
-        Role::Shared | Role::Firstprivate | Role::Default => None,
+        Role::Shared | Role::Firstprivate | Role::Default | Role::DefaultNone => None,
         Role::NumThreads | Role::Priority | Role::Untied | Role::Mergeable => None,
     }
 }
@@ -405,7 +431,7 @@ fn others<'a>(
     alloc: Global,
     start: usize,
     heading: Heading<'a>,
-    clauses: &[Clause],
+    clauses: &'a [Clause],
 ) -> Result<Heading<'a>, CFault>
     ensures { Gives head_of result (each (meant.clause_step start) (head_of heading.entry) (clauses_of clauses.now)) }
 {
@@ -421,7 +447,7 @@ pub fn headed<'a>(
     alloc: Global,
     start: usize,
     scope: Scope<'a>,
-    clauses: &[Clause],
+    clauses: &'a [Clause],
 ) -> Result<Heading<'a>, CFault>
     ensures { Gives head_of result (meant.heading start scope.entry (clauses_of clauses.now)) }
 {
@@ -441,7 +467,8 @@ fn combined_by(role: Role) -> Operation
     match role {
         Role::Combines(operation) => operation,
         Role::In | Role::Out | Role::Inout | Role::Reduces(_) => Operation::Plus,
-        Role::Shared | Role::Firstprivate | Role::Default => Operation::Plus,
+        Role::Shared | Role::Firstprivate => Operation::Plus,
+        Role::Default | Role::DefaultNone => Operation::Plus,
         Role::NumThreads | Role::Priority | Role::Untied | Role::Mergeable => Operation::Plus,
     }
 }

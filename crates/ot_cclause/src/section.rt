@@ -27,7 +27,7 @@ pub fn no_cells(sense: Sense) -> Reason
 }
 
 /// How many cells an array has.
-fn count_of(length: Option<usize>) -> usize
+pub(crate) fn count_of(length: Option<usize>) -> usize
     ensures { result ≡ meant.count_of length }
 {
     match length {
@@ -106,7 +106,7 @@ pub(crate) fn part(
 
 /// Whether both are the same name, which means nothing by itself.
 #[tactic(auto, unfolding(crate::specs::Sections::same_name))]
-pub fn same_name(one: Name, two: Name) -> bool
+pub(crate) fn same_name(one: Name, two: Name) -> bool
     ensures { result ≡ meant.same_name one two }
 {
     match (one, two) {
@@ -178,7 +178,7 @@ fn run_between(
     Some((first, end.saturating_sub(first)))
 }
 
-fn run_of(scope: &Scope<'_>, length: Option<usize>, place: &Place) -> Option<(u64, u64)>
+pub(crate) fn run_of(scope: &Scope<'_>, length: Option<usize>, place: &Place) -> Option<(u64, u64)>
     ensures { result ≡ meant.run_of scope.now length (part_of place.now) }
 {
     match place {

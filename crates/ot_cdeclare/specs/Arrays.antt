@@ -105,7 +105,7 @@ begun a at k (Some n) (One e) = Err (at, why.NoConstant)
 
 -- outside of loops and groups
 abbrev pub outside : List (String Global) → List Meaning → Bool → Around
-outside names meanings inside = record { names = names; meanings = meanings; turns = []; opened = []; inside = inside }
+outside names meanings inside = record { names = names; meanings = meanings; turns = []; opened = []; portions = []; inside = inside }
 
 abbrev pub cells_in : Around → ℕ → IntegerType → Cells → Result (Option ℕ × List ℕ) Refusal
 cells_in a at k v = length a at v.length >>= λ n. begun a at k n v.initial >>= λ cells. Ok (n, cells)

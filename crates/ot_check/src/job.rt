@@ -1,5 +1,6 @@
 use crate::checked::Checked;
-use ot_model::{Cells, Counts, Program, Section, same_stmts};
+use ot_model::{Cells, Counts, Section, same_stmts};
+use ot_parts::same_parts;
 use std::alloc::{AllocError, Global};
 use std::marker::Model;
 use std::sync::Arc;
@@ -79,19 +80,26 @@ impl JobSpec {
     pub fn same_as(&self, other: &JobSpec) -> bool
         ensures { IsTrue result ↔ AreSame self.now other.now }
     {
-        same_program(&self.checked.program, &other.checked.program)
-            && same_cells(&self.before, &other.before)
+        same_program(&self.checked, &other.checked) && same_cells(&self.before, &other.before)
     }
 }
 
 ghost use Rattle.std.specs.Prelude.{◌≡◌, ◌↔◌, IsTrue, IfOk};
 ghost use Rattle.ot_model.specs.Programs.{expanded_of, IsNamedIn};
+ghost use Rattle.ot_model.specs.View.{stmts_of};
 
 /// Whether two programs are the same. What they count follows from their bodies.
-fn same_program(one: &Program, other: &Program) -> bool
-    ensures { IsTrue result ↔ expanded_of one.now ≡ expanded_of other.now }
+fn same_program(one: &Checked, other: &Checked) -> bool
+    ensures { IsTrue result ↔ expanded_of one.now.program ≡ expanded_of other.now.program }
 {
-    same_shows(&one.shows, &other.shows) && same_stmts(&one.body, &other.body)
+    same_shows(&one.program.shows, &other.program.shows) && same_body(one, other)
+}
+
+/// Whether two programs have the same body. Nearly always it is in the same parts, and these are compared faster.
+fn same_body(one: &Checked, other: &Checked) -> bool
+    ensures { IsTrue result ↔ stmts_of one.now.program.body.items ≡ stmts_of other.now.program.body.items }
+{
+    same_parts(&one.parts, &other.parts) || same_stmts(&one.program.body, &other.program.body)
 }
 
 fn same_shows(one: &[Section], other: &[Section]) -> bool

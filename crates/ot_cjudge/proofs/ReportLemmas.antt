@@ -52,12 +52,12 @@ race_is name cell known k l m t u z here other h o none put same empty first sec
     ∙ ap (λ x. here_line name cell x other ++ other_line name other known) hh
     ∙ ap (λ x. here_line name cell h x ++ other_line name x known) oo
 
-pub warning_is : (name words k l m t u : List ℕ) (site z : Site) (code number : ℕ) → k ≡ [] → l ≡ k ++ words → m ≡ l → t ≡ [] → u ≡ t ++ warning_line name site m code
-    → site ≡ z → code ≡ number → u ≡ warning_line name z words number
-warning_is name words k l m t u site z code number none put same empty wrote at is =
+pub warning_is : (name known words k l m t u : List ℕ) (site z : Site) (code number : ℕ) → k ≡ [] → l ≡ k ++ words → m ≡ l → t ≡ [] → u ≡ t ++ warning_line name site known m code
+    → site ≡ z → code ≡ number → u ≡ warning_line name z known words number
+warning_is name known words k l m t u site z code number none put same empty wrote at is =
     let said : m ≡ words = same ∙ put ∙ ap (λ x. x ++ words) none in
-    wrote ∙ ap (λ x. x ++ warning_line name site m code) empty ∙ ap (λ x. warning_line name site x code) said
-    ∙ ap (λ x. warning_line name x words code) at ∙ ap (λ x. warning_line name z words x) is
+    wrote ∙ ap (λ x. x ++ warning_line name site known m code) empty ∙ ap (λ x. warning_line name site known x code) said
+    ∙ ap (λ x. warning_line name x known words code) at ∙ ap (λ x. warning_line name z known words x) is
 
 pub outside_is : (name reason why t u : List ℕ) (site z : Site) → t ≡ [] → u ≡ t ++ outside_line name site.position reason → site ≡ z → reason ≡ why
     → u ≡ outside_line name z.position why

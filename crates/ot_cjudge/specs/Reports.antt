@@ -1,5 +1,5 @@
 -- What is written of a C text, from the first byte to the last.
-use Rattle.std.specs.Prelude.{◌≡◌, ℕ, List, [], ◌++◌, codes, Option, Some, None, option_map, unwrap_or, Result, Ok, Err}
+use Rattle.std.specs.Prelude.{◌≡◌, ℕ, Bool, true, false, List, [], ◌++◌, codes, Option, Some, None, option_map, unwrap_or, Result, Ok, Err}
 use Rattle.std.specs.Fmt.{decimal}
 use Rattle.serde_json.specs.Data.{Data, string, array, no_items, item}
 use Rattle.serde_json.specs.View.{view}
@@ -17,8 +17,10 @@ use Rattle.ot_program.specs.Programs.{program_of}
 use Rattle.ot_program.specs.declared.fault.Refusal.{Refusal}
 use Rattle.ot_program.specs.declared.fault.Refusal.TheVariants.{Form, Size, UnknownArray, OutOfRange, EmptySection, TooLarge, TooManyTasks, MixedReduction}
 use Rattle.ot_race.specs.declared.race.Race.{Race}
-use Rattle.ot_overlap.specs.Items.{items_of}
+use Rattle.ot_overlap.specs.Items.{items_of, ground}
 use Rattle.ot_overlap.specs.Overlaps.{IsFirst}
+use Rattle.ot_corder.specs.declared.order.Order.{Order}
+use Rattle.ot_corder.specs.declared.order.Order.TheVariants.{OfLanguage, OfC, OfCByPointers}
 use Rattle.ot_cjudge.specs.Start.{named, shape_by, shape_of, cells_of}
 use Rattle.ot_cjudge.specs.Sites.{Source, Site, site_of, entry_site}
 use Rattle.ot_cjudge.specs.Lines.{place_text, turns_text, cell_text}
@@ -76,20 +78,27 @@ advice arrays ReductionMisuse lacking = codes "a reduction is misused"
 advice arrays ConflictsWithChild lacking = codes "a taskwait is missing before this, for a child that may use the same"
 advice arrays EndsWithChildren lacking = codes "a taskwait is missing at the end of the task, for a child of it"
 
+-- what is known of races: no way has one; or the run has none, and other ways aren't known
+abbrev pub no_race : List ℕ
+no_race = codes "no race"
+
+abbrev pub none_in_run : List ℕ
+none_in_run = codes "with these numbers nothing races"
+
 -- `NAME:LINE:COLUMN: warning: no race, but omptaskd refuses it: the task lacks depend(in: m[5]) (i = 1, j = 2) [425]`
-abbrev pub warning_line : List ℕ → Site → List ℕ → ℕ → List ℕ
-warning_line name site words code =
-    place_text name site.position ++ (codes ": warning: no race, but omptaskd refuses it: "
-    ++ (words ++ (turns_text site.turns ++ (codes " [" ++ (decimal code ++ codes "]\n")))))
+abbrev pub warning_line : List ℕ → Site → List ℕ → List ℕ → ℕ → List ℕ
+warning_line name site known words code =
+    place_text name site.position ++ (codes ": warning: " ++ (known ++ (codes ", but omptaskd refuses it: "
+    ++ (words ++ (turns_text site.turns ++ (codes " [" ++ (decimal code ++ codes "]\n")))))))
 
 -- of the first offence; nothing where there is none
-abbrev pub warning_text : Source → Body → Option (ℕ × Offence) → List ℕ
-warning_text s body None = []
-warning_text s body (Some first) =
-    warning_line s.name (site_of s first.0) (advice s.arrays first.1 (lacks body first.0 first.1)) (code_of first.1)
+abbrev pub warning_text : Source → Body → List ℕ → Option (ℕ × Offence) → List ℕ
+warning_text s body known None = []
+warning_text s body known (Some first) =
+    warning_line s.name (site_of s first.0) known (advice s.arrays first.1 (lacks body first.0 first.1)) (code_of first.1)
 
-abbrev pub Warns : Source → Body → List ℕ → Type 0
-Warns s body text = (first : Option (ℕ × Offence)) × IsFirstOf (Offends body) first × (text ≡ warning_text s body first)
+abbrev pub Warns : Source → Body → List ℕ → List ℕ → Type 0
+Warns s body known text = (first : Option (ℕ × Offence)) × IsFirstOf (Offends body) first × (text ≡ warning_text s body known first)
 
 -- ---- where there are too many ways
 
@@ -122,12 +131,19 @@ outside_line name p reason = place_text name p ++ (codes ": error: " ++ (reason 
 abbrev pub ReportsFinding : Source → Body → Finding → Verdict → List ℕ → Type 0
 ReportsFinding s body (InRun race) verdict text = (verdict ≡ v.Races) × (text ≡ race_text s in_run race)
 ReportsFinding s body (OnWay race) verdict text = (verdict ≡ v.Races) × (text ≡ race_text s on_path race)
-ReportsFinding s body Nowhere verdict text = (verdict ≡ v.Clean) × Warns s body text
-ReportsFinding s body OnlyRun verdict text = (verdict ≡ v.Clean) × (warning : List ℕ) × Warns s body warning × (text ≡ warning ++ only_run_line s.name)
+ReportsFinding s body Nowhere verdict text = (verdict ≡ v.Clean) × Warns s body no_race text
+ReportsFinding s body OnlyRun verdict text =
+    (verdict ≡ v.OnlyRun) × (warning : List ℕ) × Warns s body none_in_run warning × (text ≡ warning ++ only_run_line s.name)
 
 -- of a program that begins with these cells
 abbrev pub ReportsRun : Source → List (List ℕ) → Body → Verdict → List ℕ → Type 0
 ReportsRun s cells body verdict text = (finding : Finding) × Finds s.order body cells finding × ReportsFinding s body finding verdict text
+
+-- whether `red` is an item of a `depend` clause: where tasks take part in reductions by pointers it stands for `depend(in: ..)` too
+abbrev pub has_red_items : Order → Bool
+has_red_items OfLanguage = false
+has_red_items OfC = false
+has_red_items OfCByPointers = true
 
 -- of one of which an item of a `depend` clause overlaps in part with one that writes, or none does
 abbrev pub ReportsItems : Source → List (List ℕ) → Body → Option ℕ → Verdict → List ℕ → Type 0
@@ -136,7 +152,7 @@ ReportsItems s cells body None verdict text = ReportsRun s cells body verdict te
 
 abbrev pub ReportsProgram : Source → List (List ℕ) → Body → Verdict → List ℕ → Type 0
 ReportsProgram s cells body verdict text =
-    (first : Option ℕ) × IsFirst (items_of s.arrays s.request) first × ReportsItems s cells body first verdict text
+    (first : Option ℕ) × IsFirst (items_of (ground s.arrays (has_red_items s.order)) s.request) first × ReportsItems s cells body first verdict text
 
 -- the request that runs a program
 abbrev pub run_of : Data → Data

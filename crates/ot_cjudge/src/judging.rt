@@ -13,7 +13,7 @@ ghost use Rattle.ot_cjudge.specs.Sites.{entry_site};
 ghost use Rattle.ot_cjudge.specs.SiteView.{source_by};
 ghost use Rattle.ot_cjudge.specs.Fits.{Fits};
 ghost use Rattle.ot_cjudge.specs.Lacks.{lacks};
-ghost use Rattle.ot_cjudge.specs.Reports.{Reports, ReportsRead, ReportsProgram, ReportsRun, ReportsFinding, race_text, warning_text, only_run_line, faulty, outside_line, overlaps, reason_of, run_of};
+ghost use Rattle.ot_cjudge.specs.Reports.{Reports, ReportsRead, ReportsProgram, ReportsRun, ReportsFinding, race_text, warning_text, only_run_line, none_in_run, has_red_items, faulty, outside_line, overlaps, reason_of, run_of};
 
 use crate::finding::{Finding, find};
 use crate::found::find_in;
@@ -27,6 +27,7 @@ use crate::telling::{
     put_advice, put_here, put_only_run, put_other, put_outside, put_warning, reason_of,
 };
 use ot_check::{Offence, first_offence};
+use ot_corder::Order;
 use ot_fault::first_fault;
 use ot_model::{Cells, Program, Shape, Use};
 use ot_overlap::first_overlap;
@@ -121,9 +122,24 @@ fn report_program(
     requires cells { lengths cells ≡ array_lengths shape.now }
     ensures { IfOk result (λ report. ReportsProgram (source_by source.now) cells (stmts_of program.body.items) report.verdict report.text.items) }
 {
-    match first_overlap(alloc, source.request, source.arrays)? {
+    match first_overlap(
+        alloc,
+        source.request,
+        source.arrays,
+        has_red_items(source.order),
+    )? {
         Some(entry) => report_overlap(alloc, source, entry),
         None => report_run(alloc, source, shape, &program, cells),
+    }
+}
+
+/// Whether `red` is an item of a `depend` clause.
+fn has_red_items(order: Order) -> bool
+    ensures { result ≡ has_red_items order }
+{
+    match order {
+        Order::OfCByPointers => true,
+        Order::OfLanguage | Order::OfC => false,
     }
 }
 
@@ -185,11 +201,14 @@ fn report_finding(
             race,
         ),
         Finding::OnWay(race) => report_race(alloc, source, "some path has both", race),
-        Finding::Nowhere => report_offence(alloc, source, program, first),
-        Finding::OnlyRun => {
-            let told = report_offence(alloc, source, program, first)?;
-            with_only_run(source, told)
+        Finding::Nowhere => {
+            let text = warning_text(alloc, source, program, "no race", first)?;
+            Ok(Report {
+                verdict: Verdict::Clean,
+                text,
+            })
         }
+        Finding::OnlyRun => report_only_run(alloc, source, program, first),
     }
 }
 
@@ -223,50 +242,55 @@ fn report_race(
     })
 }
 
-/// The same, with the line that only the run was judged.
-fn with_only_run(source: &Source<'_>, told: Report) -> Result<Report, AllocError>
-    ensures verdict { IfOk result (λ report. report.verdict ≡ told.verdict) }
-    ensures text { IfOk result (λ report. report.text.items ≡ told.text.items ++ only_run_line source.now.name.now) }
-{
-    let Report { verdict, mut text } = told;
-    put_only_run(source.name, &mut text)?;
-    Ok(Report { verdict, text })
-}
-
-/// What is written of a program in which nothing races: the first offence, with its place, where there is one.
-fn report_offence(
+/// What is written of a program whose run alone was judged, and doesn't race.
+fn report_only_run(
     alloc: Global,
     source: &Source<'_>,
     program: &Program,
     first: Option<(u32, Offence)>,
 ) -> Result<Report, AllocError>
     requires { Fits (stmts_of program.now.body.items) }
-    ensures verdict { IfOk result (λ report. report.verdict ≡ Verdict.Clean) }
-    ensures text { IfOk result (λ report. report.text.items ≡ warning_text (source_by source.now) (stmts_of program.now.body.items) first) }
+    ensures verdict { IfOk result (λ report. report.verdict ≡ Verdict.OnlyRun) }
+    ensures text { IfOk result (λ report. report.text.items
+        ≡ warning_text (source_by source.now) (stmts_of program.now.body.items) none_in_run first ++ only_run_line source.now.name.now) }
+{
+    let known = "with these numbers nothing races";
+    let mut text = warning_text(alloc, source, program, known, first)?;
+    put_only_run(source.name, &mut text)?;
+    Ok(Report {
+        verdict: Verdict::OnlyRun,
+        text,
+    })
+}
+
+/// What is written of the first offence of a program, with its place, where there is one; this is known of its races.
+fn warning_text(
+    alloc: Global,
+    source: &Source<'_>,
+    program: &Program,
+    known: &str,
+    first: Option<(u32, Offence)>,
+) -> Result<Vec<u8>, AllocError>
+    requires { Fits (stmts_of program.now.body.items) }
+    ensures { IfOk result (λ text. text.items ≡ warning_text (source_by source.now) (stmts_of program.now.body.items) known.now first) }
 {
     match first {
-        Some((place, offence)) => report_warning(alloc, source, program, offence, place),
-        None => {
-            let text = Vec::new(alloc);
-            Ok(Report {
-                verdict: Verdict::Clean,
-                text,
-            })
-        }
+        Some((place, offence)) => offence_text(alloc, source, program, known, offence, place),
+        None => Ok(Vec::new(alloc)),
     }
 }
 
 /// What is written of an offence.
-fn report_warning(
+fn offence_text(
     alloc: Global,
     source: &Source<'_>,
     program: &Program,
+    known: &str,
     offence: Offence,
     place: u32,
-) -> Result<Report, AllocError>
+) -> Result<Vec<u8>, AllocError>
     requires { Fits (stmts_of program.now.body.items) }
-    ensures verdict { IfOk result (λ report. report.verdict ≡ Verdict.Clean) }
-    ensures text { IfOk result (λ report. report.text.items ≡ warning_text (source_by source.now) (stmts_of program.now.body.items) (Some (place, offence))) }
+    ensures { IfOk result (λ text. text.items ≡ warning_text (source_by source.now) (stmts_of program.now.body.items) known.now (Some (place, offence))) }
 {
     let site = source.site_of(alloc, place)?;
     let used = lacking(program, place, offence);
@@ -278,14 +302,12 @@ fn report_warning(
         alloc,
         source.name,
         &site,
+        known,
         words.as_slice(),
         number,
         &mut text,
     )?;
-    Ok(Report {
-        verdict: Verdict::Clean,
-        text,
-    })
+    Ok(text)
 }
 
 /// What the task around a statement lacks, where that is its offence.

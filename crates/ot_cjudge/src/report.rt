@@ -3,8 +3,10 @@
 /// What is told of a C text.
 #[derive(Clone, Copy, Debug, PartialEq, Eq)]
 pub enum Verdict {
-    /// Nothing races in its run; the server may still refuse it.
+    /// No way through its branches races; the server may still refuse it.
     Clean,
+    /// Nothing races in its run, and of its other ways nothing is known: there are too many.
+    OnlyRun,
     /// Two touches race.
     Races,
     /// It isn't judged.

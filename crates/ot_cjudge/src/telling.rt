@@ -65,19 +65,22 @@ pub(crate) fn put_only_run(name: &str, out: &mut Vec<u8>) -> Result<(), AllocErr
     Ok(())
 }
 
-/// The line about an offence of a program in which nothing races.
+/// The line about an offence of a program of whose races this is known.
 pub(crate) fn put_warning(
     alloc: Global,
     name: &str,
     site: &Site<'_>,
+    known: &str,
     words: &[u8],
     code: u32,
     out: &mut Vec<u8>,
 ) -> Result<(), AllocError>
-    ensures { OnOk result (out.new.items ≡ out.old.items ++ warning_line name.now (site_by site.now) words.now code) }
+    ensures { OnOk result (out.new.items ≡ out.old.items ++ warning_line name.now (site_by site.now) known.now words.now code) }
 {
     put_place(alloc, name, site.position, out)?;
-    put_words(out, ": warning: no race, but omptaskd refuses it: ")?;
+    put_words(out, ": warning: ")?;
+    put_words(out, known)?;
+    put_words(out, ", but omptaskd refuses it: ")?;
     out.extend_from_slice(words)?;
     put_turns(alloc, site, out)?;
     put_code(alloc, code, out)?;

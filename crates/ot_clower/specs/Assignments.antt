@@ -20,6 +20,7 @@ use Rattle.ot_cscope.specs.Sizes.{size}
 use Rattle.ot_cmeaning.specs.Stores.{assigned, changed}
 use Rattle.ot_cscope.specs.Runs.{untouched}
 use Rattle.ot_clower.specs.declared.assignment.Placed.{Placed}
+use Rattle.ot_cclause.specs.Portions.{has_copy}
 use Rattle.ot_cclause.specs.Operations.{operation_word, fold_of, is_minus, call_fold, is_same}
 
 abbrev pub Stated : Type 0
@@ -68,8 +69,17 @@ abbrev pub free : Around → ℕ → Name → Option E → Result (Unit {0}) Ref
 free a at x None = Ok tt
 free a at x (Some i) = untouched a at x i
 
+-- whether it is a cell of which the task has a copy, or is an array's or a variable's own
+abbrev pub is_copied_by : Around → Name → Option Operation → Option ℕ → Option E → Bool
+is_copied_by a x None length index = true
+is_copied_by a x (Some op) length None = true
+is_copied_by a x (Some op) length (Some i) = has_copy a x length i
+
+abbrev pub is_copied : Around → Name → Place → Option E → Bool
+is_copied a x p index = is_copied_by a x p.own p.length index
+
 abbrev pub cell_at : Around → ℕ → Name → Place → Option E → Option Pointee → Stated
-cell_at a at x p index None = free a at x index >>= λ u. cell_of a at x p.length index
+cell_at a at x p index None = free a at x index >>= λ u. if is_copied a x p index then cell_of a at x p.length index else Err (at, why.Combined)
 cell_at a at x p index (Some cell) = pointed_cell a at cell index
 
 -- the cell that is assigned to

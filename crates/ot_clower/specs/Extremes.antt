@@ -1,11 +1,6 @@
 -- A greatest or least number that an `if` keeps. Where a task has a copy of x of its own, `if (x < e) x = e;` is
 -- `x = max(x, e);`, and `if (x > e) x = e;` is `x = min(x, e);`.
 use Rattle.std.specs.Prelude.{ℕ, ◌==◌, Bool, false, ◌&&◌, Option, Some, None, option_and_then, if◌then◌else◌}
-use denote.Enum.Bare.{sameb}
-use Rattle.ot_words.specs.contracts.word.IntegerType.{the_type as types}
-use Rattle.ot_cread.specs.contracts.sign.Sign.{the_type as signs}
-use Rattle.ot_cread.specs.contracts.sign.Unary.{the_type as unaries}
-use Rattle.ot_cread.specs.contracts.tree.Call.{the_type as calls}
 use Rattle.ot_cread.specs.declared.sign.Sign.TheVariants as s
 use Rattle.ot_cread.specs.declared.tree.Operation.{Operation}
 use Rattle.ot_cread.specs.declared.tree.Operation.TheVariants as o
@@ -15,23 +10,9 @@ use Rattle.ot_cscope.specs.declared.scope.Sense.{Sense}
 use Rattle.ot_cscope.specs.declared.scope.Sense.TheVariants as means
 use Rattle.ot_cscope.specs.Results.{◌>>=◌}
 use Rattle.ot_cscope.specs.Scopes.{Around, sense}
-use Rattle.ot_cclause.specs.Sections.{same_name}
+use Rattle.ot_cclause.specs.Portions.{same_value}
 use Rattle.ot_clower.specs.declared.extreme.Extreme.{Extreme}
 use Rattle.ot_clower.specs.Assignments.{Stated, aimed, cell_aimed, change, is_target}
-
--- ---- a value that stands in two places
-
--- whether two values are the same, part by part
-unfoldable pub same_value : E → E → Bool
-same_value (Literal i k) (Literal j l) = i == j && sameb types k l
-same_value (Variable x) (Variable y) = same_name x y
-same_value (CellAt x i) (CellAt y j) = same_name x y && same_value i j
-same_value (Unsigned e) (Unsigned f) = same_value e f
-same_value (Signed sign e) (Signed other f) = sameb unaries sign other && same_value e f
-same_value (Called call e f) (Called other g h) = sameb calls call other && same_value e g && same_value f h
-same_value (Apply sign e f) (Apply other g h) = sameb signs sign other && same_value e g && same_value f h
-same_value (Choose t e f) (Choose u g h) = same_value t u && same_value e g && same_value f h
-same_value e f = false
 
 -- ---- what an `if` keeps
 

@@ -1,10 +1,8 @@
 -- A file whole.
-use Rattle.std.specs.Prelude.{ℕ, ◌+◌, nat_lt, Bool, true, false, List, [], ◌∷◌, ◌++◌, length, map, replicate, find, Option, Some, None, Result, Ok, Err, String, codes, if◌then◌else◌}
-use Rattle.std.specs.declared.alloc.Global.{Global}
+use Rattle.std.specs.Prelude.{ℕ, ◌+◌, nat_lt, Bool, true, false, List, [], ◌∷◌, ◌++◌, length, map, replicate, find, Option, Some, None, Result, Ok, Err, codes, if◌then◌else◌}
 use Rattle.serde_json.specs.Data.{Data, string, Items}
 use Rattle.serde_json.specs.View.{view, items_of}
-use Rattle.ot_cread.specs.declared.tree.Operation.TheVariants as op
-use Rattle.ot_cread.specs.Tree.{E, Claim}
+use Rattle.ot_cread.specs.Tree.{E}
 use Rattle.ot_cstatement.specs.Tree.{S, Body}
 use Rattle.ot_cfile.specs.Program.{Entry, Constant, Global as Global', Function, Act, Local, Region, Does, Whole}
 use Rattle.ot_cscope.specs.declared.reason.Reason.TheVariants as why
@@ -21,16 +19,13 @@ use Rattle.ot_clower.specs.declared.lowered.Lowered.{Lowered}
 use Rattle.ot_clower.specs.declared.lowered.Progress.{Progress}
 use Rattle.ot_clower.specs.declared.lowered.Reductions.{Reductions}
 use Rattle.ot_clower.specs.declared.lowered.Reductions.TheVariants as r
-use Rattle.ot_cclause.specs.Clauses.{heading}
 use Rattle.ot_cclause.specs.declared.own.Taking.{Taking}
 use Rattle.ot_cclause.specs.declared.own.Taking.TheVariants.{ByName, ByPointer}
 use Rattle.ot_cdeclare.specs.Arrays.{D, declared_of, Arr, array_of, named, number_of, outside, declaration}
 use Rattle.ot_cdeclare.specs.Each.{each}
 use Rattle.ot_clower.specs.Lines.{L, Took, lines_of, none, joined}
-use Rattle.ot_clower.specs.Statements.{Twice, called_of, Origin, statement, body, group}
-
-abbrev pub Names : Type 0
-Names = List (String Global)
+use Rattle.ot_clower.specs.Statements.{Twice, called_of, Origin, statement, body}
+use Rattle.ot_clower.specs.Regions.{Names, region}
 
 -- ---- what stands before `main`
 
@@ -90,14 +85,6 @@ abbrev pub tops : Names → List ℕ → List Entry → Result B Refusal
 tops names starts ts = each (top_step names starts) (nothing names) ts
 
 -- ---- what `main` does
-
--- A parallel region of which one thread does these statements: a group over nothing, since all tasks have ended at its
--- end (OpenMP API 5.2, section 15.3.2).
-abbrev pub region : Names → Origin → List Meaning → ℕ → List Claim → Body → Result L Refusal
-region names o meanings at cs b =
-    heading at (outside names meanings true) cs >>= λ h.
-    body o h.around b >>= λ x.
-    Ok (group at op.Plus [] x)
 
 -- a statement outside of regions
 abbrev pub alone : Names → Origin → List Meaning → S → Result L Refusal

@@ -2,4 +2,5 @@ pub mod Lines
 pub mod Assignments
 pub mod Extremes
 pub mod Statements
+pub mod Regions
 pub mod Files

@@ -7,7 +7,7 @@ ghost use Rattle.ot_cscope.specs.Results.{Gives};
 ghost use Rattle.ot_clower.specs.Assignments.{place_of};
 ghost use Rattle.ot_clower.specs.Assignments as meant;
 
-use ot_cclause::{call_fold, fold_of, is_minus, is_same, no_cells, operation_word};
+use ot_cclause::{call_fold, fold_of, has_copy, is_minus, is_same, no_cells, operation_word};
 use ot_cmeaning::{assigned, changed};
 use ot_cread::{Expr, Operation, Sign};
 use ot_cscope::{CFault, Pointee, Reason, Scope, Sense, json, size, untouched};
@@ -114,6 +114,16 @@ fn free(scope: &Scope<'_>, start: usize, array: Name, index: &Option<Expr>) -> R
     }
 }
 
+/// Whether it is a cell of which the task has a copy, or is an array's or a variable's own.
+fn is_copied(scope: &Scope<'_>, array: Name, placed: Placed, index: &Option<Expr>) -> bool
+    ensures { result ≡ meant.is_copied scope.now array (place_of placed) (index_of index.now) }
+{
+    match (placed.own, index) {
+        (Some(_), Some(index)) => has_copy(scope, array, placed.length, index),
+        _ => true,
+    }
+}
+
 /// The cell that is assigned to.
 pub(crate) fn cell_aimed(
     alloc: Global,
@@ -127,6 +137,9 @@ pub(crate) fn cell_aimed(
     match placed.pointee {
         None => {
             free(scope, start, target.array, &target.index)?;
+            if !is_copied(scope, target.array, placed, &target.index) {
+                return Err(CFault::Outside(start, Reason::Combined));
+            }
             let length = placed.length;
             cell_of(alloc, scope, start, target.array, length, &target.index)
         }

@@ -9,7 +9,7 @@ ghost use Rattle.ot_clower.specs.Extremes.{kept_of};
 ghost use Rattle.ot_clower.specs.Extremes as meant;
 
 use crate::assignment::{aimed, cell_aimed, change, is_target};
-use ot_cclause::same_name;
+use ot_cclause::same_value;
 use ot_cread::{Expr, Operation, Sign};
 use ot_cscope::{CFault, Scope, Sense};
 use ot_cstatement::{Stmt, Target};
@@ -22,30 +22,6 @@ pub(crate) struct Extreme<'a> {
     pub(crate) target: &'a Target,
     pub(crate) operation: Operation,
     pub(crate) expr: &'a Expr,
-}
-
-/// Whether two values are the same, part by part.
-#[tactic(auto, unfolding(crate::specs::Extremes::same_value))]
-fn same_value(one: &Expr, two: &Expr) -> bool
-    ensures { result ≡ meant.same_value (expr_of one.now) (expr_of two.now) }
-{
-    match (one, two) {
-        (Expr::Number(n, kind), Expr::Number(m, other)) => *n == *m && *kind == *other,
-        (Expr::Variable(x), Expr::Variable(y)) => same_name(*x, *y),
-        (Expr::Cell(x, i), Expr::Cell(y, j)) => same_name(*x, *y) && same_value(i, j),
-        (Expr::Cast(a), Expr::Cast(b)) => same_value(a, b),
-        (Expr::Unary(sign, a), Expr::Unary(other, b)) => *sign == *other && same_value(a, b),
-        (Expr::Call(call, a, b), Expr::Call(other, c, d)) => {
-            *call == *other && same_value(a, c) && same_value(b, d)
-        }
-        (Expr::Op(sign, a, b), Expr::Op(other, c, d)) => {
-            *sign == *other && same_value(a, c) && same_value(b, d)
-        }
-        (Expr::Choice(t, a, b), Expr::Choice(u, c, d)) => {
-            same_value(t, u) && same_value(a, c) && same_value(b, d)
-        }
-        _ => false,
-    }
 }
 
 /// What `if (one < other) target = expr;` keeps.

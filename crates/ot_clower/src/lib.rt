@@ -5,6 +5,7 @@ mod assignment;
 mod extreme;
 mod lines;
 mod lowered;
+mod region;
 mod statements;
 
 pub use lowered::{Lowered, Reductions, lower};

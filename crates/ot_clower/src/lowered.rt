@@ -1,7 +1,7 @@
 //! A file whole.
 ghost use Rattle.std.specs.Prelude.{◌≡◌, ◌<◌, ◌^◌, false, find, map, Ok};
 ghost use Rattle.serde_json.specs.View.{view, items_view};
-ghost use Rattle.ot_cread.specs.Tree.{expr_of, clauses_of};
+ghost use Rattle.ot_cread.specs.Tree.{expr_of};
 ghost use Rattle.ot_cstatement.specs.Tree.{list_of, body_of, stmt_of};
 ghost use Rattle.ot_cfile.specs.Program.{top_of, tops_of, step_of, main_of, file_of};
 ghost use Rattle.ot_cscope.specs.Results.{Gives};
@@ -13,11 +13,12 @@ ghost use Rattle.ot_clower.specs.Files.{before_of, progress_of, lowered_of};
 ghost use Rattle.ot_clower.specs.Files as meant;
 
 use crate::lines::{Lines, joined, no_lines};
-use crate::statements::{Became, Called, Source, body, group, statement};
-use ot_cclause::{Taking, headed};
+use crate::region::region;
+use crate::statements::{Became, Called, Source, body, statement};
+use ot_cclause::Taking;
 use ot_cdeclare::{CArray, Declared, byte_of, declaration, named, number_of, pointers};
 use ot_cfile::{File, Step, Top};
-use ot_cread::{Clause, Expr, Operation};
+use ot_cread::Expr;
 use ot_cscope::{CFault, Meaning, Reason, Scope, constant, json};
 use ot_cstatement::Stmt;
 use ot_words::{IntegerType, Name, Words};
@@ -228,24 +229,6 @@ fn tops(alloc: Global, words: &Words, tops: &[Top]) -> Result<Before, CFault>
         before = top_step(alloc, words, before, top)?;
     }
     Ok(before)
-}
-
-/// A parallel region: a group over nothing, since all tasks have ended at its end.
-fn region(
-    alloc: Global,
-    words: &Words,
-    source: &Source<'_>,
-    meanings: &[Meaning],
-    start: usize,
-    clauses: &[Clause],
-    stmts: &[Stmt],
-) -> Result<Lines, CFault>
-    ensures { Gives lines_of result (meant.region words.now.names.keys (source_of source.now) meanings.now start (clauses_of clauses.now) (body_of (list_of stmts.now))) }
-{
-    let scope = Scope::new(alloc, &words.names, meanings, true);
-    let heading = headed(alloc, start, scope, clauses)?;
-    let inner = body(alloc, source, &heading.scope, stmts)?;
-    group(alloc, start, Operation::Plus, Vec::new(alloc), inner)
 }
 
 /// A statement of `main` outside of regions.

@@ -83,7 +83,12 @@ fn print(alloc: Global, scope: &Scope<'_>, start: usize, exprs: &[Expr]) -> Resu
 }
 
 /// A wait, with clauses or without.
-fn wait(alloc: Global, scope: &Scope<'_>, start: usize, clauses: &[Clause]) -> Result<Lines, CFault>
+fn wait<'a>(
+    alloc: Global,
+    scope: &Scope<'a>,
+    start: usize,
+    clauses: &'a [Clause],
+) -> Result<Lines, CFault>
     ensures { Gives lines_of result (meant.wait scope.now start (clauses_of clauses.now)) }
 {
     region_at(scope, start)?;
@@ -91,11 +96,11 @@ fn wait(alloc: Global, scope: &Scope<'_>, start: usize, clauses: &[Clause]) -> R
 }
 
 /// The same, wherever it stands.
-fn waits(
+fn waits<'a>(
     alloc: Global,
-    scope: &Scope<'_>,
+    scope: &Scope<'a>,
     start: usize,
-    clauses: &[Clause],
+    clauses: &'a [Clause],
 ) -> Result<Lines, CFault>
     ensures { Gives lines_of result (meant.waits scope.now start (clauses_of clauses.now)) }
 {
@@ -112,11 +117,11 @@ fn wait_for_all(alloc: Global, start: usize) -> Result<Lines, CFault>
     Ok(one_line(alloc, start, statement, Vec::new(alloc))?)
 }
 
-fn wait_for(
+fn wait_for<'a>(
     alloc: Global,
-    scope: &Scope<'_>,
+    scope: &Scope<'a>,
     start: usize,
-    clauses: &[Clause],
+    clauses: &'a [Clause],
 ) -> Result<Lines, CFault>
     ensures { Gives lines_of result (meant.wait_for scope.now start (clauses_of clauses.now)) }
 {
@@ -223,7 +228,7 @@ fn task_heading<'a>(
     alloc: Global,
     scope: &Scope<'a>,
     start: usize,
-    clauses: &[Clause],
+    clauses: &'a [Clause],
 ) -> Result<Heading<'a>, CFault>
     ensures { Gives head_of result (meant.task_head scope.now start (clauses_of clauses.now)) }
 {
@@ -271,7 +276,7 @@ fn group_heading<'a>(
     alloc: Global,
     scope: &Scope<'a>,
     start: usize,
-    clauses: &[Clause],
+    clauses: &'a [Clause],
 ) -> Result<(Operation, Heading<'a>), CFault>
     ensures { Gives (λ x. (x.0, head_of x.1)) result (meant.group_head scope.now start (clauses_of clauses.now)) }
 {
@@ -417,11 +422,11 @@ fn kept(
 /// A statement.
 #[cycle(statement)]
 #[tactic(auto, unfolding(crate::specs::Statements::statement))]
-pub(crate) fn statement(
+pub(crate) fn statement<'a>(
     alloc: Global,
     source: &Source<'_>,
-    scope: &Scope<'_>,
-    stmt: &Stmt,
+    scope: &Scope<'a>,
+    stmt: &'a Stmt,
 ) -> Result<Lines, CFault>
     ensures { Gives lines_of result (meant.statement (source_of source.now) scope.now (stmt_of stmt.now)) }
 {
@@ -481,12 +486,12 @@ pub(crate) fn statement(
 
 /// A statement behind others.
 #[cycle(statement)]
-fn body_step(
+fn body_step<'a>(
     alloc: Global,
     source: &Source<'_>,
-    scope: &Scope<'_>,
+    scope: &Scope<'a>,
     lines: Lines,
-    stmt: &Stmt,
+    stmt: &'a Stmt,
 ) -> Result<Lines, CFault>
     ensures { Gives lines_of result (meant.behind (lines_of lines) (meant.statement (source_of source.now) scope.now (stmt_of stmt.now))) }
 {
@@ -496,11 +501,11 @@ fn body_step(
 
 /// Statements.
 #[cycle(statement)]
-pub(crate) fn body(
+pub(crate) fn body<'a>(
     alloc: Global,
     source: &Source<'_>,
-    scope: &Scope<'_>,
-    stmts: &[Stmt],
+    scope: &Scope<'a>,
+    stmts: &'a [Stmt],
 ) -> Result<Lines, CFault>
     ensures { Gives lines_of result (meant.body (source_of source.now) scope.now (body_of (list_of stmts.now))) }
 {

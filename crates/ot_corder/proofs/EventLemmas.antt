@@ -1,4 +1,4 @@
--- Events one after the other, as C takes them.
+-- Events one after the other, as they are taken.
 use Rattle.std.proofs.Common.{◌≡◌, ◌∙◌, ℕ, zero, suc, ◌+◌, ◌<◌, List, [], ◌∷◌, ◌++◌, length, map, take, drop, set, get_or, refl, sym, ap, add-one}
 use Rattle.std.specs.Prelude.{Option, Some, None, slice_get}
 use Rattle.std.proofs.lemmas.List.{length-map, map-append, map-set, take_more}
@@ -7,7 +7,6 @@ use Rattle.ot_race.specs.Events as s
 use Rattle.ot_race.specs.declared.event.Event.{Event}
 use Rattle.ot_race.specs.View.{deed_of, event_of}
 use Rattle.ot_race.proofs.PlaceLemmas.{place_read, place_map}
-use Rattle.ot_corder.specs.Orders.{event_in_c}
 use Rattle.ot_corder.specs.Instead.{instead}
 
 map_both : {A B C : Type 0} (f : B → C) (g : A → B) (xs : List A) → map (λ x. f (g x)) xs ≡ map f (map g xs)
@@ -31,7 +30,7 @@ declared_all events = map_both (λ e. instead e.deed) event_of events
 pub as_many : (events : List s.Event) (declared : List (Option (List Use))) → declared ≡ map (λ e. instead e.deed) events → length declared ≡ length events
 as_many events declared are = ap length are ∙ length-map events (λ x. instead x.deed)
 
--- ---- events of which the first so many are as C takes them
+-- ---- events of which the first so many are taken otherwise
 
 none_some : {A : Type 0} (x : A) → None ≡ Some x → ⊥
 none_some x h = cc
@@ -39,44 +38,44 @@ none_some x h = cc
 some_same : {A : Type 0} (x y : A) → Some x ≡ Some y → x ≡ y
 some_same x y h = cc
 
-taken_length : (xs : List s.Event) (n : ℕ) → length (map event_in_c (take n xs) ++ drop n xs) ≡ length xs
-taken_length [] zero = refl
-taken_length [] (suc n) = refl
-taken_length (x ∷ xs) zero = refl
-taken_length (x ∷ xs) (suc n) = ap suc (taken_length xs n)
+taken_length : (f : s.Event → s.Event) (xs : List s.Event) (n : ℕ) → length (map f (take n xs) ++ drop n xs) ≡ length xs
+taken_length f [] zero = refl
+taken_length f [] (suc n) = refl
+taken_length f (x ∷ xs) zero = refl
+taken_length f (x ∷ xs) (suc n) = ap suc (taken_length f xs n)
 
-pub taken_many : (now : List Event) (xs : List s.Event) (n : ℕ) → map event_of now ≡ map event_in_c (take n xs) ++ drop n xs → length now ≡ length xs
-taken_many now xs n h = sym (length-map now event_of) ∙ ap length h ∙ taken_length xs n
+pub taken_many : (f : s.Event → s.Event) (now : List Event) (xs : List s.Event) (n : ℕ) → map event_of now ≡ map f (take n xs) ++ drop n xs → length now ≡ length xs
+taken_many f now xs n h = sym (length-map now event_of) ∙ ap length h ∙ taken_length f xs n
 
-taken_there : (xs : List s.Event) (n : ℕ) (x : s.Event) → slice_get (map event_in_c (take n xs) ++ drop n xs) n ≡ Some x → slice_get xs n ≡ Some x
-taken_there [] zero x h = h
-taken_there [] (suc n) x h = h
-taken_there (y ∷ ys) zero x h = h
-taken_there (y ∷ ys) (suc n) x h = taken_there ys n x h
+taken_there : (f : s.Event → s.Event) (xs : List s.Event) (n : ℕ) (x : s.Event) → slice_get (map f (take n xs) ++ drop n xs) n ≡ Some x → slice_get xs n ≡ Some x
+taken_there f [] zero x h = h
+taken_there f [] (suc n) x h = h
+taken_there f (y ∷ ys) zero x h = h
+taken_there f (y ∷ ys) (suc n) x h = taken_there f ys n x h
 
 -- the one that is next
-next_is : (now : List Event) (xs : List s.Event) (n : ℕ) (e : Event) → map event_of now ≡ map event_in_c (take n xs) ++ drop n xs → n < length now → e ≡ get_or now n e
+next_is : (f : s.Event → s.Event) (now : List Event) (xs : List s.Event) (n : ℕ) (e : Event) → map event_of now ≡ map f (take n xs) ++ drop n xs → n < length now → e ≡ get_or now n e
     → slice_get xs n ≡ Some (event_of e)
-next_is now xs n e h within is =
-    taken_there xs n (event_of e) (sym (ap (λ zs. slice_get zs n) h) ∙ place_map event_of now n e (place_read now n e within is))
+next_is f now xs n e h within is =
+    taken_there f xs n (event_of e) (sym (ap (λ zs. slice_get zs n) h) ∙ place_map event_of now n e (place_read now n e within is))
 
 -- what it declares, as it was noted
-pub own_is : (now : List Event) (xs : List s.Event) (declared : List (Option (List Use))) (n : ℕ) (e : Event) (own : Option (List Use))
-    → declared ≡ map (λ x. instead x.deed) xs → map event_of now ≡ map event_in_c (take n xs) ++ drop n xs → n < length now → e ≡ get_or now n e
+pub own_is : (f : s.Event → s.Event) (now : List Event) (xs : List s.Event) (declared : List (Option (List Use))) (n : ℕ) (e : Event) (own : Option (List Use))
+    → declared ≡ map (λ x. instead x.deed) xs → map event_of now ≡ map f (take n xs) ++ drop n xs → n < length now → e ≡ get_or now n e
     → n < length declared → own ≡ get_or declared n own → own ≡ instead (deed_of e.deed)
-own_is now xs declared n e own are h within is there own_at =
-    let noted = place_map (λ (x : s.Event). instead x.deed) xs n (event_of e) (next_is now xs n e h within is) in
+own_is f now xs declared n e own are h within is there own_at =
+    let noted = place_map (λ (x : s.Event). instead x.deed) xs n (event_of e) (next_is f now xs n e h within is) in
     some_same own (instead (deed_of e.deed)) (sym (place_read declared n own there own_at) ∙ ap (λ ds. slice_get ds n) are ∙ noted)
 
-taken_one : (xs : List s.Event) (n : ℕ) (x : s.Event) → slice_get xs n ≡ Some x
-    → set (map event_in_c (take n xs) ++ drop n xs) n (event_in_c x) ≡ map event_in_c (take (suc n) xs) ++ drop (suc n) xs
-taken_one [] n x h = absurd (none_some x h)
-taken_one (y ∷ ys) zero x h = ap (λ z. event_in_c z ∷ ys) (sym (some_same y x h))
-taken_one (y ∷ ys) (suc n) x h = ap (λ zs. event_in_c y ∷ zs) (taken_one ys n x h)
+taken_one : (f : s.Event → s.Event) (xs : List s.Event) (n : ℕ) (x : s.Event) → slice_get xs n ≡ Some x
+    → set (map f (take n xs) ++ drop n xs) n (f x) ≡ map f (take (suc n) xs) ++ drop (suc n) xs
+taken_one f [] n x h = absurd (none_some x h)
+taken_one f (y ∷ ys) zero x h = ap (λ z. f z ∷ ys) (sym (some_same y x h))
+taken_one f (y ∷ ys) (suc n) x h = ap (λ zs. f y ∷ zs) (taken_one f ys n x h)
 
 -- one more
-pub taken_next : (now : List Event) (xs : List s.Event) (n : ℕ) (e f : Event) → map event_of now ≡ map event_in_c (take n xs) ++ drop n xs → n < length now → e ≡ get_or now n e
-    → event_of f ≡ event_in_c (event_of e) → map event_of (set now n f) ≡ map event_in_c (take (n + 1) xs) ++ drop (n + 1) xs
-taken_next now xs n e f h within is taken =
-    map-set event_of now n f ∙ ap (λ x. set (map event_of now) n x) taken ∙ ap (λ zs. set zs n (event_in_c (event_of e))) h
-    ∙ taken_one xs n (event_of e) (next_is now xs n e h within is) ∙ ap (λ m. map event_in_c (take m xs) ++ drop m xs) (sym (add-one n))
+pub taken_next : (f : s.Event → s.Event) (now : List Event) (xs : List s.Event) (n : ℕ) (e new : Event) → map event_of now ≡ map f (take n xs) ++ drop n xs → n < length now → e ≡ get_or now n e
+    → event_of new ≡ f (event_of e) → map event_of (set now n new) ≡ map f (take (n + 1) xs) ++ drop (n + 1) xs
+taken_next f now xs n e new h within is taken =
+    map-set event_of now n new ∙ ap (λ x. set (map event_of now) n x) taken ∙ ap (λ zs. set zs n (f (event_of e))) h
+    ∙ taken_one f xs n (event_of e) (next_is f now xs n e h within is) ∙ ap (λ m. map f (take m xs) ++ drop m xs) (sym (add-one n))

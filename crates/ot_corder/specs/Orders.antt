@@ -1,4 +1,5 @@
--- What orders tasks: in the language all that they declare, in C their `depend` clauses alone.
+-- What orders tasks, and what they touch: in the language all that they declare, and what they fold into; in C their `depend` clauses
+-- alone, and no cell that they fold into.
 use Rattle.std.specs.Prelude.{Bool, true, false, List, map, filter, not, ◌||◌}
 use Rattle.std.specs.List.{list_any}
 use Rattle.ot_model.specs.Tree.{S, Set, Fold, If, Task, Wait, Group, Body, End, Next}
@@ -6,13 +7,18 @@ use Rattle.ot_model.specs.Cells.{is_fold}
 use Rattle.ot_model.specs.declared.stmt.Use.{Use}
 use Rattle.ot_race.specs.Events.{Deed, Touches, Begins, Awaits, Leaves, Event, event}
 use Rattle.ot_corder.specs.declared.order.Order.{Order}
-use Rattle.ot_corder.specs.declared.order.Order.TheVariants.{OfLanguage, OfC}
+use Rattle.ot_corder.specs.declared.order.Order.TheVariants.{OfLanguage, OfC, OfCByPointers}
 
 -- what of a declaration makes dependences in C: `in_reduction` makes none (OpenMP API 5.2, sections 5.5.10 and 15.9.5)
 abbrev pub depend_of : List Use → List Use
 depend_of uses = filter (λ u. not (is_fold u.mode)) uses
 
--- an event as C takes it: a task declares what makes dependences, and uses cells as it does
+-- what of its uses an event touches in C: a fold is into the task's copy, and the cell itself is written at the group's end
+-- (section 5.5.5)
+abbrev pub touched_of : List Use → List Use
+touched_of uses = filter (λ u. not (is_fold u.mode)) uses
+
+-- an event as C takes it: a task declares what makes dependences
 abbrev pub deed_in_c : Deed → Deed
 deed_in_c Touches = Touches
 deed_in_c (Begins parent wants) = Begins parent (depend_of wants)
@@ -20,12 +26,17 @@ deed_in_c (Awaits w) = Awaits w
 deed_in_c (Leaves count) = Leaves count
 
 abbrev pub event_in_c : Event → Event
-event_in_c e = event e.task e.place (deed_in_c e.deed) e.uses
+event_in_c e = event e.task e.place (deed_in_c e.deed) (touched_of e.uses)
 
--- the events of a run where this orders its tasks
+-- the same where tasks take part in reductions by pointers: `red` stands for their `depend(in: ..)`, so they declare all
+abbrev pub event_by_pointers : Event → Event
+event_by_pointers e = event e.task e.place e.deed (touched_of e.uses)
+
+-- the events of a run where this orders its tasks, with what they touch
 abbrev pub ordered_by : Order → List Event → List Event
 ordered_by OfLanguage es = es
 ordered_by OfC es = map event_in_c es
+ordered_by OfCByPointers es = map event_by_pointers es
 
 -- ---- where both order tasks alike
 
@@ -50,3 +61,4 @@ abbrev mutual
 abbrev pub is_alike : Order → Body → Bool
 is_alike OfLanguage body = true
 is_alike OfC body = not (folds_in body)
+is_alike OfCByPointers body = true

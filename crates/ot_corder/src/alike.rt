@@ -12,7 +12,7 @@ pub fn is_alike(order: Order, body: &Vec<Stmt>) -> bool
     ensures { result ≡ is_alike order (stmts_of body.now.items) }
 {
     match order {
-        Order::OfLanguage => true,
+        Order::OfLanguage | Order::OfCByPointers => true,
         Order::OfC => !folds_in(body),
     }
 }

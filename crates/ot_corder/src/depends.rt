@@ -27,7 +27,7 @@ pub(crate) fn has_fold(decl: &Decl) -> bool
 
 ghost use Rattle.ot_model.specs.Cells.{is_fold};
 
-fn is_fold(mode: Mode) -> bool
+pub(crate) fn is_fold(mode: Mode) -> bool
     ensures { result ≡ is_fold mode }
 {
     matches!(mode, Mode::Folds(_))

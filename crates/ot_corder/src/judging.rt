@@ -2,15 +2,16 @@
 ghost use Rattle.std.specs.Prelude.{◌<◌, ◌^◌, IfOk, length, ◌≡◌, map, unwrap_or};
 ghost use Rattle.ot_race.specs.Races.{TellsFirst};
 ghost use Rattle.ot_race.specs.View.{events_in, deed_of};
-ghost use Rattle.ot_corder.specs.Orders.{ordered_by, event_in_c, deed_in_c};
+ghost use Rattle.ot_corder.specs.Orders.{ordered_by, event_in_c, event_by_pointers, deed_in_c, touched_of};
 
-use crate::depends::declared_by;
+use crate::depends::{declared_by, is_fold};
 use crate::order::Order;
-use ot_model::Decl;
+use ot_model::{Decl, Use};
 use ot_race::{Deed, Event, Race, judge};
 use std::alloc::{AllocError, Global};
 
-/// The first race of a list of events where this orders tasks, or that nothing races. The list is given up.
+/// The first race of a list of events where this orders tasks and they touch what this says, or that nothing races. The list is given
+/// up.
 pub fn judge_by(
     alloc: Global,
     order: Order,
@@ -22,6 +23,7 @@ pub fn judge_by(
     match order {
         Order::OfLanguage => judge(alloc, &events),
         Order::OfC => judge_in_c(alloc, events),
+        Order::OfCByPointers => judge(alloc, &events_by_pointers(events)),
     }
 }
 
@@ -44,8 +46,26 @@ fn events_in_c<'d>(mut events: Vec<Event<'d>>, declared: &'d [Option<Decl>]) -> 
     for number in 0..events.len() {
         let event = &mut events[number];
         event.deed = deed_in_c(event.deed, &declared[number]);
+        leave_out_folds(&mut event.uses);
     }
     events
+}
+
+/// The events as C takes them where tasks take part by pointers.
+fn events_by_pointers(mut events: Vec<Event<'_>>) -> Vec<Event<'_>>
+    ensures { events_in result.items ≡ map event_by_pointers (events_in events.entry.items) }
+{
+    for number in 0..events.len() {
+        leave_out_folds(&mut events[number].uses);
+    }
+    events
+}
+
+/// Leaves what is touched in C.
+fn leave_out_folds(uses: &mut Vec<Use>)
+    ensures { uses.new.items ≡ touched_of uses.old.items }
+{
+    uses.retain(|used| !is_fold(used.mode));
 }
 
 fn deed_in_c<'d>(deed: Deed<'d>, own: &'d Option<Decl>) -> Deed<'d>

@@ -1,4 +1,4 @@
-//! Races of events by what orders tasks: the language, or C.
+//! Races of events by what orders tasks, and what they touch: the language, or C.
 #![tactic(auto)]
 
 mod alike;

@@ -153,14 +153,18 @@ unfoldable pub count_at : Role → List Word → Result (Claim × List Word) Fau
 count_at role (w.Number n t ∷ w.Mark m.Close ∷ ws) = Ok (bare role, ws)
 count_at role ws = Err (NoClause (length ws))
 
-unfoldable pub is_default : Name → Bool
-is_default (n.Known k.Shared) = true
-is_default (n.Known k.None) = true
-is_default _ = false
+unfoldable pub default_of : Name → Option Role
+default_of (n.Known k.Shared) = Some r.Default
+default_of (n.Known k.None) = Some r.DefaultNone
+default_of _ = None
+
+abbrev pub default_by : List Word → List Word → Option Role → Result (Claim × List Word) Fault
+default_by ws rest (Some role) = Ok (bare role, rest)
+default_by ws rest None = Err (NoClause (length ws))
 
 -- behind `default(`
 unfoldable pub default_at : List Word → Result (Claim × List Word) Fault
-default_at (w.Name n ∷ w.Mark m.Close ∷ ws) = if is_default n then Ok (bare r.Default, ws) else Err (NoClause (length (w.Name n ∷ w.Mark m.Close ∷ ws)))
+default_at (w.Name n ∷ w.Mark m.Close ∷ ws) = default_by (w.Name n ∷ w.Mark m.Close ∷ ws) ws (default_of n)
 default_at ws = Err (NoClause (length ws))
 
 unfoldable pub kind_of : Name → Option Kind
@@ -207,9 +211,19 @@ unfoldable pub directive_end : List Word → Option (List Word)
 directive_end (w.End ∷ ws) = Some ws
 directive_end ws = None
 
+-- behind a comma, if one is at the front
+unfoldable pub past_comma : List Word → List Word
+past_comma (w.Mark m.Comma ∷ ws) = ws
+past_comma ws = ws
+
+-- a comma may stand between two clauses (OpenMP API 5.2, section 3.1)
+abbrev pub between : List Claim → List Word → List Word
+between [] ws = ws
+between (c ∷ cs) ws = past_comma ws
+
 abbrev pub clause_or_end : List Claim → List Word → Option (List Word) → Result (List Claim × Bool × List Word) Fault
 clause_or_end front ws (Some rest) = Ok (front, false, rest)
-clause_or_end front ws None = clause_at ws >>= λ x. Ok (front ++ x.0 ∷ [], true, x.1)
+clause_or_end front ws None = clause_at (between front ws) >>= λ x. Ok (front ++ x.0 ∷ [], true, x.1)
 
 unfoldable pub clause_step : List Claim → List Word → Result (List Claim × Bool × List Word) Fault
 clause_step front ws = clause_or_end front ws (directive_end ws)

@@ -339,11 +339,15 @@ fn count(alloc: Global, role: Role, words: &[Word]) -> Result<(Clause, &[Word]),
     }
 }
 
-#[tactic(auto, unfolding(crate::specs::Clauses::is_default))]
-fn is_default(name: Name) -> bool
-    ensures { result ≡ read.is_default name }
+#[tactic(auto, unfolding(crate::specs::Clauses::default_of))]
+fn default_of(name: Name) -> Option<Role>
+    ensures { result ≡ read.default_of name }
 {
-    matches!(name, Name::Known(Known::Shared | Known::None))
+    match name {
+        Name::Known(Known::Shared) => Some(Role::Default),
+        Name::Known(Known::None) => Some(Role::DefaultNone),
+        _ => None,
+    }
 }
 
 /// Behind `default(`.
@@ -352,13 +356,10 @@ fn default(alloc: Global, words: &[Word]) -> Result<(Clause, &[Word]), ReadError
     ensures { Gives (λ x. (clause_of x.0, x.1.now)) result (read.default_at words.now) }
 {
     match words {
-        [Word::Name(name), Word::Mark(Mark::Close), rest @ ..] => {
-            if is_default(*name) {
-                Ok((bare(alloc, Role::Default), rest))
-            } else {
-                Err(ReadError::Fault(Fault::NoClause(words.len())))
-            }
-        }
+        [Word::Name(name), Word::Mark(Mark::Close), rest @ ..] => match default_of(*name) {
+            Some(role) => Ok((bare(alloc, role), rest)),
+            None => Err(ReadError::Fault(Fault::NoClause(words.len()))),
+        },
         _ => Err(ReadError::Fault(Fault::NoClause(words.len()))),
     }
 }
@@ -440,6 +441,27 @@ fn directive_end(words: &[Word]) -> Option<&[Word]>
     }
 }
 
+/// Behind a comma, if one is at the front.
+#[tactic(auto, unfolding(crate::specs::Clauses::past_comma))]
+fn past_comma(words: &[Word]) -> &[Word]
+    ensures { result.now ≡ read.past_comma words.now }
+{
+    match words {
+        [Word::Mark(Mark::Comma), rest @ ..] => rest,
+        _ => words,
+    }
+}
+
+/// Behind what may stand between these clauses and another.
+fn between<'a>(found: &[Clause], words: &'a [Word]) -> &'a [Word]
+    ensures { result.now ≡ read.between (clauses_of found.now) words.now }
+{
+    match found {
+        [] => words,
+        _ => past_comma(words),
+    }
+}
+
 /// A clause behind those that were found, or the end of the directive.
 #[tactic(auto, unfolding(crate::specs::Clauses::clause_step))]
 fn clause_step(
@@ -452,7 +474,7 @@ fn clause_step(
     if let Some(rest) = directive_end(words) {
         return Ok((found, false, rest));
     }
-    let (clause, rest) = clause(alloc, words)?;
+    let (clause, rest) = clause(alloc, between(&found, words))?;
     found.push(clause)?;
     Ok((found, true, rest))
 }

@@ -50,8 +50,10 @@ pub enum Role {
     Combines(Operation),
     Shared,
     Firstprivate,
-    /// `default(shared)` or `default(none)`
+    /// `default(shared)`
     Default,
+    /// `default(none)`: what is named is listed.
+    DefaultNone,
     NumThreads,
     Priority,
     Untied,

@@ -1,5 +1,5 @@
 -- What names mean at a place of the text.
-use Rattle.std.specs.Prelude.{ℕ, ◌==◌, ◌-◌, nat_le, nat_lt, Bool, true, false, ◌&&◌, List, ◌∷◌, map, find, Option, Some, None, option_map, unwrap_or, slice_get, String, string_bytes, if◌then◌else◌, []}
+use Rattle.std.specs.Prelude.{ℕ, ◌==◌, ◌-◌, nat_le, nat_lt, Bool, true, false, ◌&&◌, List, ◌∷◌, ◌++◌, length, take, drop, map, find, Option, Some, None, is_some, option_map, unwrap_or, slice_get, String, string_bytes, if◌then◌else◌, []}
 use Rattle.std.specs.List.{list_any}
 use Rattle.std.specs.declared.alloc.Global.{Global}
 use Rattle.ot_cnames.specs.Names.{own_name}
@@ -7,13 +7,24 @@ use Rattle.ot_words.specs.declared.word.IntegerType.{IntegerType}
 use Rattle.ot_words.specs.declared.word.IntegerType.TheVariants.{UnsignedLong}
 use Rattle.ot_words.specs.declared.word.Name.{Name}
 use Rattle.ot_words.specs.declared.word.Name.TheVariants as n
+use Rattle.ot_cread.specs.Tree.{Part, part_of}
 use Rattle.ot_cscope.specs.declared.scope.Meaning.{Meaning}
 use Rattle.ot_cscope.specs.declared.scope.Meaning.TheVariants as m
 use Rattle.ot_cscope.specs.declared.scope.Pointee.{Pointee}
 use Rattle.ot_cscope.specs.declared.scope.Turn.{Turn}
 use Rattle.ot_cscope.specs.declared.scope.Opening.{Opening}
+use Rattle.ot_cscope.specs.declared.scope.Portion.{Portion}
 use Rattle.ot_cscope.specs.declared.scope.Sense.{Sense}
 use Rattle.ot_cscope.specs.declared.scope.Sense.TheVariants as s
+
+-- the part of an array over which an open group combines by the array's name, and how many loops stand around the group
+pub record Extent : Type 0 where
+  pub array : ℕ
+  pub part : Part
+  pub around : ℕ
+
+abbrev pub extent_of : Portion → Extent
+extent_of p = record { array = p.array; part = part_of p.place.now; around = p.around }
 
 -- what names mean at a place: in the whole file, by their numbers; in the loops around, the innermost first; in the
 -- open groups, the innermost first
@@ -22,6 +33,7 @@ pub record Around : Type 0 where
   pub meanings : List Meaning
   pub turns : List Turn
   pub opened : List Opening
+  pub portions : List Extent
   -- whether the place is in a parallel region
   pub inside : Bool
 
@@ -52,6 +64,15 @@ opening_of a i = find (λ o. o.array == i) a.opened
 abbrev pub turn_or : Option Turn → Sense → Sense
 turn_or None other = other
 turn_or (Some t) other = if t.begun then s.Turn t.kind else s.Begins
+
+-- the part of an array over which an open group combines
+abbrev pub portion_of : Around → Name → Option Extent
+portion_of a (n.Known k) = None
+portion_of a (n.Other i) = find (λ p. p.array == i) a.portions
+
+-- whether a loop that stands in the first ones hides one of them: a name may mean another variable then than there
+abbrev pub hides : List Turn → ℕ → Bool
+hides turns first = list_any (λ t. is_some (find (λ u. u.variable == t.variable) (drop (length turns - first) turns))) (take (length turns - first) turns)
 
 abbrev pub opened_or : Option Opening → IntegerType → Option ℕ → Sense
 opened_or None k length = s.Cells k length
@@ -107,6 +128,10 @@ with_turn a t = record a { turns = t ∷ a.turns }
 
 abbrev pub with_opening : Around → Opening → Around
 with_opening a o = record a { opened = o ∷ a.opened }
+
+-- in a group that combines over a part of an array
+abbrev pub with_portion : Around → ℕ → Part → Around
+with_portion a x p = record a { portions = a.portions ++ record { array = x; part = p; around = length a.turns } ∷ [] }
 
 abbrev pub not_own : Opening → Opening
 not_own o = record o { own = false }

@@ -13,6 +13,6 @@ mod sizes;
 pub use constants::{both, constant, power};
 pub use fault::CFault;
 pub use reason::Reason;
-pub use runs::{run_by, untouched};
-pub use scope::{Meaning, Opening, Pointee, Scope, Sense, Turn, points_into};
+pub use runs::{run, run_by, untouched};
+pub use scope::{Meaning, Opening, Pointee, Portion, Scope, Sense, Turn, points_into};
 pub use sizes::{no_number, size};

@@ -69,6 +69,8 @@ pub enum Reason {
     Function,
     /// A function that is called while a group combines, whose cells it may touch.
     CallInGroup,
+    /// A name in a region with `default(none)` that its clauses don't list.
+    Unlisted,
     /// More statements than a program may have, those of functions at each of their calls.
     TooMany,
 }

@@ -25,7 +25,7 @@ pub fn run_by(
 
 /// Which cells of an array an index may name: one, or those of which one is picked.
 #[tactic(auto, unfolding(crate::specs::Runs::run))]
-fn run(scope: &Scope<'_>, index: &Expr) -> Option<(u64, u64)>
+pub fn run(scope: &Scope<'_>, index: &Expr) -> Option<(u64, u64)>
     ensures { result ≡ runs.run scope.now (expr_of index.now) }
 {
     match index {

@@ -1,15 +1,16 @@
 //! What names mean at a place of the text.
-ghost use Rattle.std.specs.Prelude.{◌≡◌, ◌==◌, find, IfOk, [], ◌∷◌, map};
+ghost use Rattle.std.specs.Prelude.{◌≡◌, ◌==◌, find, is_some, option_map, ◌-◌, length, take, drop, IfOk, [], ◌∷◌, map};
 ghost use Rattle.std.specs.List.{list_any};
 ghost use Rattle.serde_json.specs.Data.{string};
 ghost use Rattle.serde_json.specs.View.{view};
 ghost use Rattle.ot_cscope.specs.Scopes as around;
-ghost use Rattle.ot_cscope.specs.Scopes.{Around, meaning_of, turn_of, opening_of, text_of};
+ghost use Rattle.ot_cread.specs.Tree.{part_of};
+ghost use Rattle.ot_cscope.specs.Scopes.{Around, meaning_of, turn_of, opening_of, portion_of, text_of, extent_of};
 
 use crate::json;
 use indexmap::IndexSet;
 use ot_cnames::own_name;
-use ot_cread::Operation;
+use ot_cread::{Operation, Place};
 use ot_words::{IntegerType, Name};
 use serde_json::Value;
 use std::alloc::{AllocError, Global};
@@ -59,6 +60,16 @@ pub struct Opening {
     pub pointee: Option<Pointee>,
 }
 
+/// The part of an array over which an open group combines by the array's name.
+#[derive(Clone, Copy)]
+pub struct Portion<'a> {
+    /// Among the names of the text.
+    pub array: usize,
+    pub place: &'a Place,
+    /// How many loops stand around the group.
+    pub around: usize,
+}
+
 /// What a name means at a place.
 #[derive(Clone, Copy, Debug, PartialEq, Eq)]
 pub enum Sense {
@@ -87,16 +98,23 @@ pub struct Scope<'a> {
     meanings: &'a [Meaning],
     turns: Vec<Turn>,
     opened: Vec<Opening>,
+    /// The parts of arrays over which they combine.
+    portions: Vec<Portion<'a>>,
     /// Whether the place is in a parallel region.
     inside: bool,
 }
 
 impl<'a> Model for Scope<'a> {
-    ghost use Rattle.ot_cscope.specs.Scopes.{Around};
+    ghost use Rattle.std.specs.Prelude.{map};
+    ghost use Rattle.std.specs.Coded.{codes};
+    ghost use Rattle.ot_cscope.specs.Codes.{value_code};
+    ghost use Rattle.ot_cscope.specs.Scopes.{Around, extent_of};
 
     ghost Value = { Around };
 
-    ghost view = { λ s. record { names = s.names.now.keys; meanings = s.meanings.now; turns = s.turns.items; opened = s.opened.items; inside = s.inside } };
+    ghost coded = { Prim.hlevel (codes, value_code) };
+
+    ghost view = { λ s. record { names = s.names.now.keys; meanings = s.meanings.now; turns = s.turns.items; opened = s.opened.items; portions = map extent_of s.portions.items; inside = s.inside } };
 }
 
 impl<'a> Scope<'a> {
@@ -107,13 +125,14 @@ impl<'a> Scope<'a> {
         meanings: &'a [Meaning],
         inside: bool,
     ) -> Scope<'a>
-        ensures { result ≡ record { names = names.now.keys; meanings = meanings.now; turns = []; opened = []; inside = inside } }
+        ensures { result ≡ record { names = names.now.keys; meanings = meanings.now; turns = []; opened = []; portions = []; inside = inside } }
     {
         Scope {
             names,
             meanings,
             turns: Vec::new(alloc),
             opened: Vec::new(alloc),
+            portions: Vec::new(alloc),
             inside,
         }
     }
@@ -155,6 +174,25 @@ impl<'a> Scope<'a> {
         ensures { result ≡ opening_of self.now name }
     {
         opening_among(&self.opened, name)
+    }
+
+    /// The part of this array over which an open group combines.
+    pub fn portion(&self, array: Name) -> Option<Portion<'a>>
+        ensures { option_map extent_of result ≡ portion_of self.now array }
+    {
+        match array {
+            Name::Known(_) => None,
+            Name::Other(number) => portion_among(&self.portions, number),
+        }
+    }
+
+    /// Whether a loop that stands in the first ones hides one of them: a name may mean another variable then than there.
+    pub fn hides(&self, first: usize) -> bool
+        ensures { result ≡ around.hides self.now.turns first }
+    {
+        let turns: &[Turn] = &self.turns;
+        let inner = turns.len().saturating_sub(first);
+        any_hides(&turns[..inner], &turns[inner..])
     }
 
     /// What a name among those of the text means.
@@ -222,6 +260,7 @@ impl<'a> Scope<'a> {
             meanings: self.meanings,
             turns: copy_of(alloc, &self.turns)?,
             opened: copy_of(alloc, &self.opened)?,
+            portions: copy_of(alloc, &self.portions)?,
             inside: self.inside,
         })
     }
@@ -238,6 +277,7 @@ impl<'a> Scope<'a> {
             meanings: self.meanings,
             turns,
             opened: copy_of(alloc, &self.opened)?,
+            portions: copy_of(alloc, &self.portions)?,
             inside: self.inside,
         })
     }
@@ -254,8 +294,22 @@ impl<'a> Scope<'a> {
             meanings: self.meanings,
             turns: copy_of(alloc, &self.turns)?,
             opened,
+            portions: copy_of(alloc, &self.portions)?,
             inside: self.inside,
         })
+    }
+
+    /// The place in a group that combines over this part of an array.
+    pub fn with_portion(mut self, array: usize, place: &'a Place) -> Result<Scope<'a>, AllocError>
+        ensures { IfOk result (λ s. s ≡ around.with_portion self.entry array (part_of place.now)) }
+    {
+        let portion = Portion {
+            array,
+            place,
+            around: self.turns.len(),
+        };
+        self.portions.push(portion)?;
+        Ok(self)
     }
 
     /// The place in a task, before it takes part in a reduction.
@@ -267,6 +321,7 @@ impl<'a> Scope<'a> {
             meanings: self.meanings,
             turns: copy_of(alloc, &self.turns)?,
             opened: none_own(alloc, &self.opened)?,
+            portions: copy_of(alloc, &self.portions)?,
             inside: self.inside,
         })
     }
@@ -294,6 +349,29 @@ fn opening_among(opened: &[Opening], name: usize) -> Option<Opening>
         }
     }
     None
+}
+
+fn portion_among<'a>(portions: &[Portion<'a>], array: usize) -> Option<Portion<'a>>
+    ensures { option_map extent_of result ≡ find (λ p. p.array == array) (map extent_of portions.now) }
+{
+    for portion in portions {
+        if portion.array == array {
+            return Some(*portion);
+        }
+    }
+    None
+}
+
+/// Whether one of these loops hides one of those around.
+fn any_hides(inner: &[Turn], outer: &[Turn]) -> bool
+    ensures { result ≡ list_any (λ t. is_some (find (λ u. u.variable == t.variable) outer.now)) inner.now }
+{
+    for turn in inner {
+        if turn_among(outer, turn.variable).is_some() {
+            return true;
+        }
+    }
+    false
 }
 
 fn is_among(cells: Option<(u64, u64)>, place: u64) -> bool

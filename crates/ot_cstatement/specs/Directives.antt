@@ -1,5 +1,6 @@
 -- Directives, and which clauses each has (OpenMP API 5.2, chapters 10 and 12).
-use Rattle.std.specs.Prelude.{ℕ, Bool, true, false, ◌&&◌, List, [], ◌∷◌, Option, Some, None, Result, Ok, Err, if◌then◌else◌}
+use Rattle.std.specs.Prelude.{ℕ, ◌==◌, Bool, true, false, not, ◌&&◌, ◌||◌, List, [], ◌∷◌, Option, Some, None, Result, Ok, Err, if◌then◌else◌}
+use Rattle.std.specs.List.{list_any}
 use Rattle.ot_words.specs.declared.known.Known.TheVariants as k
 use Rattle.ot_words.specs.declared.word.Name.{Name}
 use Rattle.ot_words.specs.declared.word.Name.TheVariants as n
@@ -31,6 +32,7 @@ fits_task (r.Combines op) = false
 fits_task r.Shared = true
 fits_task r.Firstprivate = true
 fits_task r.Default = false
+fits_task r.DefaultNone = false
 fits_task r.NumThreads = false
 fits_task r.Priority = true
 fits_task r.Untied = true
@@ -45,6 +47,7 @@ fits_wait (r.Combines op) = false
 fits_wait r.Shared = false
 fits_wait r.Firstprivate = false
 fits_wait r.Default = false
+fits_wait r.DefaultNone = false
 fits_wait r.NumThreads = false
 fits_wait r.Priority = false
 fits_wait r.Untied = false
@@ -59,6 +62,7 @@ fits_group (r.Combines op) = true
 fits_group r.Shared = false
 fits_group r.Firstprivate = false
 fits_group r.Default = false
+fits_group r.DefaultNone = false
 fits_group r.NumThreads = false
 fits_group r.Priority = false
 fits_group r.Untied = false
@@ -73,6 +77,7 @@ fits_parallel (r.Combines op) = false
 fits_parallel r.Shared = true
 fits_parallel r.Firstprivate = false
 fits_parallel r.Default = true
+fits_parallel r.DefaultNone = true
 fits_parallel r.NumThreads = true
 fits_parallel r.Priority = false
 fits_parallel r.Untied = false
@@ -86,9 +91,34 @@ fits d.Group role = fits_group role
 fits d.Yield role = false
 fits d.Parallel role = fits_parallel role
 
+-- which of the clauses it is that a directive has once, or 0
+abbrev pub once_of : Role → ℕ
+once_of r.In = 0
+once_of r.Out = 0
+once_of r.Inout = 0
+once_of (r.Reduces op) = 0
+once_of (r.Combines op) = 0
+once_of r.Shared = 0
+once_of r.Firstprivate = 0
+once_of r.Default = 1
+once_of r.DefaultNone = 1
+once_of r.NumThreads = 2
+once_of r.Priority = 3
+once_of r.Untied = 4
+once_of r.Mergeable = 5
+
+-- whether one of these clauses is that one
+abbrev pub has : ℕ → List Claim → Bool
+has once cs = list_any (λ c. once_of c.role == once) cs
+
+-- whether a clause may stand before these
+abbrev pub is_once : Role → List Claim → Bool
+is_once role cs = (once_of role == 0) || not (has (once_of role) cs)
+
+-- each clause is one that the directive may have, and those that it has once don't stand again
 abbrev pub all_fit : Directive → List Claim → Bool
 all_fit d [] = true
-all_fit d (c ∷ cs) = fits d c.role && all_fit d cs
+all_fit d (c ∷ cs) = fits d c.role && is_once c.role cs && all_fit d cs
 
 -- the clauses of a directive that begins where so many words are left
 unfoldable pub own_clauses : Directive → ℕ → List Word → Result (List Claim × List Word) Fault

@@ -56,6 +56,16 @@ unfoldable pub block_end : List Word → Option (List Word)
 block_end (w.Mark m.CloseBlock ∷ ws) = Some ws
 block_end _ = None
 
+unfoldable pub is_alone : Name → Bool
+is_alone (n.Known k.Taskwait) = true
+is_alone (n.Known k.Taskyield) = true
+is_alone _ = false
+
+-- whether a directive without a statement of its own is at the front: it is no body (OpenMP API 5.2, section 3.1)
+unfoldable pub stands_alone : List Word → Bool
+stands_alone (w.Pragma ∷ w.Name n ∷ ws) = is_alone n
+stands_alone _ = false
+
 -- what follows is said of a reader of the statements that nest in this one
 module _ (one : List Word → One) where
   -- ---- blocks
@@ -75,7 +85,7 @@ module _ (one : List Word → One) where
   -- the statements of a block, or the one statement
   unfoldable pub body_at : List Word → Bodied
   body_at (w.Mark m.OpenBlock ∷ ws) = stmts_at ws >>= λ x. Ok (body_of x.0, x.1)
-  body_at ws = one ws >>= λ x. Ok (body_of (x.0 ∷ []), x.1)
+  body_at ws = if stands_alone ws then Err (NoDirective (length ws)) else one ws >>= λ x. Ok (body_of (x.0 ∷ []), x.1)
 
   -- ---- branches and loops
 

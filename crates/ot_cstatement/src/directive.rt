@@ -41,7 +41,7 @@ fn fits_task(role: Role) -> bool
         Role::In | Role::Out | Role::Inout | Role::Reduces(_) => true,
         Role::Shared | Role::Firstprivate => true,
         Role::Untied | Role::Mergeable | Role::Priority => true,
-        Role::Combines(_) | Role::Default | Role::NumThreads => false,
+        Role::Combines(_) | Role::Default | Role::DefaultNone | Role::NumThreads => false,
     }
 }
 
@@ -52,7 +52,7 @@ fn fits_wait(role: Role) -> bool
         Role::In | Role::Out | Role::Inout => true,
         Role::Reduces(_) | Role::Combines(_) | Role::Shared | Role::Firstprivate => false,
         Role::Untied | Role::Mergeable | Role::Priority => false,
-        Role::Default | Role::NumThreads => false,
+        Role::Default | Role::DefaultNone | Role::NumThreads => false,
     }
 }
 
@@ -64,7 +64,7 @@ fn fits_group(role: Role) -> bool
         Role::In | Role::Out | Role::Inout | Role::Reduces(_) => false,
         Role::Shared | Role::Firstprivate => false,
         Role::Untied | Role::Mergeable | Role::Priority => false,
-        Role::Default | Role::NumThreads => false,
+        Role::Default | Role::DefaultNone | Role::NumThreads => false,
     }
 }
 
@@ -72,7 +72,7 @@ fn fits_parallel(role: Role) -> bool
     ensures { result ≡ read.fits_parallel role }
 {
     match role {
-        Role::Shared | Role::Default | Role::NumThreads => true,
+        Role::Shared | Role::Default | Role::DefaultNone | Role::NumThreads => true,
         Role::In | Role::Out | Role::Inout | Role::Reduces(_) | Role::Combines(_) => false,
         Role::Firstprivate | Role::Untied | Role::Mergeable | Role::Priority => false,
     }
@@ -91,11 +91,47 @@ fn fits(directive: Directive, role: Role) -> bool
     }
 }
 
+/// Which of the clauses it is that a directive has once, or 0.
+fn once_of(role: Role) -> u32
+    ensures { result ≡ read.once_of role }
+{
+    match role {
+        Role::In | Role::Out | Role::Inout | Role::Reduces(_) | Role::Combines(_) => 0,
+        Role::Shared | Role::Firstprivate => 0,
+        Role::Default | Role::DefaultNone => 1,
+        Role::NumThreads => 2,
+        Role::Priority => 3,
+        Role::Untied => 4,
+        Role::Mergeable => 5,
+    }
+}
+
+/// Whether one of these clauses is that one.
+fn has(once: u32, clauses: &[Clause]) -> bool
+    ensures { result ≡ read.has once (clauses_of clauses.now) }
+{
+    for clause in clauses {
+        if once_of(clause.role) == once {
+            return true;
+        }
+    }
+    false
+}
+
+/// Whether a clause may stand before these.
+fn is_once(role: Role, clauses: &[Clause]) -> bool
+    ensures { result ≡ read.is_once role (clauses_of clauses.now) }
+{
+    let once = once_of(role);
+    once == 0 || !has(once, clauses)
+}
+
 fn all_fit(directive: Directive, clauses: &[Clause]) -> bool
     ensures { result ≡ read.all_fit directive (clauses_of clauses.now) }
 {
-    for clause in clauses {
-        if !fits(directive, clause.role) {
+    for i in 0..clauses.len() {
+        let role = clauses[i].role;
+        if !fits(directive, role) || !is_once(role, &clauses[i + 1..]) {
             return false;
         }
     }

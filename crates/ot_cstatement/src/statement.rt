@@ -331,6 +331,24 @@ fn statements(alloc: Global, depth: u32, words: &[Word]) -> Result<(Vec<Stmt>, &
     Err(ReadError::Fault(Fault::TooLong(rest.len())))
 }
 
+#[tactic(auto, unfolding(crate::specs::Statements::is_alone))]
+fn is_alone(name: Name) -> bool
+    ensures { result ≡ read.is_alone name }
+{
+    matches!(name, Name::Known(Known::Taskwait | Known::Taskyield))
+}
+
+/// Whether a directive without a statement of its own is at the front: it is no body.
+#[tactic(auto, unfolding(crate::specs::Statements::stands_alone))]
+fn stands_alone(words: &[Word]) -> bool
+    ensures { result ≡ read.stands_alone words.now }
+{
+    match words {
+        [Word::Pragma, Word::Name(name), ..] => is_alone(*name),
+        _ => false,
+    }
+}
+
 /// The statements of a block, or the one statement.
 #[cycle(statement)]
 #[tactic(auto, unfolding(crate::specs::Statements::body_at))]
@@ -341,6 +359,9 @@ fn body(alloc: Global, depth: u32, words: &[Word]) -> Result<(Vec<Stmt>, &[Word]
     match words {
         [Word::Mark(Mark::OpenBlock), rest @ ..] => statements(alloc, depth, rest),
         _ => {
+            if stands_alone(words) {
+                return Err(ReadError::Fault(Fault::NoDirective(words.len())));
+            }
             let (stmt, rest) = statement(alloc, depth, words)?;
             let mut found = Vec::new(alloc);
             found.push(stmt)?;

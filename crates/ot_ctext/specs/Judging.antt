@@ -3,7 +3,7 @@ use Rattle.std.specs.Prelude.{◌≡◌, ℕ, List, map, Ok, Err, string_bytes}
 use Rattle.serde_json.specs.View.{view}
 use Rattle.ot_file.specs.Positions.{position_of}
 use Rattle.ot_corder.specs.declared.order.Order.{Order}
-use Rattle.ot_corder.specs.declared.order.Order.TheVariants.{OfC, OfLanguage}
+use Rattle.ot_corder.specs.declared.order.Order.TheVariants.{OfC, OfCByPointers}
 use Rattle.ot_cjudge.specs.Reports.{Reports, outside_line}
 use Rattle.ot_cjudge.specs.declared.lowered.CArray.{CArray}
 use Rattle.ot_cjudge.specs.declared.lowered.Lowered.{Lowered}
@@ -33,10 +33,10 @@ abbrev pub Outside : List ℕ → List ℕ → ℕ → List ℕ → Verdict → 
 Outside name text byte reason verdict out = (verdict ≡ v.Outside) × (out ≡ outside_line name (position_of text byte) reason)
 
 -- Of a program whose tasks take part in reductions so. By names that makes no dependence in C, where `red` makes one in the language.
--- By pointers there is the one of `depend(in: ..)`, which `red` stands for. Where some do so and some so neither order is C's.
+-- By pointers there is the one of `depend(in: ..)`, which `red` stands for. By both a fold is into the task's copy. Where some do so and some so neither order is C's.
 abbrev pub JudgesProgram : List ℕ → List ℕ → Program → Reductions → Verdict → List ℕ → Type 0
 JudgesProgram name text program r.ByNames verdict out = JudgesBy OfC name text program verdict out
-JudgesProgram name text program r.ByPointers verdict out = JudgesBy OfLanguage name text program verdict out
+JudgesProgram name text program r.ByPointers verdict out = JudgesBy OfCByPointers name text program verdict out
 JudgesProgram name text program (r.Mixed byte) verdict out = Outside name text byte mixed_reason verdict out
 
 -- of what a text of this name means

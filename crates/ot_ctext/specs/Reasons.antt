@@ -17,6 +17,7 @@ word_reason w.TooLarge = codes "no type has this number"
 word_reason w.OpenComment = codes "this comment doesn't end"
 word_reason w.SplicedComment = codes "this comment goes on behind a backslash"
 word_reason w.OpenText = codes "this string doesn't end on its line"
+word_reason w.Trigraph = codes "this has a trigraph: ?? and a mark, which C reads as another mark"
 word_reason w.OtherDirective = codes "of directives #include, #define and #pragma omp are read"
 
 -- why words say no value, or no clause
@@ -59,6 +60,7 @@ name_reason why.Pointer = codes "a pointer only stands for a cell that a reducti
 name_reason why.Pointee = codes "a pointer points to one cell, at a number, wherever it is declared"
 name_reason why.NoDependence = codes "in_reduction by a pointer wants its cell under depend(in: ..)"
 name_reason why.CallInGroup = codes "a function is called here while a group combines"
+name_reason why.Unlisted = codes "default(none) stands here, and no clause lists this"
 name_reason why.TooMany = codes "a program has at most 20000 statements"
 name_reason _ = codes "this function isn't judged here"
 

@@ -31,7 +31,7 @@ fn judge_program(
 {
     match lowered.reductions {
         Reductions::ByNames => judge_by(alloc, name, text, Order::OfC, lowered),
-        Reductions::ByPointers => judge_by(alloc, name, text, Order::OfLanguage, lowered),
+        Reductions::ByPointers => judge_by(alloc, name, text, Order::OfCByPointers, lowered),
         Reductions::Mixed(byte) => report_outside(
             alloc,
             name,

@@ -17,6 +17,7 @@ pub(crate) fn word_reason(wrong: Wrong) -> &'static str
         Wrong::OpenComment => "this comment doesn't end",
         Wrong::SplicedComment => "this comment goes on behind a backslash",
         Wrong::OpenText => "this string doesn't end on its line",
+        Wrong::Trigraph => "this has a trigraph: ?? and a mark, which C reads as another mark",
         Wrong::OtherDirective => "of directives #include, #define and #pragma omp are read",
     }
 }
@@ -136,6 +137,7 @@ fn name_reason(reason: Reason) -> &'static str
         Reason::Pointee => "a pointer points to one cell, at a number, wherever it is declared",
         Reason::NoDependence => "in_reduction by a pointer wants its cell under depend(in: ..)",
         Reason::CallInGroup => "a function is called here while a group combines",
+        Reason::Unlisted => "default(none) stands here, and no clause lists this",
         Reason::TooMany => "a program has at most 20000 statements",
         _ => "this function isn't judged here",
     }

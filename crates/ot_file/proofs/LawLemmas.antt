@@ -1,10 +1,10 @@
 -- The laws, by induction on the text.
-use Rattle.std.proofs.Common.{◌≡◌, ◌⊎◌, ◌==◌, ◌&&◌, ℕ, zero, suc, Bool, true, false, cond, List, [], ◌∷◌, length, get_or, refl, ap, ◌∙◌, inl, inr}
-use Rattle.std.specs.List.{scan}
+use Rattle.std.proofs.Common.{◌≡◌, ◌⊎◌, ◌==◌, ◌&&◌, ◌||◌, ◌≤◌, ◌++◌, ℕ, zero, suc, Bool, true, false, cond, List, [], ◌∷◌, length, get_or, refl, sym, true≢false, ap, ◌∙◌, inl, inr, arith}
+use Rattle.std.proofs.lemmas.List.{length-append}
 use Rattle.ot_file.specs.Places.{is_blank, place_after}
 use Rattle.ot_file.specs.Comments.{begins_comment, part_after, shown_in, blanked_in}
-use Rattle.ot_file.specs.OneLine.{on_line}
-use Rattle.ot_file.specs.Laws.{HasNoSlash}
+use Rattle.ot_file.specs.OneLine.{begins_word, word_after, of_blank, in_string, on_line, line_in}
+use Rattle.ot_file.specs.Laws.{HasNoSlash, HasNoEnd, HasNoBlank}
 use Rattle.ot_file.specs.declared.place.Place.{Place}
 use Rattle.ot_file.specs.declared.place.Place.TheVariants.{Outside, Quoted, Escaped}
 use Rattle.ot_file.specs.declared.comment.Part.{Part}
@@ -35,21 +35,74 @@ blanked_in-clean place (b ∷ behind) h =
     ap (λ t. shown_in (cond t Comment (Json (place_after place b))) b ∷ blanked_in (cond t Comment (Json (place_after place b))) behind) (no_comment place b behind h.0)
     ∙ ap (λ rest. b ∷ rest) (blanked_in-clean (place_after place b) behind h.1)
 
-pub length-one_line : (place : Place) (piece : List ℕ) → length (scan place_after on_line place piece) ≡ length piece
-length-one_line place [] = refl
-length-one_line place (b ∷ behind) = ap suc (length-one_line (place_after place b) behind)
+-- ---- a piece on one line
 
-blank_or : (blank : Bool) (b : ℕ) → (cond blank 32 b ≡ b) ⊎ ((blank ≡ true) × (cond blank 32 b ≡ 32))
-blank_or true b = inr (refl, refl)
-blank_or false b = inl refl
+append_none : (xs ys : List ℕ) → HasNoEnd xs → HasNoEnd ys → HasNoEnd (xs ++ ys)
+append_none [] ys p q = q
+append_none (x ∷ xs) ys p q = (p.0, append_none xs ys p.1 q)
 
-on_line_or : (place : Place) (b : ℕ) → (on_line place b ≡ b) ⊎ ((is_blank b ≡ true) × (on_line place b ≡ 32))
-on_line_or Outside b = blank_or (is_blank b) b
-on_line_or Quoted b = inl refl
-on_line_or Escaped b = inl refl
+blank_none : (stays : Bool) → HasNoEnd (cond stays (32 ∷ []) [])
+blank_none true = (refl, tt)
+blank_none false = tt
 
-pub one_line-at : (place : Place) (piece : List ℕ) (i : ℕ) →
-    (get_or (scan place_after on_line place piece) i 0 ≡ get_or piece i 0) ⊎ ((is_blank (get_or piece i 0) ≡ true) × (get_or (scan place_after on_line place piece) i 0 ≡ 32))
-one_line-at place [] i = inl refl
-one_line-at place (b ∷ behind) zero = on_line_or place b
-one_line-at place (b ∷ behind) (suc i) = one_line-at (place_after place b) behind i
+third : (p q r s : Bool) → (p || q || r || s) ≡ false → r ≡ false
+third true q r s h = absurd (true≢false h)
+third false true r s h = absurd (true≢false h)
+third false false true s h = absurd (true≢false h)
+third false false false s h = refl
+
+-- an LF is white space
+no_end : (b : ℕ) → is_blank b ≡ false → (b == 10) ≡ false
+no_end b h = third (b == 32) (b == 9) (b == 10) (b == 13) h
+
+outside_none : (blank word : Bool) (b : ℕ) (behind : List ℕ) → blank ≡ is_blank b → HasNoEnd (cond blank (of_blank word behind) (b ∷ []))
+outside_none true word b behind is = blank_none (word && begins_word behind)
+outside_none false word b behind is = (no_end b (sym is), tt)
+
+string_none : (b : ℕ) (ends : Bool) → ends ≡ (b == 10) → (cond ends 9 b == 10) ≡ false
+string_none b true is = refl
+string_none b false is = sym is
+
+on_line_none : (place : Place) (word : Bool) (b : ℕ) (behind : List ℕ) → HasNoEnd (on_line place word b behind)
+on_line_none Outside word b behind = outside_none (is_blank b) word b behind refl
+on_line_none Quoted word b behind = (string_none b (b == 10) refl, tt)
+on_line_none Escaped word b behind = (string_none b (b == 10) refl, tt)
+
+pub line_in-no_end : (place : Place) (word : Bool) (piece : List ℕ) → HasNoEnd (line_in place word piece)
+line_in-no_end place word [] = tt
+line_in-no_end place word (b ∷ behind) =
+    append_none (on_line place word b behind) (line_in (place_after place b) (word_after place word b) behind) (on_line_none place word b behind)
+    (line_in-no_end (place_after place b) (word_after place word b) behind)
+
+one_or_none : (stays : Bool) → length {A = ℕ} (cond stays (32 ∷ []) []) ≤ 1
+one_or_none true = omega arith
+one_or_none false = omega arith
+
+outside_one : (blank word : Bool) (b : ℕ) (behind : List ℕ) → length (cond blank (of_blank word behind) (b ∷ [])) ≤ 1
+outside_one true word b behind = one_or_none (word && begins_word behind)
+outside_one false word b behind = omega arith
+
+on_line_one : (place : Place) (word : Bool) (b : ℕ) (behind : List ℕ) → length (on_line place word b behind) ≤ 1
+on_line_one Outside word b behind = outside_one (is_blank b) word b behind
+on_line_one Quoted word b behind = omega arith
+on_line_one Escaped word b behind = omega arith
+
+pub line_in-no_longer : (place : Place) (word : Bool) (piece : List ℕ) → length (line_in place word piece) ≤ length piece
+line_in-no_longer place word [] = omega arith
+line_in-no_longer place word (b ∷ behind) =
+    let rest = line_in (place_after place b) (word_after place word b) behind in
+    omega (arith, length-append (on_line place word b behind) rest, on_line_one place word b behind, line_in-no_longer (place_after place b) (word_after place word b) behind)
+
+string_same : (b : ℕ) → (b == 10) ≡ false → in_string b ≡ b
+string_same b h = ap (λ t. cond t 9 b) h
+
+on_line_same : (place : Place) (word : Bool) (b : ℕ) (behind : List ℕ) → is_blank b ≡ false → on_line place word b behind ≡ b ∷ []
+on_line_same Outside word b behind h = ap (λ t. cond t (of_blank word behind) (b ∷ [])) h
+on_line_same Quoted word b behind h = ap (λ c. c ∷ []) (string_same b (no_end b h))
+on_line_same Escaped word b behind h = ap (λ c. c ∷ []) (string_same b (no_end b h))
+
+pub line_in-clean : (place : Place) (word : Bool) (piece : List ℕ) → HasNoBlank piece → line_in place word piece ≡ piece
+line_in-clean place word [] h = refl
+line_in-clean place word (b ∷ behind) h =
+    ap (λ t. t ++ line_in (place_after place b) (word_after place word b) behind) (on_line_same place word b behind h.0)
+    ∙ ap (λ rest. b ∷ rest) (line_in-clean (place_after place b) (word_after place word b) behind h.1)

@@ -1,5 +1,5 @@
 -- What stays of a file without its comments, and of a piece on one line.
-use Rattle.std.specs.Prelude.{◌≡◌, ◌⊎◌, ◌==◌, ℕ, List, length, slice_index, true, false}
+use Rattle.std.specs.Prelude.{◌≡◌, ◌≤◌, ◌⊎◌, ◌==◌, ℕ, List, length, slice_index, false}
 use Rattle.std.specs.List.{AllByRecursion}
 use Rattle.ot_file.specs.Places.{is_blank}
 use Rattle.ot_file.specs.Comments.{blanked}
@@ -18,9 +18,19 @@ HasNoSlash text = AllByRecursion (λ b. (b == 47) ≡ false) text
 abbrev pub BlankedWithoutSlashes : Type 0
 BlankedWithoutSlashes = (text : List ℕ) → HasNoSlash text → blanked text ≡ text
 
-abbrev pub LineKeepsItsLength : Type 0
-LineKeepsItsLength = (piece : List ℕ) → length (one_line piece) ≡ length piece
+-- none of them is an LF
+abbrev pub HasNoEnd : List ℕ → Type 0
+HasNoEnd text = AllByRecursion (λ b. (b == 10) ≡ false) text
 
-abbrev pub LineChangesWhiteSpace : Type 0
-LineChangesWhiteSpace = (piece : List ℕ) (i : ℕ) →
-    (slice_index (one_line piece) i ≡ slice_index piece i) ⊎ ((is_blank (slice_index piece i) ≡ true) × (slice_index (one_line piece) i ≡ 32))
+abbrev pub LineHasNoEnd : Type 0
+LineHasNoEnd = (piece : List ℕ) → HasNoEnd (one_line piece)
+
+abbrev pub LineIsNoLonger : Type 0
+LineIsNoLonger = (piece : List ℕ) → length (one_line piece) ≤ length piece
+
+-- none of them is white space
+abbrev pub HasNoBlank : List ℕ → Type 0
+HasNoBlank text = AllByRecursion (λ b. is_blank b ≡ false) text
+
+abbrev pub LineWithoutBlanks : Type 0
+LineWithoutBlanks = (piece : List ℕ) → HasNoBlank piece → one_line piece ≡ piece

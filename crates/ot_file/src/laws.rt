@@ -1,5 +1,5 @@
 //! Laws of files. Each is the contract of a function that does nothing.
-ghost use Rattle.ot_file.specs.Laws.{BlankedKeepsItsLength, BlankedShowsSpaces, BlankedWithoutSlashes, LineKeepsItsLength, LineChangesWhiteSpace};
+ghost use Rattle.ot_file.specs.Laws.{BlankedKeepsItsLength, BlankedShowsSpaces, BlankedWithoutSlashes, LineHasNoEnd, LineIsNoLonger, LineWithoutBlanks};
 
 /// Without its comments a file is as long as with them.
 pub fn blanked_keeps_its_length()
@@ -16,12 +16,17 @@ pub fn blanked_without_slashes()
     ensures { BlankedWithoutSlashes }
 {}
 
-/// A piece on one line is as long as in the file.
-pub fn line_keeps_its_length()
-    ensures { LineKeepsItsLength }
+/// A piece on one line is one line.
+pub fn line_has_no_end()
+    ensures { LineHasNoEnd }
 {}
 
-/// What it has in place of another byte is a space in place of white space.
-pub fn line_changes_white_space()
-    ensures { LineChangesWhiteSpace }
+/// It is no longer than in the file.
+pub fn line_is_no_longer()
+    ensures { LineIsNoLonger }
+{}
+
+/// A piece without white space stays as it is.
+pub fn line_without_blanks()
+    ensures { LineWithoutBlanks }
 {}

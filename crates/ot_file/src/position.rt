@@ -1,6 +1,7 @@
 //! Lines and columns of a file.
 ghost use Rattle.std.specs.Prelude.{◌≡◌, ◌+◌, ◌++◌, ◌≤◌, ◌<◌, ◌^◌, ℕ, List, length};
 ghost use Rattle.ot_file.specs.Positions.{first_position, position_after, position_behind, position_of, is_end, begins_character};
+ghost use Rattle.ot_file.specs.Spots.{IsIn};
 
 use std::marker::Model;
 
@@ -63,24 +64,33 @@ impl Position {
     }
 }
 
-/// The positions in a text. They cost no more than the text where they are asked for in the order in which they stand.
+/// The positions in a text. They cost no more than the text where they are asked for in the order in which they stand, and
+/// what lies between where they aren't, but stand behind the byte that is marked.
 #[derive(Debug, Drop)]
 pub struct Positions<'a> {
     text: &'a [u8],
-    /// The last byte whose position was asked for, and its position.
+    /// The last byte whose position was asked for.
+    last: Spot,
+    /// The byte that was marked last.
+    marked: Spot,
+}
+
+/// A byte, by how many stand before it, and its position.
+#[derive(Clone, Copy, Debug)]
+struct Spot {
     offset: usize,
     position: Position,
 }
 
 impl<'a> Model for Positions<'a> {
     ghost use Rattle.std.specs.Prelude.{◌≡◌, ◌≤◌, ℕ, List, length};
-    ghost use Rattle.ot_file.specs.Positions.{position_of};
+    ghost use Rattle.ot_file.specs.Spots.{IsIn};
 
     ghost Value = { List ℕ };
 
     ghost view = { λ p. p.text.now };
 
-    ghost invariant = { λ p. (p.offset ≤ length p.text.now) × (p.position ≡ position_of p.text.now p.offset) };
+    ghost invariant = { λ p. IsIn p.text.now p.last × IsIn p.text.now p.marked };
 }
 
 impl<'a> Positions<'a> {
@@ -90,8 +100,8 @@ impl<'a> Positions<'a> {
     {
         Positions {
             text,
-            offset: 0,
-            position: Position::first(),
+            last: Spot::first(),
+            marked: Spot::first(),
         }
     }
 
@@ -101,14 +111,58 @@ impl<'a> Positions<'a> {
         ensures position { result ≡ position_of self.old offset }
         ensures text { self.new ≡ self.old }
     {
-        let position = if self.offset <= offset {
-            self.position.behind(&self.text[self.offset..offset])
-        } else {
-            position_of(self.text, offset)
-        };
-        self.offset = offset;
-        self.position = position;
-        position
+        let spot = spot_of(self.text, self.last, self.marked, offset);
+        self.last = spot;
+        spot.position
+    }
+
+    /// Marks the byte that has so many before it: what stands behind it is told from there on.
+    pub fn mark(&mut self, offset: usize)
+        requires { offset ≤ length self.old }
+        ensures { self.new ≡ self.old }
+    {
+        self.marked = spot_of(self.text, self.last, self.marked, offset);
+    }
+}
+
+impl Spot {
+    /// The first byte.
+    fn first() -> Spot
+        ensures { (result.offset ≡ 0) × (result.position ≡ first_position) }
+    {
+        Spot {
+            offset: 0,
+            position: Position::first(),
+        }
+    }
+}
+
+/// The byte of a text that has so many before it, told from one of two others on, or from the first.
+fn spot_of(text: &[u8], last: Spot, marked: Spot, offset: usize) -> Spot
+    requires last { IsIn text.now last }
+    requires marked { IsIn text.now marked }
+    requires within { offset ≤ length text.now }
+    ensures { (result.offset ≡ offset) × (result.position ≡ position_of text.now offset) }
+{
+    if last.offset <= offset {
+        return spot_behind(text, last, offset);
+    }
+    if marked.offset <= offset {
+        return spot_behind(text, marked, offset);
+    }
+    spot_behind(text, Spot::first(), offset)
+}
+
+/// The byte of a text that has so many before it, told from another before it on.
+fn spot_behind(text: &[u8], from: Spot, offset: usize) -> Spot
+    requires from { IsIn text.now from }
+    requires before { from.offset ≤ offset }
+    requires within { offset ≤ length text.now }
+    ensures { (result.offset ≡ offset) × (result.position ≡ position_of text.now offset) }
+{
+    Spot {
+        offset,
+        position: from.position.behind(&text[from.offset..offset]),
     }
 }
 

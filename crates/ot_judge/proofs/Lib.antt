@@ -1,3 +1,5 @@
 pub mod VerdictLemmas
 pub mod GoingLemmas
 pub mod FindingLemmas
+pub mod RunLemmas
+pub mod PlaceLemmas

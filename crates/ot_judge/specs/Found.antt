@@ -8,7 +8,7 @@ use Rattle.ot_judge.specs.Judging.{Refusal}
 
 -- as a refusal, by the book behind it
 abbrev pub found_as : Found → Register → Refusal
-found_as f book = record { start = f.start; end = f.end; book = if f.is_full then None else Some book }
+found_as f book = record { start = f.start; end = f.end; book = if f.ends then None else Some book; is_long = f.is_long }
 
 abbrev pub is_taken : Verdict → Bool
 is_taken Taken = true

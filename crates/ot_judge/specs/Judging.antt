@@ -1,8 +1,8 @@
 -- The requests of a file as lines.
-use Rattle.std.specs.Prelude.{ℕ, [], zero, suc, ◌-◌, List, ◌∷◌, length, slice_range, codes, Bool, true, false, if◌then◌else◌, Option, Some, None, option_and_then, Result, Ok, Err, ◌≡◌, ◌≤◌, ◌+◌, drop, unwrap_or, ◌⊎◌, ◌||◌, ◌++◌, bytes_eq, nat_eq}
+use Rattle.std.specs.Prelude.{ℕ, [], zero, suc, ◌-◌, List, ◌∷◌, length, slice_get, slice_range, codes, Bool, true, false, if◌then◌else◌, Option, Some, None, option_and_then, Result, Ok, Err, ◌≡◌, ◌≤◌, ◌+◌, drop, unwrap_or, ◌⊎◌, ◌||◌, ◌++◌, bytes_eq, nat_eq, nat_lt}
 use Rattle.ot_file.specs.Cuts.{piece_from}
 use Rattle.ot_file.specs.declared.request.Piece.{Piece}
-use Rattle.ot_store.specs.Arrays.{Named, created}
+use Rattle.ot_store.specs.Arrays.{Named, created, shape_in}
 use Rattle.ot_store.specs.Refusals.{usual_limits}
 use Rattle.ot_store.specs.declared.fault.StoreRefusal.{StoreRefusal}
 use Rattle.ot_book.specs.Answers as r
@@ -14,7 +14,11 @@ use Rattle.ot_judge.specs.declared.verdict.Verdict.TheVariants.{Taken, Refused, 
 use Rattle.ot_file.specs.Items.{offset_of}
 use Rattle.ot_file.specs.Positions.{position_of}
 use Rattle.ot_file.specs.declared.position.Position.{Position}
-use Rattle.ot_place.specs.Spots.{Path, Spot, statements_of, numbered}
+use Rattle.ot_place.specs.Spots.{Path, Spot, spots_of, statements_of, numbered}
+use Rattle.ot_fault.specs.Whys.{first_fault}
+use Rattle.ot_model.specs.Programs.{Arrays}
+use Rattle.ot_program.specs.Meanings.{is_word}
+use Rattle.serde_json.specs.Data.{Data, array, no_items, item}
 use Rattle.ot_judge.specs.declared.findings.Finding.{Finding}
 use Rattle.std.specs.List.{starts_with}
 use Rattle.ot_file.specs.Comments.{blanked}
@@ -22,7 +26,7 @@ use Rattle.ot_file.specs.OneLine.{one_line}
 
 -- the first item of an array is the word of a program
 abbrev pub begins_program : List ℕ → Bool
-begins_program item = starts_with nat_eq item (codes "\"program\"") || starts_with nat_eq item (codes "\"program2\"")
+begins_program text = starts_with nat_eq text (codes "\"program\"") || starts_with nat_eq text (codes "\"program2\"")
 
 abbrev pub begins_at : List ℕ → Option ℕ → Bool
 begins_at piece (Some offset) = begins_program (drop offset piece)
@@ -52,6 +56,13 @@ lines_from (suc most) blank from = lines_by blank (piece_from blank from) (λ at
 -- the lines of a file: each of its pieces has a byte at least
 abbrev pub lines_in : List ℕ → List (List ℕ)
 lines_in text = let blank = blanked text in lines_from (length blank) blank 0
+
+-- so many bytes a line of a session may have
+abbrev pub longest_line : ℕ
+longest_line = 65536
+
+abbrev pub is_long : List ℕ → Bool
+is_long line = nat_lt longest_line (length line)
 
 -- a line with its LF
 abbrev pub with_end : List ℕ → List ℕ
@@ -85,14 +96,18 @@ passed book line = logged book line (is_run (next_step book line))
 
 -- ---- one after another
 
--- a request that is refused: the bytes of its piece, and the book behind it, or none where the log is full
+-- a request that is refused: the bytes of its piece, and the book behind it; none where the log is full, or the line too long
 pub record Refusal : Type 0 where
   pub start : ℕ
   pub end : ℕ
   pub book : Option Register
+  pub is_long : Bool
 
 abbrev pub refusal : Piece → Option Register → Refusal
-refusal p book = record { start = p.start; end = p.end; book = book }
+refusal p book = record { start = p.start; end = p.end; book = book; is_long = false }
+
+abbrev pub too_long : Piece → Refusal
+too_long p = record { start = p.start; end = p.end; book = None; is_long = true }
 
 -- what it is told
 abbrev pub told_in : Refusal → Option r.Told
@@ -104,10 +119,11 @@ refusals_by Taken p book behind = behind
 refusals_by Refused p book behind = refusal p (Some book) ∷ behind
 refusals_by Full p book behind = refusal p None ∷ []
 
--- the same from a line on: behind a goodbye there is none
+-- the same from a line on: behind a goodbye there is none, and behind a line that is too long
 abbrev pub refusals_at : Register → List ℕ → Piece → (Register → List Refusal) → List Refusal
 refusals_at book line p behind =
-    if is_goodbye line then [] else refusals_by (verdict_of book line) p (passed book line) (behind (passed book line))
+    if is_goodbye line then []
+    else (if is_long line then too_long p ∷ [] else refusals_by (verdict_of book line) p (passed book line) (behind (passed book line)))
 
 abbrev pub refusals_with : Register → List ℕ → Option Piece → (ℕ → Register → List Refusal) → List Refusal
 refusals_with book blank None behind = []
@@ -164,15 +180,34 @@ pub record IsInPiece (blank : List ℕ) (start end : ℕ) (position : Position) 
   pub within : offset ≤ end - start
   pub is : position ≡ position_of blank (start + offset)
 
--- an offence is told at the statement that the reply counts, and what else is refused, in the piece
-abbrev pub IsPlacedBy : Option r.Told → List ℕ → ℕ → ℕ → Position → Type 0
-IsPlacedBy (Some (r.Offends code number)) blank start end position = position ≡ statement_position blank start end number
-IsPlacedBy told blank start end position = IsInPiece blank start end position
+-- whether a request runs a program
+abbrev pub runs_program : Data → Bool
+runs_program (array (item t (item text no_items))) = is_word t (codes "run")
+runs_program request = false
 
--- a full log is told at the piece
+-- how many bytes of a piece stand before the first that has a fault in the program that its request runs, over these arrays: the
+-- program itself, a statement, or what is of no form
+abbrev pub fault_offset : Arrays → List ℕ → Data → Option ℕ
+fault_offset shape piece request =
+    if runs_program request then option_and_then (λ found. option_and_then (spot_offset piece) (slice_get (spots_of request) found.0)) (first_fault shape request)
+    else None
+
+-- what is no JSON is told in the piece; what is refused otherwise where its program has a fault, or at the piece
+abbrev pub IsPlacedAt : Option Data → Arrays → List ℕ → ℕ → ℕ → Position → Type 0
+IsPlacedAt None shape blank start end position = IsInPiece blank start end position
+IsPlacedAt (Some request) shape blank start end position =
+    position ≡ position_of blank (start + unwrap_or (fault_offset shape (slice_range blank start end) request) 0)
+
+-- an offence is told at the statement that the reply counts
+abbrev pub IsPlacedBy : Option r.Told → Arrays → List ℕ → ℕ → ℕ → Position → Type 0
+IsPlacedBy (Some (r.Offends code number)) shape blank start end position = position ≡ statement_position blank start end number
+IsPlacedBy (Some (r.Refused code)) shape blank start end position = IsPlacedAt (value_of (line_of (slice_range blank start end))) shape blank start end position
+IsPlacedBy told shape blank start end position = IsInPiece blank start end position
+
+-- a full log and a line that is too long are told at the piece
 abbrev pub IsPlacedIn : Option Register → List ℕ → ℕ → ℕ → Position → Type 0
 IsPlacedIn None blank start end position = position ≡ position_of blank start
-IsPlacedIn (Some book) blank start end position = IsPlacedBy (last_told book) blank start end position
+IsPlacedIn (Some book) blank start end position = IsPlacedBy (last_told book) (shape_in book.limits book.store) blank start end position
 
 abbrev pub IsPlaced : List ℕ → Refusal → Position → Type 0
 IsPlaced blank refusal position = IsPlacedIn refusal.book blank refusal.start refusal.end position
@@ -203,7 +238,8 @@ pub record IsSeen (one : Refusal) (f : Finding) : Type 0 where
   pub start : f.start ≡ one.start
   pub end : f.end ≡ one.end
   pub code : f.code ≡ option_and_then code_in (told_in one)
+  pub long : f.is_long ≡ one.is_long
 
--- this book is the one behind it, unless it found the log full
+-- this book is the one behind it, unless it found the log full, or was too long
 abbrev pub IsBehind : Refusal → Register → Type 0
 IsBehind one book = (one.book ≡ None) ⊎ (one.book ≡ Some book)

@@ -6,7 +6,7 @@ ghost use Rattle.ot_judge.specs.Found.{found_as};
 
 use crate::arrays::book_with;
 use crate::fault::JudgeFault;
-use crate::line::{is_goodbye, line_of};
+use crate::line::{is_goodbye, is_long, line_of};
 use crate::place::{place_in, statement_in};
 use crate::told::{code_of, told_last};
 use crate::verdict::judge_line;
@@ -23,8 +23,10 @@ pub struct Finding {
     pub start: usize,
     /// How many bytes there are up to the end of its piece.
     pub end: usize,
-    /// The code that it is told; none where the log of the book is full.
+    /// The code that it is told; none where the log of the book is full, or the line is too long.
     pub code: Option<u32>,
+    /// Whether its line has more bytes than one of a session may have.
+    pub is_long: bool,
     /// Where in the file it is refused.
     pub position: Position,
 }
@@ -80,8 +82,8 @@ impl<'a> Findings<'a> {
         &self.book
     }
 
-    /// The next request that is refused, and where. It is None where all the rest is taken, or stands behind a goodbye or a
-    /// full log.
+    /// The next request that is refused, and where. It is None where all the rest is taken, or stands behind a goodbye, a
+    /// full log or a line that is too long.
     pub fn next(&mut self, alloc: Global) -> Result<Option<Finding>, JudgeFault>
         ensures next { (all : List Refusal) → Goes all self.old → IfOk result (λ next. MatchOption next (all ≡ [])
             (λ f. (one : Refusal) × (behind : List Refusal) × (all ≡ one ∷ behind) × Goes behind self.new × IsSeen one f × IsBehind one self.new.book × IsPlaced self.old.blank one f.position)) }
@@ -98,6 +100,7 @@ impl<'a> Findings<'a> {
             start: found.start,
             end: found.end,
             code: found.code(&self.book),
+            is_long: found.is_long,
             position,
         }))
     }
@@ -118,12 +121,14 @@ impl<'a> Findings<'a> {
     }
 }
 
-/// A request that isn't taken: its piece, whether the log is full, and from which byte on requests are still to be judged.
+/// A request that isn't taken: its piece, whether nothing is judged behind it, since the log is full or its line is too long,
+/// whether it is that, and from which byte on requests are still to be judged.
 #[derive(Clone, Copy, Debug)]
 struct Found {
     start: usize,
     end: usize,
-    is_full: bool,
+    ends: bool,
+    is_long: bool,
     next: usize,
 }
 
@@ -132,7 +137,7 @@ impl Found {
     fn code(self, book: &Book) -> Option<u32>
         ensures { result ≡ option_and_then code_in (told_in (found_as self book.now)) }
     {
-        if self.is_full {
+        if self.ends {
             return None;
         }
         match told_last(book) {
@@ -158,16 +163,27 @@ fn next_in(
 {
     let mut at = from;
     while let Some(piece) = next_piece(blank, at) {
-        let line = line_of(alloc, &blank[piece.start..piece.end])?;
-        if is_goodbye(line.as_slice()) {
+        let bytes = line_of(alloc, &blank[piece.start..piece.end])?;
+        let line = bytes.as_slice();
+        if is_goodbye(line) {
             return Ok(None);
         }
-        let verdict = judge_line(alloc, book, line.as_slice())?;
+        if is_long(line) {
+            return Ok(Some(Found {
+                start: piece.start,
+                end: piece.end,
+                ends: true,
+                is_long: true,
+                next: blank.len(),
+            }));
+        }
+        let verdict = judge_line(alloc, book, line)?;
         if verdict.is_full() {
             return Ok(Some(Found {
                 start: piece.start,
                 end: piece.end,
-                is_full: true,
+                ends: true,
+                is_long: false,
                 next: blank.len(),
             }));
         }
@@ -175,7 +191,8 @@ fn next_in(
             return Ok(Some(Found {
                 start: piece.start,
                 end: piece.end,
-                is_full: false,
+                ends: false,
+                is_long: false,
                 next: piece.end,
             }));
         }
@@ -197,7 +214,8 @@ fn placed(
     ensures placed { IfOk result (λ position. IsPlaced blank.now (found_as found book.now) position) }
     ensures text { positions.new ≡ positions.old }
 {
-    if found.is_full {
+    positions.mark(found.start);
+    if found.ends {
         return Ok(positions.position_of(found.start));
     }
     let place = place_in(alloc, book, &blank[found.start..found.end])?;

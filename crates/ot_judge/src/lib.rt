@@ -12,5 +12,5 @@ mod verdict;
 
 pub use fault::JudgeFault;
 pub use findings::{Finding, Findings};
-pub use line::{is_goodbye, line_of};
+pub use line::{is_goodbye, is_long, line_of};
 pub use lines::lines_of;

@@ -1,9 +1,12 @@
 //! The requests of a file as lines.
 ghost use Rattle.std.specs.Prelude.{◌≡◌, [], ◌∷◌, IfOk, OnOk};
-ghost use Rattle.ot_judge.specs.Judging.{is_goodbye, is_program, begins_program, line_of};
+ghost use Rattle.ot_judge.specs.Judging.{is_goodbye, is_long, is_program, begins_program, line_of};
 
 use ot_file::{offset_of, one_line};
 use std::alloc::{AllocError, Global};
+
+/// How many bytes a line of a session may have.
+const LONGEST_LINE: usize = 65_536;
 
 /// The line of a piece of a file without comments. A program stands for the request that runs it.
 pub fn line_of(alloc: Global, piece: &[u8]) -> Result<Vec<u8>, AllocError>
@@ -25,6 +28,13 @@ pub fn is_goodbye(line: &[u8]) -> bool
     ensures { result ≡ is_goodbye line.now }
 {
     line == b"[\"bye\"]".as_slice()
+}
+
+/// Whether the line has more bytes than one of a session may have.
+pub fn is_long(line: &[u8]) -> bool
+    ensures { result ≡ is_long line.now }
+{
+    line.len() > LONGEST_LINE
 }
 
 /// Whether a piece is an array that begins with the word of a program.

@@ -2,16 +2,21 @@
 ghost use Rattle.std.specs.Prelude.{◌≡◌, ◌≤◌, ℕ, Some, length, IfOk, unwrap_or};
 ghost use Rattle.ot_book.specs.Answers as replies;
 ghost use Rattle.ot_book.specs.Books.{last_told};
-ghost use Rattle.ot_judge.specs.Judging.{path_in, statement_offset};
+ghost use Rattle.ot_book.specs.Answers.{value_of};
+ghost use Rattle.serde_json.specs.Data.{Data, array};
+ghost use Rattle.serde_json.specs.View.{view, items_view};
+ghost use Rattle.ot_store.specs.Arrays.{shape_in};
+ghost use Rattle.ot_fault.specs.Whys.{shape_of};
+ghost use Rattle.ot_judge.specs.Judging.{path_in, line_of, statement_offset, fault_offset, runs_program};
 
 use crate::line::{is_program, line_of};
 use crate::told::told_last;
-use ot_book::{Book, Code, Told, read_line};
+use ot_book::{Book, Told, read_line};
 use ot_fault::first_fault;
 use ot_file::offset_of;
-use ot_model::Shape;
+use ot_model::ArrayShape;
 use ot_place::{Place, entry_of, place_of};
-use ot_store::Limits;
+use ot_program::is_word;
 use serde_json::Value;
 use std::alloc::{AllocError, Global};
 
@@ -22,12 +27,27 @@ const BEFORE_PROGRAM: usize = 7;
 pub(crate) fn place_in(alloc: Global, book: &Book, piece: &[u8]) -> Result<usize, AllocError>
     ensures within { IfOk result (λ place. place ≤ length piece.now) }
     ensures statement { IfOk result (λ place. (code number : ℕ) → last_told book.now ≡ Some (replies.Offends code number) → place ≡ unwrap_or (statement_offset piece.now number) 0) }
+    ensures fault { IfOk result (λ place. (code : ℕ) (request : Data) → last_told book.now ≡ Some (replies.Refused code) → value_of (line_of piece.now) ≡ Some request
+        → place ≡ unwrap_or (fault_offset (shape_in book.now.limits book.now.store) piece.now request) 0) }
 {
     match told_last(book) {
         Some(Told::Offends(_, number)) => statement_in(alloc, piece, *number),
-        Some(Told::Refused(Code::NotJson)) => not_json_in(alloc, piece),
-        Some(Told::Refused(Code::Program(_))) => fault_in(alloc, book, piece),
+        Some(Told::Refused(_)) => refused_in(alloc, book, piece),
         _ => Ok(0),
+    }
+}
+
+/// How many bytes of a piece stand before the place at which its request is refused that has no offence: where it is no JSON, or
+/// where the program that it runs has a fault.
+fn refused_in(alloc: Global, book: &Book, piece: &[u8]) -> Result<usize, AllocError>
+    ensures within { IfOk result (λ place. place ≤ length piece.now) }
+    ensures fault { IfOk result (λ place. (request : Data) → value_of (line_of piece.now) ≡ Some request
+        → place ≡ unwrap_or (fault_offset (shape_in book.now.limits book.now.store) piece.now request) 0) }
+{
+    let line = line_of(alloc, piece)?;
+    match read_line(alloc, line.as_slice())? {
+        Some(request) => fault_in(alloc, book, &request, piece),
+        None => not_json_in(alloc, piece),
     }
 }
 
@@ -74,7 +94,7 @@ fn path_in(is_program: bool, path: &[usize]) -> &[usize]
 fn not_json_in(alloc: Global, piece: &[u8]) -> Result<usize, AllocError>
     ensures { IfOk result (λ place. place ≤ length piece.now) }
 {
-    let line = line_of(alloc, piece)?;
+    let line = flat_line(alloc, piece)?;
     let before = if is_program(piece) { BEFORE_PROGRAM } else { 0 };
     match Value::from_slice(alloc, line.as_slice()) {
         Ok(_) => Ok(0),
@@ -86,34 +106,75 @@ fn not_json_in(alloc: Global, piece: &[u8]) -> Result<usize, AllocError>
     }
 }
 
-/// Which entry of the program that a request runs has the first fault.
-fn faulty_entry(
+/// The line of a piece with all its white space, so that each byte stands as far from the piece's first as it does in the file.
+/// A tab stands for an LF: it is white space too, and not allowed in a string either.
+fn flat_line(alloc: Global, piece: &[u8]) -> Result<Vec<u8>, AllocError> {
+    let mut line = Vec::new(alloc);
+    if is_program(piece) {
+        line.extend_from_slice(b"[\"run\",".as_slice())?;
+    }
+    for byte in piece {
+        line.push(if *byte == b'\n' { b'\t' } else { *byte })?;
+    }
+    if is_program(piece) {
+        line.push(b']')?;
+    }
+    Ok(line)
+}
+
+/// How many bytes of a piece stand before the first statement of its program that has a fault, over the arrays of a book.
+fn fault_in(alloc: Global, book: &Book, request: &Value, piece: &[u8]) -> Result<usize, AllocError>
+    ensures offset { IfOk result (λ place. place ≡ unwrap_or (fault_offset (shape_in book.now.limits book.now.store) piece.now (view request.now)) 0) }
+    ensures within { IfOk result (λ place. place ≤ length piece.now) }
+{
+    let limits = book.limits();
+    let shape = book.store().shape(alloc, &limits)?;
+    fault_over(alloc, shape.arrays(), limits.tasks, request, piece)
+}
+
+/// The same over these arrays, and with at most so many task statements.
+fn fault_over(
     alloc: Global,
+    arrays: &[ArrayShape],
+    tasks: u32,
     request: &Value,
-    shape: &Shape,
-    limits: &Limits,
-) -> Result<Option<u32>, AllocError> {
-    match first_fault(alloc, request, shape.arrays(), limits.tasks)? {
-        Some(found) => Ok(Some(found.index)),
-        None => Ok(None),
+    piece: &[u8],
+) -> Result<usize, AllocError>
+    ensures offset { IfOk result (λ place. place ≡ unwrap_or (fault_offset (shape_of arrays.now tasks) piece.now (view request.now)) 0) }
+    ensures within { IfOk result (λ place. place ≤ length piece.now) }
+{
+    if !runs_program(request) {
+        return Ok(0);
+    }
+    let Some(found) = first_fault(alloc, request, arrays, tasks)? else {
+        return Ok(0);
+    };
+    match entry_of(alloc, request, found.index)? {
+        Some(place) => Ok(offset_in(piece, &place)),
+        None => Ok(0),
     }
 }
 
-/// How many bytes of a piece stand before the first statement of its program that has a fault.
-fn fault_in(alloc: Global, book: &Book, piece: &[u8]) -> Result<usize, AllocError>
-    ensures { IfOk result (λ place. place ≤ length piece.now) }
+/// Whether a request runs a program.
+fn runs_program(request: &Value) -> bool
+    ensures { result ≡ runs_program (view request.now) }
 {
-    let line = line_of(alloc, piece)?;
-    let Some(request) = read_line(alloc, line.as_slice())? else {
-        return Ok(0);
-    };
-    let limits = book.limits();
-    let shape = book.store().shape(alloc, &limits)?;
-    let Some(entry) = faulty_entry(alloc, &request, &shape, &limits)? else {
-        return Ok(0);
-    };
-    match entry_of(alloc, &request, entry)? {
-        Some(place) => Ok(offset_in(piece, &place)),
-        None => Ok(0),
+    match request {
+        Value::Array(items) => is_run(items),
+        _ => false,
+    }
+}
+
+/// Whether these are the word of a request that runs a program, and one item more.
+#[tactic(auto, using(crate::proofs::RunLemmas::runs))]
+fn is_run(items: &[Value]) -> bool
+    ensures { result ≡ runs_program (array (items_view items.now)) }
+{
+    if items.len() != 2 {
+        return false;
+    }
+    match items {
+        [word, _] => is_word(word, "run"),
+        _ => unreachable!(),
     }
 }

@@ -8,4 +8,5 @@ asked_by v.Checkpoint = q.Checkpoint
 asked_by v.Units = q.Units
 asked_by v.Arrays = q.Arrays
 asked_by (v.CellsOf name len) = q.CellsOf name.now len
+asked_by (v.Free name) = q.Free name.now
 asked_by (v.Line line) = q.Line line.now

@@ -12,11 +12,16 @@ pub data Question : Type 0 where
   Units : Question
   Arrays : Question
   CellsOf : List ℕ → ℕ → Question
+  Free : List ℕ → Question
   Line : List ℕ → Question
 
 -- `["get","NAME",0,LEN]` and an LF
 abbrev pub cells_line : List ℕ → ℕ → List ℕ
 cells_line name len = codes "[\"get\",\"" ++ name ++ codes "\",0," ++ decimal len ++ codes "]\n"
+
+-- `["free","NAME"]` and an LF
+abbrev pub free_line : List ℕ → List ℕ
+free_line name = codes "[\"free\",\"" ++ name ++ codes "\"]\n"
 
 -- the line that is sent
 abbrev pub question_line : Question → List ℕ
@@ -24,6 +29,7 @@ question_line Checkpoint = codes "[\"checkpoint\"]\n"
 question_line Units = codes "[\"used\"]\n"
 question_line Arrays = codes "[\"list\"]\n"
 question_line (CellsOf name len) = cells_line name len
+question_line (Free name) = free_line name
 question_line (Line line) = line
 
 -- the reply is of the kind that the request asks for
@@ -32,6 +38,7 @@ answers Checkpoint (Taken n) = true
 answers Units (Used units) = true
 answers Arrays (Listed arrays) = true
 answers (CellsOf name len) (Cells cells) = length cells == len
+answers (Free name) (Taken n) = true
 answers (Line line) (Taken n) = true
 answers question reply = false
 

@@ -1,11 +1,11 @@
 -- How a tenant is saved.
-use Rattle.std.specs.Prelude.{◌≡◌, ◌⊎◌, ◌+◌, ℕ, List, [], ◌∷◌, ◌++◌, Result, Ok, Err, ◌≢◌, All, length, map, ⊤}
+use Rattle.std.specs.Prelude.{◌≡◌, ◌⊎◌, ◌+◌, ℕ, List, [], ◌∷◌, ◌++◌, Result, Ok, Err, ◌≢◌, All, length, map, ⊤, Bool, true, false, MatchResult}
 use Rattle.ot_store.specs.Arrays.{Named}
 use Rattle.ot_ask.specs.Asking.{GreetsServer}
 use Rattle.ot_ask.specs.Streams.{BreaksOff, Link, Outgoing, Writes, IsWhole}
 use Rattle.ot_ask.specs.declared.asked.AskFault.{AskFault}
 use Rattle.ot_keep.specs.Files.{Makes, file_text, AreLines, IsNoFile, Reply, Taken, Used, Listed}
-use Rattle.ot_keep.specs.Questions.{Question, Checkpoint, Units, StopsAsking, AsksInTurn, Arrays, Line, TurnFails, Turn, SaysBye, arrays_turns}
+use Rattle.ot_keep.specs.Questions.{Question, Checkpoint, Units, StopsAsking, AsksInTurn, Arrays, Free, Line, TurnFails, Turn, SaysBye, arrays_turns}
 use Rattle.ot_keep.specs.declared.fault.KeepFault.{KeepFault}
 use Rattle.ot_keep.specs.declared.fault.KeepFault.TheVariants.{Ask, WriteFailed, Differs, HasArrays, NotWhole, Refused, StrangeReply}
 use Rattle.ot_keep.specs.declared.saving.Saved.{Saved}
@@ -53,13 +53,50 @@ Saves name old new start held (Err fault) = IsUnheld name old new fault × (held
 -- ---- before the file's lines
 
 -- the tenant has no array, and its log begins anew
-abbrev pub IsClear : Link → Link → Type 0
-IsClear old new = (number : ℕ) × AsksInTurn old new ((Arrays, Listed []) ∷ (Checkpoint, Taken number) ∷ [])
+abbrev pub HasNone : Link → Link → Type 0
+HasNone old new = (number : ℕ) × AsksInTurn old new ((Arrays, Listed []) ∷ (Checkpoint, Taken number) ∷ [])
 
-abbrev pub Clears : Link → Link → Result ⊤ KeepFault → Type 0
-Clears old new (Ok done) = IsClear old new
-Clears old new (Err HasArrays) = (found : List (List ℕ × ℕ)) × Turn Arrays old new (Listed found) × (found ≢ [])
-Clears old new (Err fault) = StopsAsking old new fault
+-- it has some
+abbrev pub HasSome : Link → Link → Type 0
+HasSome old new = (found : List (List ℕ × ℕ)) × Turn Arrays old new (Listed found) × (found ≢ [])
+
+-- why it isn't seen to have none
+abbrev pub NoneFails : Link → Link → KeepFault → Type 0
+NoneFails old new HasArrays = HasSome old new
+NoneFails old new fault = StopsAsking old new fault
+
+-- these arrays are freed, one after another
+pub record AreFreed (found : List (List ℕ × ℕ)) (old new : Link) : Type 0 where
+  pub turns : List (Question × Reply)
+  pub asked : map (λ t. t.0) turns ≡ map (λ a. Free a.0) found
+  pub talk : AsksInTurn old new turns
+
+-- its log begins anew, and the arrays that are told then are freed
+pub record HasLost (old new : Link) : Type 0 where
+  pub number : ℕ
+  pub found : List (List ℕ × ℕ)
+  pub listed : Link
+  pub talk : AsksInTurn old listed ((Checkpoint, Taken number) ∷ (Arrays, Listed found) ∷ [])
+  pub freed : AreFreed found listed new
+
+-- the tenant is ready for the file's lines, with the arrays that it had replaced, or without any
+abbrev pub IsClear : Bool → Link → Link → Type 0
+IsClear true old new = HasLost old new
+IsClear false old new = HasNone old new
+
+abbrev pub SeesNone : Link → Link → Result ⊤ KeepFault → Type 0
+SeesNone old new result = MatchResult result (λ done. HasNone old new) (NoneFails old new)
+
+abbrev pub FreesAll : Link → Link → Result ⊤ KeepFault → Type 0
+FreesAll old new result = MatchResult result (λ done. HasLost old new) (StopsAsking old new)
+
+-- why the tenant isn't ready
+abbrev pub ClearFails : Bool → Link → Link → KeepFault → Type 0
+ClearFails true old new fault = StopsAsking old new fault
+ClearFails false old new fault = NoneFails old new fault
+
+abbrev pub Clears : Bool → Link → Link → Result ⊤ KeepFault → Type 0
+Clears replace old new result = MatchResult result (λ done. IsClear replace old new) (ClearFails replace old new)
 
 -- ---- the file's lines
 
@@ -110,42 +147,43 @@ Compares session old new (Err fault) = StopsAsking old new fault
 
 -- Behind a greeting the tenant is clear, the session's lines are taken, and the arrays that are told then are those that it
 -- makes.
-pub record IsRestored (name : List ℕ) (old new : Link) (session : List ℕ) : Type 0 where
+pub record IsRestored (name : List ℕ) (replace : Bool) (old new : Link) (session : List ℕ) : Type 0 where
   pub greeted : Link
   pub clear : Link
   pub sent : Link
   pub told : Link
   pub greets : GreetsServer name old greeted (Ok tt)
-  pub clears : IsClear greeted clear
+  pub clears : IsClear replace greeted clear
   pub takes : IsTaken session clear sent
   pub makes : AreMade sent told session
   pub bye : SaysBye told new
 
--- A restore, by what it came to. Nothing is sent where the file is no file's text.
-abbrev pub Restores : List ℕ → List ℕ → Link → Link → Result Restored KeepFault → Type 0
-Restores name file old new (Ok restored) =
-    (session : List ℕ) × AreLines session × (file ≡ file_text session restored.next restored.used) × IsRestored name old new session
-Restores name file old new (Err NotWhole) = (new ≡ old) × IsNoFile file
-Restores name file old new (Err HasArrays) =
-    (greeted : Link) × GreetsServer name old greeted (Ok tt) × ((found : List (List ℕ × ℕ)) × Turn Arrays greeted new (Listed found) × (found ≢ []))
-Restores name file old new (Err (Refused number)) =
+-- A restore, by what it came to. Nothing is sent where the file is no file's text. That the tenant has arrays is told where they
+-- aren't to be replaced alone.
+abbrev pub Restores : List ℕ → List ℕ → Bool → Link → Link → Result Restored KeepFault → Type 0
+Restores name file replace old new (Ok restored) =
+    (session : List ℕ) × AreLines session × (file ≡ file_text session restored.next restored.used) × IsRestored name replace old new session
+Restores name file replace old new (Err NotWhole) = (new ≡ old) × IsNoFile file
+Restores name file replace old new (Err HasArrays) =
+    (replace ≡ false) × ((greeted : Link) × GreetsServer name old greeted (Ok tt) × HasSome greeted new)
+Restores name file replace old new (Err (Refused number)) =
     (session : List ℕ)
     × (greeted : Link)
     × (clear : Link)
     × GreetsServer name old greeted (Ok tt)
-    × IsClear greeted clear
+    × IsClear replace greeted clear
     × IsRefused session clear new number
     × ((next : ℕ) × (used : ℕ) × (file ≡ file_text session next used))
-Restores name file old new (Err Differs) =
+Restores name file replace old new (Err Differs) =
     (session : List ℕ)
     × (told : List ℕ)
     × (greeted : Link)
     × (clear : Link)
     × (sent : Link)
     × GreetsServer name old greeted (Ok tt)
-    × IsClear greeted clear
+    × IsClear replace greeted clear
     × IsTaken session clear sent
     × AreMade sent new told
     × (told ≢ session)
     × ((next : ℕ) × (used : ℕ) × (file ≡ file_text session next used))
-Restores name file old new (Err fault) = IsUnheld name old new fault
+Restores name file replace old new (Err fault) = IsUnheld name old new fault

@@ -5,6 +5,7 @@
 mod answer;
 mod array;
 mod body;
+mod clearing;
 mod fault;
 mod file;
 mod note;

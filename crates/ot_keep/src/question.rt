@@ -4,7 +4,7 @@ ghost use Rattle.ot_ask.specs.Streams.{link, outgoing};
 ghost use Rattle.ot_keep.specs.Answers.{reply_by};
 ghost use Rattle.ot_keep.specs.Files.{Cells, Listed, Taken, Used};
 ghost use Rattle.ot_keep.specs.Asked.{asked_by};
-ghost use Rattle.ot_keep.specs.Questions.{Arrays, CellsOf, Checkpoint, TurnFails, Line, Turn, Units, answers, cells_line, question_line};
+ghost use Rattle.ot_keep.specs.Questions.{Arrays, CellsOf, Checkpoint, TurnFails, Free, Line, Turn, Units, answers, cells_line, free_line, question_line};
 ghost use Rattle.ot_model.specs.Programs.{arrays_of};
 
 use crate::answer::{Answer, read_answer};
@@ -25,6 +25,8 @@ enum Question<'a> {
     Arrays,
     /// Tell all cells of an array, which has so many.
     CellsOf(&'a str, u32),
+    /// Free an array.
+    Free(&'a str),
     /// Take a line of a file, which has its LF.
     Line(&'a [u8]),
 }
@@ -107,6 +109,26 @@ pub(crate) fn ask_cells<H: LineSource, W: Sink>(
     }
 }
 
+/// Lets an array be freed, and hears that it was.
+pub(crate) fn ask_free<H: LineSource, W: Sink>(
+    alloc: Global,
+    name: &str,
+    heard: &mut H,
+    wire: &mut W,
+) -> Result<u32, KeepFault>
+    ensures { MatchResult result
+        (λ told. Turn (Free name.now) (link (H.coming heard.old) (outgoing (W.contents wire.old) (W.failures wire.old)))
+        (link (H.coming heard.new) (outgoing (W.contents wire.new) (W.failures wire.new))) (Taken told))
+        (λ fault. TurnFails (Free name.now) (link (H.coming heard.old) (outgoing (W.contents wire.old) (W.failures wire.old)))
+        (link (H.coming heard.new) (outgoing (W.contents wire.new) (W.failures wire.new))) fault) }
+{
+    match ask(alloc, &Question::Free(name), heard, wire) {
+        Ok(Answer::Taken(told)) => Ok(told),
+        Ok(_) => unreachable!(),
+        Err(fault) => Err(fault),
+    }
+}
+
 /// Sends a line of a file, and hears that it is taken.
 pub(crate) fn ask_line<H: LineSource, W: Sink>(
     alloc: Global,
@@ -167,6 +189,7 @@ fn question_line(alloc: Global, question: &Question<'_>) -> Result<Vec<u8>, Allo
         Question::Units => Vec::from_slice(alloc, b"[\"used\"]\n".as_slice()),
         Question::Arrays => Vec::from_slice(alloc, b"[\"list\"]\n".as_slice()),
         Question::CellsOf(name, len) => cells_line(alloc, name, *len),
+        Question::Free(name) => free_line(alloc, name),
         Question::Line(line) => Vec::from_slice(alloc, line),
     }
 }
@@ -178,12 +201,19 @@ fn cells_line(alloc: Global, name: &str, len: u32) -> Result<Vec<u8>, AllocError
     Ok(line.into_bytes())
 }
 
+fn free_line(alloc: Global, name: &str) -> Result<Vec<u8>, AllocError>
+    ensures { IfOk result (λ line. line.items ≡ free_line name.now) }
+{
+    let line = format!(in alloc; "[\"free\",\"{name}\"]\n")?;
+    Ok(line.into_bytes())
+}
+
 /// Whether an answer is one to the request.
 fn fits(question: &Question<'_>, answer: &Answer) -> bool
     ensures { result ≡ answers (asked_by question.now) (reply_by answer.now) }
 {
     match (question, answer) {
-        (Question::Checkpoint | Question::Line(_), Answer::Taken(_)) => true,
+        (Question::Checkpoint | Question::Free(_) | Question::Line(_), Answer::Taken(_)) => true,
         (Question::Units, Answer::Used(_)) => true,
         (Question::Arrays, Answer::Listed(_)) => true,
         (Question::CellsOf(_, len), Answer::Cells(cells)) => cells.len() == *len as usize,

@@ -1,12 +1,13 @@
 //! A tenant is restored.
 ghost use Rattle.ot_ask.specs.Streams.{link, outgoing};
 ghost use Rattle.ot_keep.specs.Files.{AreLines};
-ghost use Rattle.ot_keep.specs.Saving.{Clears, Compares, Restores, TakesSession};
+ghost use Rattle.ot_keep.specs.Saving.{Compares, Restores, TakesSession};
 
 use crate::body::session_text;
+use crate::clearing::clear;
 use crate::fault::KeepFault;
 use crate::file::read_file;
-use crate::question::{ask_arrays, ask_checkpoint, ask_line};
+use crate::question::ask_line;
 use crate::tenant::{read_arrays, say_bye};
 use memchr::memchr;
 use ot_ask::{AskFault, LineSource, greet};
@@ -22,16 +23,19 @@ pub struct Restored {
     pub used: u64,
 }
 
-/// Restores a tenant of a file, at a server where it has no array, in a session; asks for the arrays then, and compares
-/// what is told with the file. A file that was cut or changed is refused before anything is sent.
+/// Restores a tenant of a file, in a session, at a server where it has no array, or where those that it has are to be replaced:
+/// they are freed then. It asks for the arrays behind the file's last line, and compares what is told with the file. A file that
+/// was cut or changed is refused before anything is sent. Where it fails later the tenant is left with what was made by then, and
+/// to replace that makes it whole.
 pub fn restore<H: LineSource, W: Sink>(
     alloc: Global,
     name: &str,
     file: &[u8],
+    replace: bool,
     heard: &mut H,
     wire: &mut W,
 ) -> Result<Restored, KeepFault>
-    ensures { Restores name.now file.now
+    ensures { Restores name.now file.now replace
         (link (H.coming heard.old) (outgoing (W.contents wire.old) (W.failures wire.old)))
         (link (H.coming heard.new) (outgoing (W.contents wire.new) (W.failures wire.new))) result }
 {
@@ -43,7 +47,7 @@ pub fn restore<H: LineSource, W: Sink>(
     if let Err(fault) = greet(alloc, name, heard, wire) {
         return Err(KeepFault::Ask(fault));
     }
-    if let Err(fault) = clear(alloc, heard, wire) {
+    if let Err(fault) = clear(alloc, replace, heard, wire) {
         return Err(fault);
     }
     if let Err(fault) = send_lines(alloc, kept.session, heard, wire) {
@@ -57,29 +61,6 @@ pub fn restore<H: LineSource, W: Sink>(
         next: kept.next,
         used: kept.used,
     })
-}
-
-/// Sees that the tenant has no array, and lets its log begin anew, so that a full one is no hindrance.
-fn clear<H: LineSource, W: Sink>(
-    alloc: Global,
-    heard: &mut H,
-    wire: &mut W,
-) -> Result<(), KeepFault>
-    ensures { Clears
-        (link (H.coming heard.old) (outgoing (W.contents wire.old) (W.failures wire.old)))
-        (link (H.coming heard.new) (outgoing (W.contents wire.new) (W.failures wire.new))) result }
-{
-    let found = match ask_arrays(alloc, heard, wire) {
-        Ok(found) => found,
-        Err(fault) => return Err(fault),
-    };
-    if !found.is_empty() {
-        return Err(KeepFault::HasArrays);
-    }
-    match ask_checkpoint(alloc, heard, wire) {
-        Ok(_) => Ok(()),
-        Err(fault) => Err(fault),
-    }
 }
 
 /// Sends the lines of a file, each once the one before it was taken.

@@ -1,6 +1,6 @@
 -- Clauses and sections by their length.
 use Rattle.std.proofs.Common.{◌≡◌, ◌≢◌, ℕ, ◌+◌, ◌<◌, ◌≤◌, true, false, List, [], ◌∷◌, length, get_or, drop, codes, refl, sym, add-one, arith}
-use Rattle.std.specs.Prelude.{if◌then◌else◌, not, Some, None, bytes_eq, string_bytes}
+use Rattle.std.specs.Prelude.{Bool, ◌&&◌, ◌||◌, if◌then◌else◌, not, Some, None, bytes_eq, string_bytes}
 use Rattle.std.specs.List.{position_or_len}
 use Rattle.std.proofs.Math.Seq.{drop-cons}
 use Rattle.std.proofs.lemmas.List.{drop_all}
@@ -12,22 +12,33 @@ use Rattle.serde_json.specs.declared.value.Value.{Value}
 use Rattle.ot_program.specs.Meanings.{Bindings, position_of, size, section, is_word}
 use Rattle.ot_overlap.specs.Items.{depends, writes, is_iterated, is_difference}
 
-pub no_clause : (vs : List Value) → length vs ≢ 2 → depends (array (items_view vs)) ≡ None
-no_clause (a ∷ b ∷ []) other = absurd (other refl)
-no_clause _ other = refl
+pub no_clause : (reds : Bool) (vs : List Value) → length vs ≢ 2 → length vs ≢ 3 → depends reds (array (items_view vs)) ≡ None
+no_clause reds (a ∷ b ∷ []) other three = absurd (other refl)
+no_clause reds (a ∷ b ∷ c ∷ []) other three = absurd (three refl)
+no_clause reds _ other three = refl
 
-pub a_clause : (vs : List Value) (t a : Value) → length vs ≡ 2 → t ≡ get_or vs 0 t → a ≡ get_or vs 1 a
-    → depends (array (items_view vs)) ≡ (if is_word (view t) (codes "red") then None else Some (view a))
-a_clause (x ∷ y ∷ []) t a two p q = rw (sym p, sym q) refl
-a_clause _ t a two p q = absurd (omega arith)
+pub no_red : (vs : List Value) → length vs ≡ 3 → depends false (array (items_view vs)) ≡ None
+no_red (a ∷ b ∷ c ∷ []) three = refl
+no_red _ three = absurd (omega arith)
 
-pub ruleset clauses = (no_clause, a_clause)
+pub a_red : (vs : List Value) (a : Value) → length vs ≡ 3 → a ≡ get_or vs 2 a → depends true (array (items_view vs)) ≡ Some (view a)
+a_red (x ∷ y ∷ z ∷ []) a three r = rw (sym r) refl
+a_red _ a three r = absurd (omega arith)
+
+pub ruleset reds = a_red
+
+pub a_clause : (reds : Bool) (vs : List Value) (t a : Value) → length vs ≡ 2 → t ≡ get_or vs 0 t → a ≡ get_or vs 1 a
+    → depends reds (array (items_view vs)) ≡ (if is_word (view t) (codes "red") && not reds then None else Some (view a))
+a_clause reds (x ∷ y ∷ []) t a two p q = rw (sym p, sym q) refl
+a_clause reds _ t a two p q = absurd (omega arith)
+
+pub ruleset clauses = (no_clause, no_red, a_clause)
 
 pub no_word : (vs : List Value) → length vs ≢ 2 → writes (array (items_view vs)) ≡ false
 no_word (a ∷ b ∷ []) other = absurd (other refl)
 no_word _ other = refl
 
-pub a_word : (vs : List Value) (t : Value) → length vs ≡ 2 → t ≡ get_or vs 0 t → writes (array (items_view vs)) ≡ not (is_word (view t) (codes "in"))
+pub a_word : (vs : List Value) (t : Value) → length vs ≡ 2 → t ≡ get_or vs 0 t → writes (array (items_view vs)) ≡ not (is_word (view t) (codes "in") || is_word (view t) (codes "red"))
 a_word (x ∷ y ∷ []) t two p = rw (sym p) refl
 a_word _ t two p = absurd (omega arith)
 

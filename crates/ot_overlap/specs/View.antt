@@ -1,5 +1,4 @@
 -- What the code's values stand for.
-use Rattle.std.specs.Prelude.{ℕ, List}
 use Rattle.ot_model.specs.Programs.{arrays_of}
 use Rattle.ot_overlap.specs.Items as s
 use Rattle.ot_overlap.specs.declared.walk.Met.{Met}
@@ -8,5 +7,5 @@ use Rattle.ot_overlap.specs.declared.walk.Walk.{Walk}
 abbrev pub met_by : Met → s.Met
 met_by m = record { entries = m.entries; items = m.items.items }
 
-abbrev pub arrays_by : Walk → List (List ℕ × ℕ)
-arrays_by walk = arrays_of walk.arrays.now
+abbrev pub ground_by : Walk → s.Ground
+ground_by walk = s.ground (arrays_of walk.arrays.now) walk.reds

@@ -1,5 +1,5 @@
 //! The sections of `depend` clauses.
-ghost use Rattle.std.specs.Prelude.{◌≡◌, option_map, IfOk, bytes_eq};
+ghost use Rattle.std.specs.Prelude.{◌≡◌, option_map, IfOk, bytes_eq, length, true};
 ghost use Rattle.serde_json.specs.Data.{array};
 ghost use Rattle.serde_json.specs.View.{view, items_view};
 ghost use Rattle.ot_overlap.specs.Items.{depends, writes, is_iterated, is_difference, over};
@@ -10,31 +10,46 @@ use ot_program::is_word;
 use serde_json::Value;
 use std::alloc::AllocError;
 
-/// The section of a `depend` clause.
-pub(crate) fn depends(clause: &Value) -> Option<&Value>
-    ensures { option_map (λ section. view section.now) result ≡ depends (view clause.now) }
+/// The section of a `depend` clause. That of `red` is one where this is so.
+pub(crate) fn depends(clause: &Value, reds: bool) -> Option<&Value>
+    ensures { option_map (λ section. view section.now) result ≡ depends reds (view clause.now) }
 {
     match clause {
-        Value::Array(items) => depends_in(items),
+        Value::Array(items) => depends_in(items, reds),
         _ => None,
     }
 }
 
 #[tactic(auto, using(crate::proofs::ClauseLemmas::clauses))]
-fn depends_in(items: &[Value]) -> Option<&Value>
-    ensures { option_map (λ section. view section.now) result ≡ depends (array (items_view items.now)) }
+fn depends_in(items: &[Value], reds: bool) -> Option<&Value>
+    ensures { option_map (λ section. view section.now) result ≡ depends reds (array (items_view items.now)) }
 {
+    if items.len() == 3 {
+        return if reds { last_of(items) } else { None };
+    }
     if items.len() != 2 {
         return None;
     }
     match items {
         [tag, section] => {
-            if is_word(tag, "red") {
+            if is_word(tag, "red") && !reds {
                 None
             } else {
                 Some(section)
             }
         }
+        _ => unreachable!(),
+    }
+}
+
+/// The last of three.
+#[tactic(auto, using(crate::proofs::ClauseLemmas::reds))]
+fn last_of(items: &[Value]) -> Option<&Value>
+    requires { length items.now ≡ 3 }
+    ensures { option_map (λ section. view section.now) result ≡ depends true (array (items_view items.now)) }
+{
+    match items {
+        [_, _, section] => Some(section),
         _ => unreachable!(),
     }
 }
@@ -57,7 +72,7 @@ fn writes_in(items: &[Value]) -> bool
         return false;
     }
     match items {
-        [tag, _] => !is_word(tag, "in"),
+        [tag, _] => !(is_word(tag, "in") || is_word(tag, "red")),
         _ => unreachable!(),
     }
 }

@@ -5,8 +5,8 @@ ghost use Rattle.ot_program.specs.Copies.{copies, copies_of, copy, turns as each
 ghost use Rattle.ot_program.specs.Programs.{program_copy};
 ghost use Rattle.ot_place.specs.Texts.{Profile as Defined, Stands, text_by, first_copies, second_copies};
 ghost use Rattle.ot_place.specs.Spots.{bindings_of};
-ghost use Rattle.ot_overlap.specs.Items.{met_at, met_one, met_in, task_of, item_of, sections_at, sections_in, sections_among, section_as};
-ghost use Rattle.ot_overlap.specs.View.{met_by, arrays_by};
+ghost use Rattle.ot_overlap.specs.Items.{met_at, met_one, met_in, task_of, region_of, item_of, sections_at, sections_in, sections_among, section_as};
+ghost use Rattle.ot_overlap.specs.View.{met_by, ground_by};
 
 use crate::clause::{depends, is_iterated, section_of, writes};
 use crate::item::{Item, note_items};
@@ -22,11 +22,12 @@ pub(crate) struct Met {
     pub(crate) items: Vec<Item>,
 }
 
-/// A walk through a program over these arrays.
+/// A walk through a program over these arrays, and whether `red` is an item there.
 #[derive(Clone, Copy)]
 pub(crate) struct Walk<'s> {
     pub(crate) profile: Profile,
     pub(crate) arrays: &'s [ArrayShape],
+    pub(crate) reds: bool,
 }
 
 /// The turns of a loop.
@@ -46,7 +47,7 @@ impl Walk<'_> {
         met: &mut Met,
     ) -> Result<(), AllocError>
         ensures { (defined : Defined) → Stands self.now.profile defined → OnOk result (met_by met.new
-            ≡ met_one (arrays_by self.now) 0 (program_copy defined (view shows.now) (view body.now)) (met_by met.old)) }
+            ≡ met_one (ground_by self.now) 0 (program_copy defined (view shows.now) (view body.now)) (met_by met.old)) }
     {
         let root = Trail::Root;
         self.enter(&Text::Program(shows, body), &root, 0, met)?;
@@ -63,7 +64,7 @@ impl Walk<'_> {
         met: &mut Met,
     ) -> Result<(), AllocError>
         ensures { (defined : Defined) (level : ℕ) → Stands self.now.profile defined → OnOk result (met_by met.new
-            ≡ met_in (arrays_by self.now) parent (copies defined level (view body.now) (bindings_of trail.now)) (met_by met.old)) }
+            ≡ met_in (ground_by self.now) parent (copies defined level (view body.now) (bindings_of trail.now)) (met_by met.old)) }
     {
         match body {
             Value::Array(items) => self.items(items, &*trail, parent, met),
@@ -80,7 +81,7 @@ impl Walk<'_> {
         met: &mut Met,
     ) -> Result<(), AllocError>
         ensures { (defined : Defined) (level : ℕ) → Stands self.now.profile defined → OnOk result (met_by met.new
-            ≡ met_in (arrays_by self.now) parent (copies_of defined level (items_view items.now) (bindings_of trail.now)) (met_by met.old)) }
+            ≡ met_in (ground_by self.now) parent (copies_of defined level (items_view items.now) (bindings_of trail.now)) (met_by met.old)) }
     {
         for item in items {
             self.statement(item, &*trail, parent, met)?;
@@ -98,7 +99,7 @@ impl Walk<'_> {
         met: &mut Met,
     ) -> Result<(), AllocError>
         ensures { (defined : Defined) (level : ℕ) → Stands self.now.profile defined → OnOk result (met_by met.new
-            ≡ met_one (arrays_by self.now) parent (copy defined level (view statement.now) (bindings_of trail.now)) (met_by met.old)) }
+            ≡ met_one (ground_by self.now) parent (copy defined level (view statement.now) (bindings_of trail.now)) (met_by met.old)) }
     {
         let text = text_of(self.profile, statement);
         let task = task_of(parent, met.entries, &text);
@@ -116,8 +117,8 @@ impl Walk<'_> {
         met: &mut Met,
     ) -> Result<(), AllocError>
         ensures { (defined : Defined) (level : ℕ) → Stands self.now.profile defined → OnOk result (met_by met.new
-            ≡ met_in (arrays_by self.now) task (second_copies defined level (bindings_of trail.now) (text_by defined text.entry))
-            (met_in (arrays_by self.now) task (first_copies defined level (bindings_of trail.now) (text_by defined text.entry)) (met_by met.old))) }
+            ≡ met_in (ground_by self.now) task (second_copies defined level (bindings_of trail.now) (text_by defined text.entry))
+            (met_in (ground_by self.now) task (first_copies defined level (bindings_of trail.now) (text_by defined text.entry)) (met_by met.old))) }
     {
         match text {
             Text::If(_, one, two) => {
@@ -149,7 +150,7 @@ impl Walk<'_> {
         met: &mut Met,
     ) -> Result<(), AllocError>
         ensures { (defined : Defined) (level : ℕ) → Stands self.now.profile defined → OnOk result (met_by met.new
-            ≡ met_in (arrays_by self.now) parent (each_turn level (bindings_of trail.now)
+            ≡ met_in (ground_by self.now) parent (each_turn level (bindings_of trail.now)
             (λ n. copies defined (level + 1) (view body.now) ((turns.entry.variable.now, n) ∷ bindings_of trail.now))
             turns.entry.first (turns.entry.behind - turns.entry.first)) (met_by met.old)) }
     {
@@ -173,7 +174,7 @@ impl Walk<'_> {
         met: &mut Met,
     ) -> Result<(), AllocError>
         ensures { (defined : Defined) (level : ℕ) → Stands self.now.profile defined → OnOk result (met_by met.new
-            ≡ met_one (arrays_by self.now) parent (at level (bindings_of trail.now) OneTurn
+            ≡ met_one (ground_by self.now) parent (at level (bindings_of trail.now) OneTurn
             (copies defined (level + 1) (view body.now) ((turn.entry.name.now, turn.entry.number) ∷ bindings_of trail.now)) Done) (met_by met.old)) }
     {
         self.enter(&Text::Turn, trail, parent, met)?;
@@ -190,7 +191,7 @@ impl Walk<'_> {
         met: &mut Met,
     ) -> Result<(), AllocError>
         ensures { (defined : Defined) (level : ℕ) → OnOk result (met_by met.new
-            ≡ met_at (arrays_by self.now) parent (record { level = level; variables = bindings_of trail.now; text = text_by defined text.now }) (met_by met.old)) }
+            ≡ met_at (ground_by self.now) parent (record { level = level; variables = bindings_of trail.now; text = text_by defined text.now }) (met_by met.old)) }
     {
         let entry = met.entries;
         let Some(next) = entry.checked_add(1) else {
@@ -202,14 +203,21 @@ impl Walk<'_> {
     }
 }
 
-/// The entry of the task in whose body the bodies of a statement are.
+/// The entry of the task in whose body the bodies of a statement are; for a region, a group of the program's own body, its own.
 fn task_of(parent: u32, entry: u32, text: &Text<'_>) -> u32
     ensures { (defined : Defined) → result ≡ task_of parent entry (text_by defined text.now) }
 {
     match text {
         Text::Task(_, _) => entry,
+        Text::Group(_, _) | Text::GroupBy(_, _, _) => region_of(parent, entry),
         _ => parent,
     }
+}
+
+fn region_of(parent: u32, entry: u32) -> u32
+    ensures { result ≡ region_of parent entry }
+{
+    if parent == 0 { entry } else { parent }
 }
 
 ghost use Rattle.ot_program.specs.Meanings.{each};
@@ -225,7 +233,7 @@ impl Walk<'_> {
         noted: &mut Vec<Item>,
     ) -> Result<(), AllocError>
         ensures { (defined : Defined) → OnOk result (noted.new.items
-            ≡ noted.old.items ++ map (item_of parent entry) (sections_at (arrays_by self.now) (bindings_of trail.now) (text_by defined text.now))) }
+            ≡ noted.old.items ++ map (item_of parent entry) (sections_at (ground_by self.now) (bindings_of trail.now) (text_by defined text.now))) }
     {
         match text {
             Text::Task(clauses, _) => self.note_clauses(clauses, trail, parent, entry, noted),
@@ -243,7 +251,7 @@ impl Walk<'_> {
         noted: &mut Vec<Item>,
     ) -> Result<(), AllocError>
         ensures { OnOk result (noted.new.items
-            ≡ noted.old.items ++ map (item_of parent entry) (sections_in (arrays_by self.now) (bindings_of trail.now) (view clauses.now))) }
+            ≡ noted.old.items ++ map (item_of parent entry) (sections_in (ground_by self.now) (bindings_of trail.now) (view clauses.now))) }
     {
         match clauses {
             Value::Array(items) => self.note_each(items, trail, parent, entry, noted),
@@ -260,7 +268,7 @@ impl Walk<'_> {
         noted: &mut Vec<Item>,
     ) -> Result<(), AllocError>
         ensures { OnOk result (noted.new.items
-            ≡ noted.old.items ++ map (item_of parent entry) (sections_among (arrays_by self.now) (bindings_of trail.now) (each (items_view clauses.now)))) }
+            ≡ noted.old.items ++ map (item_of parent entry) (sections_among (ground_by self.now) (bindings_of trail.now) (each (items_view clauses.now)))) }
     {
         for clause in clauses {
             self.note_clause(clause, trail, parent, entry, noted)?;
@@ -277,9 +285,9 @@ impl Walk<'_> {
         noted: &mut Vec<Item>,
     ) -> Result<(), AllocError>
         ensures { OnOk result (noted.new.items
-            ≡ noted.old.items ++ map (item_of parent entry) (section_as (arrays_by self.now) (bindings_of trail.now) (view clause.now))) }
+            ≡ noted.old.items ++ map (item_of parent entry) (section_as (ground_by self.now) (bindings_of trail.now) (view clause.now))) }
     {
-        let Some(named) = depends(clause) else {
+        let Some(named) = depends(clause, self.reds) else {
             return Ok(());
         };
         let section = section_of(self.arrays, named, trail)?;

@@ -4,7 +4,8 @@ pub mod StrongestLemmas
 pub mod TouchedLemmas
 pub mod HoldingLemmas
 pub mod LeadingLemmas
-pub mod SameLemmas
+pub mod ByteLemmas
+pub mod SamePartLemmas
 pub mod FitLemmas
 pub mod MakeLemmas
 pub mod PartLemmas

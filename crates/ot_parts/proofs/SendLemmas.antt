@@ -7,17 +7,24 @@ use Rattle.ot_parts.proofs.part.Part.TheLaws.TheKnot.{both_send-Part, both_sync-
 use Rattle.ot_parts.specs.contracts.assigns.Assigns as assigns
 use Rattle.ot_parts.specs.contracts.frames.Frame as frame
 use Rattle.ot_parts.specs.contracts.frames.Frames as frames
+use Rattle.ot_parts.specs.contracts.listed.Listed as listed
 use Rattle.ot_parts.specs.contracts.part.Part as part
 use Rattle.ot_parts.specs.contracts.rest.Rest as rest
 use Rattle.ot_parts.specs.contracts.rest.Rest.TheInside as inside
 use Rattle.ot_parts.specs.contracts.run.Run as run
 use Rattle.ot_parts.specs.contracts.run.Tested as tested
 
+listed-send : IsSend listed.the_row
+listed-send = search (sendable, crosses, send-Expr) depth 80 fits 20000
+
+listed-sync : IsSync listed.the_row
+listed-sync = search (sendable, crosses, sync-Expr) depth 80 fits 20000
+
 assigns-send : IsSend assigns.the_row
-assigns-send = search (sendable, crosses, send-Expr, sync-Expr) depth 80 fits 20000
+assigns-send = search (sendable, crosses, listed-send, listed-sync) depth 80 fits 20000
 
 assigns-sync : IsSync assigns.the_row
-assigns-sync = search (sendable, crosses, send-Expr, sync-Expr) depth 80 fits 20000
+assigns-sync = search (sendable, crosses, listed-send, listed-sync) depth 80 fits 20000
 
 run-send : IsSend run.the_row
 run-send = search (sendable, crosses, assigns-send) depth 80 fits 20000

@@ -1,6 +1,5 @@
 -- The bodies that lists of sets and folds stand for.
-use Rattle.std.specs.Prelude.{List, map, Option, Some, None, Vec, ◌≡◌}
-use Rattle.std.specs.Global.{Global}
+use Rattle.std.specs.Prelude.{List, map, Option, Some, None, ◌≡◌}
 use Rattle.ot_model.specs.Tree.{S, Set, Fold, Body, End, body_of, E}
 use Rattle.ot_model.specs.View.{expr_of}
 use Rattle.ot_parts.specs.declared.assign.Assign.{Assign}
@@ -18,9 +17,9 @@ abbrev pub assigns_of : List Assign → Body
 assigns_of assigns = body_of (map assign_of assigns)
 
 -- those of a list, where there is one
-abbrev pub assigns_in : Option (Vec Assign Global) → Body
+abbrev pub assigns_in : Option Body → Body
 assigns_in None = End
-assigns_in (Some list) = assigns_of list.items
+assigns_in (Some list) = list
 
 -- Runs of sets and folds, prepared: with the cells that they touch, and in which mode.
 

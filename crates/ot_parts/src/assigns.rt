@@ -1,7 +1,9 @@
 ghost use Rattle.std.specs.Prelude.{◌≡◌, ◌↔◌, IsTrue, IfOk, MatchResult};
-ghost use Rattle.ot_parts.specs.Assigns.{assign_of, assigns_of};
+ghost use Rattle.ot_parts.specs.Assigns.{assigns_of};
 
 use crate::assign::Assign;
+use crate::bytes::same_bytes;
+use crate::listed::Listed;
 use std::alloc::{AllocError, Global};
 use std::marker::Model;
 use std::sync::Arc;
@@ -10,7 +12,7 @@ use std::sync::Arc;
 #[derive(Debug, Drop)]
 pub struct Assigns {
     /// None where there are none, which takes no memory.
-    list: Option<Arc<Vec<Assign>>>,
+    list: Option<Arc<Listed>>,
 }
 
 impl Model for Assigns {
@@ -31,6 +33,7 @@ impl Model for Assigns {
 impl Assigns {
     ghost use Rattle.ot_model.specs.Tree.{End};
     ghost use Rattle.ot_parts.specs.Parts.{leading, leading_len};
+    ghost use Rattle.ot_parts.specs.Bytes.{bytes_of};
 
     /// None. It takes no memory.
     pub(crate) fn none() -> Assigns
@@ -46,7 +49,7 @@ impl Assigns {
         if list.is_empty() {
             return Ok(Assigns::none());
         }
-        match Arc::new(alloc, list) {
+        match Arc::new(alloc, Listed::new(alloc, list)?) {
             Ok(list) => Ok(Assigns { list: Some(list) }),
             Err(_) => Err(AllocError),
         }
@@ -94,31 +97,19 @@ impl Assigns {
     pub fn same_as(&self, other: &Assigns) -> bool
         ensures { IsTrue result ↔ self.now ≡ other.now }
     {
-        same_assigns(self.as_slice(), other.as_slice())
+        // Both are lists of sets and folds: of these alone the bytes tell which they are.
+        let _one = self.as_slice();
+        let _two = other.as_slice();
+        same_bytes(self.bytes(), other.bytes())
     }
-}
 
-fn same_assign(one: &Assign, two: &Assign) -> bool
-    ensures { IsTrue result ↔ assign_of one.now ≡ assign_of two.now }
-{
-    match (one, two) {
-        (Assign::Set(c, a), Assign::Set(d, x)) => c == d && a.same_as(x),
-        (Assign::Fold(o, c, a), Assign::Fold(p, d, x)) => o == p && c == d && a.same_as(x),
-        (_, _) => false,
-    }
-}
-
-/// Whether they are the same sets and folds.
-fn same_assigns(one: &[Assign], two: &[Assign]) -> bool
-    ensures { IsTrue result ↔ assigns_of one.now ≡ assigns_of two.now }
-{
-    if one.len() != two.len() {
-        return false;
-    }
-    for i in 0..one.len() {
-        if !same_assign(&one[i], &two[i]) {
-            return false;
+    /// Their bytes.
+    fn bytes(&self) -> &[u8]
+        ensures { result.now ≡ bytes_of self.now }
+    {
+        match &self.list {
+            None => &[],
+            Some(list) => list.bytes(),
         }
     }
-    true
 }

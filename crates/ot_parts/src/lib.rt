@@ -4,15 +4,18 @@
 
 mod assign;
 mod assigns;
+mod bytes;
 mod frames;
 mod gather;
 mod held;
 mod holding;
 mod leading;
+mod listed;
 mod making;
 mod part;
 mod rest;
 mod run;
+mod same;
 mod touched;
 mod weigh;
 
@@ -23,3 +26,4 @@ pub use making::parts_of;
 pub use part::Part;
 pub use rest::Rest;
 pub use run::{Run, Tested};
+pub use same::same_parts;

@@ -1,16 +1,16 @@
 ghost use Rattle.std.specs.Prelude.{◌≡◌, ℕ, List, Some, IfOk, MatchOption, option_map};
 ghost use Rattle.std.specs.Arc.{arc_value};
 ghost use Rattle.ot_model.specs.Names.{OneNamedIn, NamedIn};
-ghost use Rattle.ot_model.specs.Tree.{Next, End, append};
+ghost use Rattle.ot_model.specs.Tree.{If, Task, Wait, Group, Next, End, append};
 ghost use Rattle.ot_model.specs.View.{stmt_of, stmts_of};
 ghost use Rattle.ot_parts.specs.Assigns.{assign_of, assigns_of};
-ghost use Rattle.ot_parts.specs.Parts.{leading, part_of, parts_of};
+ghost use Rattle.ot_parts.specs.Parts.{leading, part_of, parts_of, body_in};
 ghost use Rattle.ot_parts.specs.Modes.{AssignsFit};
 
 use crate::assign::Assign;
 use crate::part::Part;
 use crate::run::{Run, Tested};
-use ot_model::{Decl, Stmt};
+use ot_model::{Cell, Decl, Fold, Stmt};
 use std::alloc::{AllocError, Global};
 use std::mem;
 use std::sync::Arc;
@@ -59,27 +59,73 @@ fn part(alloc: Global, run: Vec<Assign>, stmt: &Stmt) -> Result<Part, AllocError
         Stmt::If(test, one, two) => {
             let run = Tested::new(alloc, run, test.copy(alloc)?)?;
             let one = parts_of(alloc, one)?;
-            let two = parts_of(alloc, two)?;
-            Ok(Part::If(run, one, two))
+            if_part(alloc, run, two, one)
         }
-        Stmt::Task(decl, body) => {
-            let run = Run::new(alloc, run)?;
-            let decl = decl.copy(alloc)?;
-            let body = parts_of(alloc, body)?;
-            Ok(Part::Task(run, decl, body))
-        }
-        Stmt::Wait(decl) => {
-            let run = Run::new(alloc, run)?;
-            Ok(Part::Wait(run, copy_wait(alloc, decl.as_ref())?))
-        }
-        Stmt::Group(op, cells, body) => {
-            let run = Run::new(alloc, run)?;
-            let cells = cells.as_slice().to_vec(alloc)?;
-            let body = parts_of(alloc, body)?;
-            Ok(Part::Group(run, *op, cells, body))
-        }
+        Stmt::Task(decl, body) => task_part(alloc, Run::new(alloc, run)?, decl, body),
+        Stmt::Wait(decl) => wait_part(alloc, Run::new(alloc, run)?, decl.as_ref()),
+        Stmt::Group(op, cells, body) => group_part(
+            alloc,
+            Run::new(alloc, run)?,
+            *op,
+            cells.as_slice(),
+            body,
+        ),
         Stmt::Set(_, _) | Stmt::Fold(_, _, _) => unreachable!(),
     }
+}
+
+/// A run with a condition, and the `if` behind it, whose first body has these parts.
+#[cycle(making)]
+fn if_part(
+    alloc: Global,
+    run: Tested,
+    two: &Vec<Stmt>,
+    one: Arc<Vec<Part>>,
+) -> Result<Part, AllocError>
+    requires named { (lens : List ℕ) × NamedIn lens (stmts_of two.now.items) }
+    ensures run { IfOk result (λ p. (part_of p).run ≡ run.assigns) }
+    ensures control { IfOk result (λ p. (part_of p).control ≡ Some (If run.test (body_in one) (stmts_of two.now.items))) }
+{
+    let two = parts_of(alloc, two)?;
+    Ok(Part::If(run, one, two))
+}
+
+/// A run, and a task behind it.
+#[cycle(making)]
+fn task_part(alloc: Global, run: Run, decl: &Decl, body: &Vec<Stmt>) -> Result<Part, AllocError>
+    requires named { (lens : List ℕ) × NamedIn lens (stmts_of body.now.items) }
+    ensures run { IfOk result (λ p. (part_of p).run ≡ run.assigns) }
+    ensures control { IfOk result (λ p. (part_of p).control ≡ Some (Task decl.now (stmts_of body.now.items))) }
+{
+    let decl = decl.copy(alloc)?;
+    let body = parts_of(alloc, body)?;
+    Ok(Part::Task(run, decl, body))
+}
+
+/// A run, and a wait behind it.
+fn wait_part(alloc: Global, run: Run, decl: Option<&Decl>) -> Result<Part, AllocError>
+    ensures run { IfOk result (λ p. (part_of p).run ≡ run.assigns) }
+    ensures control { IfOk result (λ p. (part_of p).control ≡ Some (Wait (option_map (λ d. d.now) decl.entry))) }
+{
+    Ok(Part::Wait(run, copy_wait(alloc, decl)?))
+}
+
+/// A run, and a group behind it.
+#[cycle(making)]
+fn group_part(
+    alloc: Global,
+    run: Run,
+    op: Fold,
+    cells: &[Cell],
+    body: &Vec<Stmt>,
+) -> Result<Part, AllocError>
+    requires named { (lens : List ℕ) × NamedIn lens (stmts_of body.now.items) }
+    ensures run { IfOk result (λ p. (part_of p).run ≡ run.assigns) }
+    ensures control { IfOk result (λ p. (part_of p).control ≡ Some (Group op cells.now (stmts_of body.now.items))) }
+{
+    let cells = cells.to_vec(alloc)?;
+    let body = parts_of(alloc, body)?;
+    Ok(Part::Group(run, op, cells, body))
 }
 
 /// A copy of what a wait declares.

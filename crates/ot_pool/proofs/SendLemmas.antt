@@ -27,7 +27,8 @@ hall-send = search (sendable, crosses, job-send) depth 80 fits 20000
 
 -- and so may the value under their lock
 inside-send : (L : RattleType) (g : Ghosts L.Denot) → IsSend (inside.the_row L g)
-inside-send L g = declared_send (inside.the_type L g) (hall-send, (search (sendable, crosses) depth 80, (ledger.the_send L g, (search (sendable, crosses) depth 80, tt))))
+inside-send L g =
+    declared_send (inside.the_type L g) (hall-send, (search (sendable, crosses) depth 80, (search (sendable, crosses) depth 80, (ledger.the_send L g, (search (sendable, crosses) depth 80, tt)))))
 
 pub hub-send : (L : RattleType) (g : Ghosts L.Denot) → IsSend (hub.the_row L g)
 hub-send L g = record { owned = λ d vs x. ((inside-send L g).owned x.0 vs, tt); leaving = λ k d w. tt }

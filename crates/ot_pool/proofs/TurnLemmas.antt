@@ -1,5 +1,5 @@
 -- What the Hall's answers come to in a turn.
-use Rattle.std.proofs.Common.{◌≡◌, inl, ℕ, sym, subst, false}
+use Rattle.std.proofs.Common.{◌≡◌, inl, ℕ, refl, sym, subst, false}
 use Rattle.std.specs.Prelude.{Option, Some, None, Ok, Err}
 use Rattle.ot_check.specs.Jobs.{Spec, IsMeaning}
 use Rattle.ot_check.specs.declared.job.Outcome.{Outcome}
@@ -10,6 +10,7 @@ use Rattle.ot_job.specs.declared.piece.Refused.{Refused}
 use Rattle.ot_core.specs.Floors.{job_of, Floor, IsWorking, RefusesIn, FailsIn, RunsShort}
 use Rattle.ot_core.specs.declared.hall.SubmitFault.TheVariants.{Memory}
 use Rattle.ot_book.specs.declared.executor.NotDone.TheVariants as refused
+use Rattle.ot_pool.specs.declared.tickets.Ticket.{Ticket}
 use Rattle.ot_pool.specs.Shared.{Shared, Turns, ReturnsPiece, BreaksItsJob, Collects, Leaves}
 
 -- a job that works does so where nothing has changed
@@ -31,30 +32,33 @@ breaks old mid new t done back why same refused before fails =
 
 -- ---- turns
 
-pub turns : (P : Floor → Floor → Type 0) (s now : Shared) (g : Floor) → s ≡ now → s.closed ≡ false → P s.floor g → Turns P now (record { floor = g; closed = s.closed })
-turns P s now g is unset does = subst (λ o. Turns P o (record { floor = g; closed = s.closed })) is (record { is_open = unset; does = does; still = unset })
+pub turns : (P : Floor → Floor → Type 0) (s now : Shared) (g : Floor) → s ≡ now → s.closed ≡ false → P s.floor g → Turns P now (record { floor = g; numbers = s.numbers; closed = s.closed })
+turns P s now g is unset does =
+    subst (λ o. Turns P o (record { floor = g; numbers = s.numbers; closed = s.closed })) is (record { is_open = unset; does = does; numbered = refl; still = unset })
 
 pub counts-none : (s now : Shared) (t : ℕ) (done back : Done) (why : Refused) (mid g : Floor) → s ≡ now → s.closed ≡ false → back ≡ done
     → RefusesIn (job_of s.floor.jobs t) done why → mid ≡ s.floor → FailsIn mid t back (job_of mid.jobs t) g
-    → ReturnsPiece now t done None (record { floor = g; closed = s.closed })
+    → ReturnsPiece now t done None (record { floor = g; numbers = s.numbers; closed = s.closed })
 counts-none s now t done back why mid g is unset same refused before fails =
     inl (turns (BreaksItsJob t done) s now g is unset (breaks s.floor mid g t done back why same refused before fails))
 
 -- ---- a collect in two calls
 
 -- the job that was taken out is of this spec
-pub collects-ended : (old new : Shared) (t : ℕ) (job : Live) (spec : Spec) (outcome : Outcome) → Leaves old t (Some (Ok job)) new → IsOf spec job
-    → state_of job ≡ Ended → NoneOut job → IsMeaning spec outcome → Collects old t spec (Some (Ok outcome)) new
-collects-ended old new t job spec outcome leaves of state calm means = record {
-  is_open = leaves.is_open;
-  does = ((record { job = job; is = leaves.does.is; of = of }, state, calm), means, leaves.does.new_is);
-  still = leaves.still;
+pub collects-ended : (old new : Shared) (k : Ticket) (job : Live) (spec : Spec) (outcome : Outcome) → Leaves old k (Some (Ok job)) new → IsOf spec job
+    → state_of job ≡ Ended → NoneOut job → IsMeaning spec outcome → Collects old k.tenant spec (Some (Ok outcome)) new
+collects-ended old new k job spec outcome leaves of state calm means = record {
+  is_open = leaves.1.is_open;
+  does = ((record { job = job; is = leaves.1.does.is; of = of }, state, calm), means, leaves.1.does.new_is);
+  numbered = leaves.1.numbered;
+  still = leaves.1.still;
 }
 
-pub collects-failed : (old new : Shared) (t : ℕ) (job : Live) (spec : Spec) → Leaves old t (Some (Ok job)) new → IsOf spec job
-    → state_of job ≡ Failed → NoneOut job → Collects old t spec (Some (Err refused.Memory)) new
-collects-failed old new t job spec leaves of state calm = record {
-  is_open = leaves.is_open;
-  does = ((record { job = job; is = leaves.does.is; of = of }, state, calm), leaves.does.new_is);
-  still = leaves.still;
+pub collects-failed : (old new : Shared) (k : Ticket) (job : Live) (spec : Spec) → Leaves old k (Some (Ok job)) new → IsOf spec job
+    → state_of job ≡ Failed → NoneOut job → Collects old k.tenant spec (Some (Err refused.Memory)) new
+collects-failed old new k job spec leaves of state calm = record {
+  is_open = leaves.1.is_open;
+  does = ((record { job = job; is = leaves.1.does.is; of = of }, state, calm), leaves.1.does.new_is);
+  numbered = leaves.1.numbered;
+  still = leaves.1.still;
 }

@@ -1,2 +1,3 @@
+pub mod Tickets
 pub mod Shared
 pub mod Rounds

@@ -39,7 +39,7 @@ abbrev pub is_aborted : Claimed → Bool
 is_aborted (claimed.Aborted t) = true
 is_aborted _ = false
 
--- a worker waits, and a task is claimable
+-- a worker waits and none looks, and a task is claimable
 abbrev pub CallsWorkers : Bool → Shared → Type 0
 CallsWorkers waits s = (waits ≡ true) × ¬ (NothingAnywhere s.floor.jobs)
 

@@ -1,5 +1,5 @@
 -- What all threads share, and what each turn under the lock does to it.
-use Rattle.std.specs.Prelude.{◌≡◌, ◌+◌, ◌<◌, ◌^◌, ◌↔◌, ◌⊎◌, ℕ, length, Bool, true, false, Option, Some, None, option_map, Result, Ok, Err}
+use Rattle.std.specs.Prelude.{◌≡◌, ◌+◌, ◌<◌, ◌^◌, ◌↔◌, ◌⊎◌, ℕ, List, length, replicate, Bool, true, false, Option, Some, None, option_map, Result, Ok, Err}
 use Rattle.ot_check.specs.Jobs.{Spec}
 use Rattle.ot_check.specs.declared.job.Outcome.{Outcome}
 use Rattle.ot_job.specs.Dealings.{Live, state_of}
@@ -12,17 +12,20 @@ use Rattle.ot_book.specs.declared.executor.NotDone.TheVariants.{Memory, Closed, 
 use Rattle.ot_core.specs.Floors.{job_of, Floor, new_floor, total_of, IsFree, IsWorking, NothingAt, RefusesIn, FailsIn, AbortsJob, ClaimsSome}
 use Rattle.ot_core.specs.Floors as floors
 use Rattle.ot_core.specs.declared.hall.Collected.TheVariants as collected
+use Rattle.ot_pool.specs.Tickets.{one_more, HasTicket, next_ticket, IsNewest}
+use Rattle.ot_pool.specs.declared.tickets.Ticket.{Ticket}
 use Rattle.ot_pool.specs.declared.hub.Claimed.{Claimed}
 use Rattle.ot_pool.specs.declared.hub.Claimed.TheVariants as claimed
 
--- the jobs and units of all tenants, and the mark of closing
+-- the jobs and units of all tenants, the numbers of their newest jobs, and the mark of closing
 pub record Shared : Type 0 where
   pub floor : Floor
+  pub numbers : List ℕ
   pub closed : Bool
 
--- nobody has a job, nothing was settled, and the mark isn't set
+-- nobody has had a job, nothing was settled, and the mark isn't set
 abbrev pub new_shared : ℕ → Shared
-new_shared tenants = record { floor = new_floor tenants; closed = false }
+new_shared tenants = record { floor = new_floor tenants; numbers = replicate tenants 0; closed = false }
 
 -- whether the total has room for the units of one more piece
 abbrev pub HasRoomForUnits : Floor → Type 0
@@ -45,13 +48,21 @@ pub record FindsClosed (old new : Shared) : Type 0 where
 pub record Turns (P : Floor → Floor → Type 0) (old new : Shared) : Type 0 where
   pub is_open : old.closed ≡ false
   pub does : P old.floor new.floor
+  pub numbered : new.numbers ≡ old.numbers
+  pub still : new.closed ≡ false
+
+-- the mark isn't set, and the floor changes by one job more of the tenant
+pub record Begins (P : Floor → Floor → Type 0) (t : ℕ) (old new : Shared) : Type 0 where
+  pub is_open : old.closed ≡ false
+  pub does : P old.floor new.floor
+  pub numbered : new.numbers ≡ one_more old.numbers t
   pub still : new.closed ≡ false
 
 -- ---- submit
 
 -- the tenant has a job of this spec that begins
 abbrev pub Submits : Shared → ℕ → Spec → Shared → Type 0
-Submits old t spec new = Turns (λ f g. floors.SubmitsFor f t spec g) old new
+Submits old t spec new = Begins (λ f g. floors.SubmitsFor f t spec g) t old new
 
 -- why a spec isn't taken
 abbrev pub RefusesSpec : Shared → ℕ → NotDone → Type 0
@@ -61,9 +72,17 @@ RefusesSpec old t Memory = (old.closed ≡ false) × IsFree old.floor t
 
 -- ---- a submit in two calls: the job begins before the turn, and the turn takes it in
 
--- the tenant has this job
-abbrev pub Enters : Shared → ℕ → Live → Shared → Type 0
-Enters old t job new = Turns (λ f g. floors.EntersFor f t job g) old new
+-- the tenant has this job, and whoever brought it has a ticket, which no other job has
+pub record Enters (old : Shared) (t : ℕ) (job : Live) (ticket : Ticket) (new : Shared) : Type 0 where
+  pub begins : Begins (λ f g. floors.EntersFor f t job g) t old new
+  pub some : HasTicket old.numbers t
+  pub ticket_is : ticket ≡ next_ticket old.numbers t
+
+-- why a job isn't taken in
+abbrev pub RefusesJob : Shared → ℕ → NotDone → Type 0
+RefusesJob old t Closed = old.closed ≡ true
+RefusesJob old t Stranger = (old.closed ≡ false) × (¬ (IsFree old.floor t) ⊎ ¬ (HasTicket old.numbers t))
+RefusesJob old t Memory = (old.closed ≡ false) × IsFree old.floor t × HasTicket old.numbers t
 
 -- ---- claim
 
@@ -86,6 +105,7 @@ ClaimsAny old turn worker claimed.Closed new = FindsClosed old new
 pub record SettlesAndMarks (old : Shared) (t : ℕ) (done : Done) (n : ℕ) (new : Shared) : Type 0 where
   pub is_open : old.closed ≡ false
   pub settles : floors.SettlesFor old.floor t done n new.floor
+  pub numbered : new.numbers ≡ old.numbers
   pub bound : new.closed ≡ false ↔ HasRoomForUnits new.floor
 
 -- a piece isn't settled, and fails the job that it is of
@@ -98,6 +118,7 @@ pub record BreaksItsJob (t : ℕ) (done : Done) (old new : Floor) : Type 0 where
 pub record FailsClosed (old : Shared) (t : ℕ) (done : Done) (new : Shared) : Type 0 where
   pub closed : old.closed ≡ true
   pub fails : FailsIn old.floor t done (job_of old.floor.jobs t) new.floor
+  pub numbered : new.numbers ≡ old.numbers
   pub still : new.closed ≡ true
 
 -- a piece comes back with so many units counted, or with none
@@ -129,10 +150,14 @@ is_going _ = false
 abbrev pub IsGoing : Floor → ℕ → Type 0
 IsGoing f t = is_going (option_map (λ j. state_of j) (job_of f.jobs t)) ≡ true
 
--- the tenant's job, if it is over, whichever spec it has
-abbrev pub Leaves : Shared → ℕ → Option (Result Live NotDone) → Shared → Type 0
-Leaves old t None new = Turns (λ f g. IsGoing f t × (g ≡ f)) old new
-Leaves old t (Some (Ok job)) new = Turns (λ f g. floors.LeavesFor f t job g) old new
-Leaves old t (Some (Err Memory)) new = ⊥
-Leaves old t (Some (Err Stranger)) new = Turns (λ f g. (job_of f.jobs t ≡ None) × (g ≡ f)) old new
-Leaves old t (Some (Err Closed)) new = FindsClosed old new
+-- the ticket's job isn't there: it isn't its tenant's newest, or the tenant has none
+abbrev pub IsGone : Shared → Ticket → Type 0
+IsGone s k = ¬ (IsNewest s.numbers k) ⊎ (job_of s.floor.jobs k.tenant ≡ None)
+
+-- the ticket's job, if it is over; the job of no other ticket is taken out
+abbrev pub Leaves : Shared → Ticket → Option (Result Live NotDone) → Shared → Type 0
+Leaves old k None new = IsNewest old.numbers k × Turns (λ f g. IsGoing f k.tenant × (g ≡ f)) old new
+Leaves old k (Some (Ok job)) new = IsNewest old.numbers k × Turns (λ f g. floors.LeavesFor f k.tenant job g) old new
+Leaves old k (Some (Err Memory)) new = ⊥
+Leaves old k (Some (Err Stranger)) new = IsGone old k × Turns (λ f g. g ≡ f) old new
+Leaves old k (Some (Err Closed)) new = FindsClosed old new

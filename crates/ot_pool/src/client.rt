@@ -26,12 +26,12 @@ impl<'a, L: Ledger, R: Wait> Executor for Client<'a, L, R> {
 
     /// Submits a copy of the spec and waits until the job is over. `Closed` comes where the pool is closed, also
     /// when the job has ended, `Memory` where the copy or the job met want of memory, and `Stranger` where the
-    /// pool has no such tenant or holds another job of it.
+    /// pool has no such tenant, holds another job of it, or has no number left for one.
     fn perform(&mut self, alloc: Global, spec: &JobSpec) -> Result<Outcome, NotDone>
         ensures { IfOk result (λ outcome. IsMeaning spec.now outcome) }
     {
         let copied = spec.copy(alloc)?;
-        self.pool.submit(self.rt, alloc, self.tenant, copied)?;
-        self.pool.collect(self.rt, self.tenant, spec)
+        let ticket = self.pool.submit(self.rt, alloc, self.tenant, copied)?;
+        self.pool.collect(self.rt, ticket, spec)
     }
 }

@@ -1,6 +1,7 @@
 ghost use Rattle.std.specs.Prelude.{◌≡◌, ◌+◌, ◌<◌, vec_len, ◌≤◌, true, false, IfOk, IfErr, IfSome, IfNone, IsTrue, sum, ℕ, Some, Ok, Err, ◌↔◌};
 ghost use Rattle.std.specs.List.{sum_by};
 
+use crate::tickets::{Numbers, Ticket};
 use crate::usage::Usage;
 use ot_book::NotDone;
 use ot_check::{JobSpec, Outcome};
@@ -16,12 +17,13 @@ const UNITS_OF_A_PIECE: u64 = 20_000;
 /// The total stays below 2^63.
 const END_OF_UNITS: u64 = 0x8000_0000_0000_0000;
 
-/// What all threads share, under one lock: the live jobs of all tenants, the ledger's book of the units that
-/// were settled, and the mark of closing. Each call is one turn.
+/// What all threads share, under one lock: the live jobs of all tenants with their numbers, the ledger's book of the units
+/// that were settled, and the mark of closing. Each call is one turn.
 #[derive(Drop)]
 pub struct Hub<L: Ledger> {
     hall: Hall,
     tenants: u32,
+    numbers: Numbers,
     book: Book<L>,
     is_closed: bool,
 }
@@ -57,23 +59,25 @@ impl<L: Ledger> Model for Hub<L> {
 
     ghost coded = { Prim.hlevel (codes, body_code) };
 
-    ghost view = { λ h. record { floor = h.hall; closed = h.is_closed } };
+    ghost view = { λ h. record { floor = h.hall; numbers = h.numbers; closed = h.is_closed } };
 
-    ghost invariant = { λ h. IsKept (record { floor = h.hall; closed = h.is_closed }) h.book.total h.tenants };
+    ghost invariant = { λ h. IsKept (record { floor = h.hall; numbers = h.numbers; closed = h.is_closed }) h.book.total h.tenants };
 }
 
 impl<L: Ledger> Hub<L> {
     ghost use Rattle.ot_core.specs.Floors.{NothingAnywhere};
 
-    /// Nobody has a job, nothing was settled, and the mark isn't set.
+    /// Nobody has had a job, nothing was settled, and the mark isn't set.
     pub fn new(alloc: Global, tenants: u32, book: Book<L>) -> Result<Hub<L>, AllocError>
         requires { book.total ≡ 0 }
         ensures { IfOk result (λ hub. hub ≡ new_shared tenants) }
     {
         let hall = Hall::new(alloc, tenants)?;
+        let numbers = Numbers::new(alloc, tenants)?;
         Ok(Hub {
             hall,
             tenants,
+            numbers,
             book,
             is_closed: false,
         })
@@ -94,25 +98,35 @@ impl<L: Ledger> Hub<L> {
             return Err((spec, NotDone::Closed));
         }
         match self.hall.submit(alloc, tenant, spec) {
-            Ok(()) => Ok(()),
+            Ok(()) => {
+                self.numbers.count(tenant);
+                Ok(())
+            }
             Err((spec, SubmitFault::Busy)) => Err((spec, NotDone::Stranger)),
             Err((spec, SubmitFault::Memory)) => Err((spec, NotDone::Memory)),
         }
     }
 
-    /// Takes in a job for a tenant that has none: the turn of a submit whose job was made before, with the lock free.
-    /// Where it isn't taken, the job comes back and nothing changes.
-    pub fn enter(&mut self, tenant: u32, job: Job) -> Result<(), (Job, NotDone)>
-        ensures entered { IfOk result (λ _. Enters self.old tenant job self.new) }
+    /// Takes in a job for a tenant that has none: the turn of a submit whose job was made before, with the lock free. By the
+    /// ticket whoever brought it takes it out. Where it isn't taken, the job comes back and nothing changes. `Stranger` comes
+    /// also where the tenant has had 2^64 - 2 jobs, and no number is left.
+    pub(crate) fn enter(&mut self, tenant: u32, job: Job) -> Result<Ticket, (Job, NotDone)>
+        ensures entered { IfOk result (λ ticket. Enters self.old tenant job ticket self.new) }
         ensures submitted { IfOk result (λ _. (spec : Spec) → Starts spec job → Submits self.old tenant spec self.new) }
-        ensures refused { IfErr result (λ e. RefusesSpec self.old tenant e.1) }
+        ensures refused { IfErr result (λ e. RefusesJob self.old tenant e.1) }
         ensures back { IfErr result (λ e. (e.0 ≡ job) × (self.new ≡ self.old)) }
     {
         if self.is_closed {
             return Err((job, NotDone::Closed));
         }
+        let Some(ticket) = self.numbers.ticket(tenant) else {
+            return Err((job, NotDone::Stranger));
+        };
         match self.hall.enter(tenant, job) {
-            Ok(()) => Ok(()),
+            Ok(()) => {
+                self.numbers.count(tenant);
+                Ok(ticket)
+            }
             Err((job, SubmitFault::Busy)) => Err((job, NotDone::Stranger)),
             Err((job, SubmitFault::Memory)) => Err((job, NotDone::Memory)),
         }
@@ -155,6 +169,7 @@ impl<L: Ledger> Hub<L> {
         let Hub {
             hall,
             tenants: _,
+            numbers: _,
             book,
             is_closed,
         } = self;
@@ -191,15 +206,19 @@ impl<L: Ledger> Hub<L> {
         }
     }
 
-    /// Takes the tenant's job out, if it is over, whichever spec it has: the turn of a collect. What the client of a spec is
-    /// told of it is `outcome_of`, with the lock free. None comes where the job isn't over, `Stranger` where the tenant
-    /// has none.
-    pub fn leave(&mut self, tenant: u32) -> Option<Result<Job, NotDone>>
-        ensures { Leaves self.old tenant result self.new }
+    /// Takes the ticket's job out, if it is over: the turn of a collect. What the client of a spec is told of it is
+    /// `outcome_of`, with the lock free. None comes where the job isn't over, `Stranger` where the ticket's tenant has none, or
+    /// a job of another ticket, which stays.
+    pub(crate) fn leave(&mut self, ticket: &Ticket) -> Option<Result<Job, NotDone>>
+        ensures { Leaves self.old ticket.now result self.new }
     {
         if self.is_closed {
             return Some(Err(NotDone::Closed));
         }
+        if !self.numbers.is_newest(ticket) {
+            return Some(Err(NotDone::Stranger));
+        }
+        let tenant = ticket.tenant();
         match self.hall.state(tenant) {
             None => return Some(Err(NotDone::Stranger)),
             Some(State::Working | State::Failing) => return None,
@@ -268,14 +287,15 @@ ghost use Rattle.ot_check.specs.Jobs.{IsMeaning, Spec};
 ghost use Rattle.ot_job.specs.Dealings.{Starts, IsOf, IsOver, state_of};
 ghost use Rattle.ot_book.specs.declared.executor.NotDone.TheVariants.{Stranger};
 ghost use Rattle.ot_pool.specs.Rounds.{is_aborted, is_pending};
-ghost use Rattle.ot_pool.specs.Shared.{new_shared, Submits, Enters, RefusesSpec, ClaimsAny, ReturnsPiece, Collects, Leaves, Shared, HasRoomForUnits};
+ghost use Rattle.ot_pool.specs.Shared.{new_shared, Submits, Enters, RefusesSpec, RefusesJob, ClaimsAny, ReturnsPiece, Collects, Leaves, Shared, HasRoomForUnits};
+ghost use Rattle.ot_pool.specs.declared.tickets.Ticket.{Ticket};
 
 /// What whoever submitted this spec is told of a job that is over and was taken out. It takes no lock: with the turn
 /// that took the job out it is a collect. `Stranger` comes where the job is of another spec, which is let go then, and
 /// `Memory` where it has failed.
-pub fn outcome_of(job: Job, spec: &JobSpec) -> Result<Outcome, NotDone>
+pub(crate) fn outcome_of(job: Job, spec: &JobSpec) -> Result<Outcome, NotDone>
     requires over { IsOver (state_of job) }
-    ensures collected { (old new : Shared) (t : ℕ) → Leaves old t (Some (Ok job)) new → IsOf spec.now job → Collects old t spec.now (Some result) new }
+    ensures collected { (old new : Shared) (k : Ticket) → Leaves old k (Some (Ok job)) new → IsOf spec.now job → Collects old k.tenant spec.now (Some result) new }
     ensures strange { ¬ (IsOf spec.now job) → result ≡ Err Stranger }
     ensures meaning { IfOk result (λ outcome. IsMeaning spec.now outcome) }
 {

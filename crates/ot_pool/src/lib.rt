@@ -13,13 +13,14 @@ mod gate;
 mod hub;
 mod locked;
 mod pool;
+mod tickets;
 mod usage;
 mod worker;
 
 pub use client::Client;
 pub use crew::{NotStarted, Staffed, staffed};
 pub use gate::{Gate, OpenGate};
-pub use hub::{Claimed, Hub, outcome_of};
+pub use hub::{Claimed, Hub};
 pub use pool::{Pool, close, totals};
 pub use usage::Usage;
 pub use worker::work;

@@ -3,18 +3,33 @@ ghost use Rattle.std.specs.List.{sum_by, All};
 
 use crate::hub::{Claimed, Hub, outcome_of};
 use crate::locked::Locked;
+use crate::tickets::Ticket;
 use crate::usage::Usage;
 use ot_book::NotDone;
 use ot_check::{JobSpec, Outcome};
 use ot_job::{Done, Job, Piece};
 use std::alloc::{AllocError, Global};
+use std::hint::spin_loop;
 use std::sync::ledger::{Blank, Ledger, Share};
-use std::sync::{Condvar, Mutex, Wait};
+use std::sync::{Condvar, Mutex, MutexGuard, Wait};
 use std::thread::yield_now;
 
 /// How often in one call a thread that finds nothing lets the lock and the processor go and looks again, before
 /// it waits.
 const LOOKS: u32 = 20;
+
+/// How often a worker looks where no other one does: so that for a while behind a job somebody is awake to claim the next
+/// one's first task, and nobody has to be woken for it.
+const LAST_LOOKS: u32 = 400;
+
+/// How many turns a thread that finds the lock held takes, with the processor let go behind each, before it may sleep at it.
+const TURNS: u32 = 20;
+
+/// How often it tries in a turn.
+const TRIES: u32 = 100;
+
+/// How often the processor is told to pause behind a try.
+const PAUSES: u32 = 10;
 
 /// What workers and clients share. A thread after whose hold of the lock somebody who waits may go on tells all
 /// that wait, once it has let the lock go.
@@ -48,12 +63,8 @@ impl<L: Ledger> Pool<L> {
             shares.push(rest.split_off(1, 0))?;
         }
         let hub = Hub::new(alloc, tenants, book)?;
-        let locked = Locked {
-            hub,
-            worker_waits: false,
-        };
         let pool = Pool {
-            locked: Mutex::new(locked),
+            locked: Mutex::new(Locked::new(hub)),
             told: Condvar::new(),
         };
         Ok((pool, shares))
@@ -81,7 +92,7 @@ impl<L: Ledger> Pool<L> {
             None => None,
         };
         let mut looks = 0u32;
-        let mut locked = self.locked.lock(rt);
+        let mut locked = self.hold(rt);
         let mut round = locked.round(alloc, turn, back, share, worker);
         for _ in rt.forever() {
             let (claimed, tells) = round;
@@ -101,13 +112,15 @@ impl<L: Ledger> Pool<L> {
                         drop(locked);
                         held = None;
                         self.tell(true);
-                        locked = self.locked.lock(rt);
-                    } else if looks < LOOKS {
+                        locked = self.hold(rt);
+                    } else if looks < LOOKS || (looks < LAST_LOOKS && locked.lookers == 0) {
                         looks += 1;
+                        locked.begin_look();
                         drop(locked);
                         held = None;
                         yield_now();
-                        locked = self.locked.lock(rt);
+                        locked = self.hold(rt);
+                        locked.end_look();
                     } else {
                         locked.worker_waits = true;
                         locked = self.told.wait(rt, locked);
@@ -119,44 +132,62 @@ impl<L: Ledger> Pool<L> {
         unreachable!()
     }
 
-    /// Starts the tenant's job.
+    // Takes the lock. It is held for a microsecond or two, which is less than it takes to sleep and to be woken; and as long
+    // as a thread sleeps at it, each hold ends with a call of the system. So whoever finds it held tries again.
+    fn hold<R: Wait>(&self, rt: &R) -> MutexGuard<'_, Locked<L>> {
+        for _ in 0..TURNS {
+            for _ in 0..TRIES {
+                if let Some(locked) = self.locked.try_lock() {
+                    return locked;
+                }
+                pause();
+            }
+            yield_now();
+        }
+        self.locked.lock(rt)
+    }
+
+    /// Starts the tenant's job, which is taken out by the ticket.
     pub(crate) fn submit<R: Wait>(
         &self,
         rt: &R,
         alloc: Global,
         tenant: u32,
         spec: JobSpec,
-    ) -> Result<(), NotDone> {
+    ) -> Result<Ticket, NotDone> {
         // The job is made, and let go where it is refused, with the lock free: both take as long as its program is.
         let Ok(job) = Job::start(alloc, spec) else {
             return Err(NotDone::Memory);
         };
-        let mut locked = self.locked.lock(rt);
-        if let Err((job, refusal)) = locked.hub.enter(tenant, job) {
-            drop(locked);
-            drop(job);
-            return Err(refusal);
-        }
-        let calls = locked.calls_workers();
+        let mut locked = self.hold(rt);
+        let entered = locked.enter(tenant, job);
         drop(locked);
-        self.tell(calls);
-        Ok(())
+        match entered {
+            Ok((ticket, tells)) => {
+                self.tell(tells);
+                Ok(ticket)
+            }
+            Err((job, refusal)) => {
+                drop(job);
+                Err(refusal)
+            }
+        }
     }
 
-    /// Waits until the tenant's job is over, and takes it out. The job is compared with the spec and looked at with the
+    /// Waits until the ticket's job is over, and takes it out. The job is compared with the spec and looked at with the
     /// lock free, since that takes as long as its program is.
     pub(crate) fn collect<R: Wait>(
         &self,
         rt: &R,
-        tenant: u32,
+        ticket: Ticket,
         spec: &JobSpec,
     ) -> Result<Outcome, NotDone>
         ensures { IfOk result (λ outcome. IsMeaning spec.now outcome) }
     {
-        let mut locked = self.locked.lock(rt);
+        let mut locked = self.hold(rt);
         let mut looks = 0u32;
         for _ in rt.forever() {
-            match locked.hub.leave(tenant) {
+            match locked.leave(&ticket) {
                 Some(Ok(job)) => {
                     drop(locked);
                     return outcome_of(job, spec);
@@ -167,7 +198,7 @@ impl<L: Ledger> Pool<L> {
                         looks += 1;
                         drop(locked);
                         yield_now();
-                        locked = self.locked.lock(rt);
+                        locked = self.hold(rt);
                     } else {
                         locked = self.told.wait(rt, locked);
                     }
@@ -185,9 +216,16 @@ impl<L: Ledger> Pool<L> {
     }
 }
 
+// A pause of 50 to 500 ns, by the kind of processor.
+fn pause() {
+    for _ in 0..PAUSES {
+        spin_loop();
+    }
+}
+
 /// Closes the pool: from now on workers come home and clients are answered `Closed`.
 pub fn close<L: Ledger, R: Wait>(rt: &R, pool: &Pool<L>) {
-    pool.locked.lock(rt).hub.close();
+    pool.locked.lock(rt).close();
     pool.told.notify_all();
 }
 
@@ -204,5 +242,5 @@ pub fn totals<L: Ledger, R: Wait>(
     ensures total { IfOk result (λ usage. usage.total ≡ sum_by (λ s. s.amount) shares.items) }
     ensures adds_up { IfOk result (λ usage. sum usage.by_tenant.items ≡ usage.total) }
 {
-    pool.locked.lock(rt).hub.totals(alloc, shares)
+    pool.locked.lock(rt).totals(alloc, shares)
 }

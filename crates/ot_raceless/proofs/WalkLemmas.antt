@@ -282,12 +282,12 @@ mutual
       let it = event me k Touches (uses_by way own s (If e a b)) in
       let one = events way own me (k + 1) a (bump 0 1 s) in
       let two = events way own me (k + 1 + size a) b (bump 0 1 s) in
-      let part = either (condition s e) one two in
+      let part = either (way.condition s e) one two in
       let test = goes_using es me own opened children from n it gathered (stands_first es n it part stands) refl
       (λ u there. may_use own opened children u
       (harmless own opened children (touches (If e a b)) u (λ offence. or_false_left (is_marked own opened children (If e a b) offence) (ends_with_children (If e a b) offence) (clean offence)) there)) in
       let branch = either_of (λ part. StandsAt es (n + 1) part → Goes es me own opened (behind_one children (If e a b)) from (n + 1) (n + 1 + length part))
-      (condition s e) one two
+      (way.condition s e) one two
       (λ at. goes_with_more es me own opened (behind children a) (behind_one children (If e a b)) from (n + 1) (n + 1 + length one)
       (λ uses among test passes. true_or (behind children a test) (behind children b test) (among test passes))
       (goes es condition own me (k + 1) a (bump 0 1 s) opened children from (n + 1) setting fine.0 at test.gathered))

@@ -9,7 +9,7 @@ ghost use Rattle.ot_raceless.specs.Laws.{AcceptedRacesInNoRun, AcceptedRacesOnNo
 
 use ot_check::laws::disciplined_is_fine;
 use ot_check::{Checked, JobSpec};
-use ot_corder::laws::alike_is_same;
+use ot_corder::laws::alike_races_in_language;
 use ot_ways::laws::runs_are_ways;
 
 /// What a check accepts races on no way, from any cells.
@@ -24,7 +24,7 @@ pub fn accepted_races_on_no_way_by()
     ensures { AcceptedRacesOnNoWayBy }
 {
     accepted_races_on_no_way();
-    alike_is_same();
+    alike_races_in_language();
 }
 
 /// What a check accepts races in no run from cells among which are all that it names.

@@ -1,5 +1,5 @@
 -- A report that goes on from refusal to refusal.
-use Rattle.std.proofs.Common.{◌≡◌, ◌≤◌, ℕ, ◌+◌, List, [], ◌∷◌, ◌++◌, length, map, codes, refl, sym, ap, ◌∙◌, subst, arith, append_assoc, append-nil, length-append}
+use Rattle.std.proofs.Common.{◌≡◌, ◌≤◌, ℕ, ◌+◌, Bool, List, [], ◌∷◌, ◌++◌, length, map, codes, refl, sym, ap, ◌∙◌, subst, arith, append_assoc, append-nil, length-append}
 use Rattle.std.specs.Prelude.{Option, option_and_then}
 use Rattle.ot_file.specs.declared.position.Position.{Position}
 use Rattle.ot_judge.specs.Judging.{Refusal, told_in, IsPlaced, Standing, Goes, IsSeen}
@@ -18,15 +18,15 @@ pub record Reporting (name blank : List ℕ) (all : List Refusal) (s : Standing)
   pub counts : refused + length behind ≡ length all
 
 pub reporting_more : {name blank : List ℕ} {all : List Refusal} {s : Standing} {out : List ℕ} {refused : ℕ} → (r : Reporting name blank all s out refused) →
-    (one : Refusal) (behind : List Refusal) (new : Standing) (p : Position) (code : Option ℕ) (mid notes more : List ℕ) →
-    r.behind ≡ one ∷ behind → Goes behind new → code ≡ option_and_then code_in (told_in one) → IsPlaced blank one p → AreNotes name blank one p notes →
-    mid ≡ out ++ error_line name p code → more ≡ mid ++ notes → Reporting name blank all new more (refused + 1)
-reporting_more {name} {blank} {all} {s} {out} {refused} r one behind new p code mid notes more next goes code_is placed are mid_is more_is = record {
+    (one : Refusal) (behind : List Refusal) (new : Standing) (p : Position) (long : Bool) (code : Option ℕ) (mid notes more : List ℕ) →
+    r.behind ≡ one ∷ behind → Goes behind new → long ≡ one.is_long → code ≡ option_and_then code_in (told_in one) → IsPlaced blank one p → AreNotes name blank one p notes →
+    mid ≡ out ++ error_line name p long code → more ≡ mid ++ notes → Reporting name blank all new more (refused + 1)
+reporting_more {name} {blank} {all} {s} {out} {refused} r one behind new p long code mid notes more next goes long_is code_is placed are mid_is more_is = record {
   behind = behind;
   goes = goes;
   is = λ later h.
-      let line = error_line name p (option_and_then code_in (told_in one)) in
-      let mid_so : mid ≡ out ++ line = mid_is ∙ ap (λ c. out ++ error_line name p c) code_is in
+      let line = error_line name p one.is_long (option_and_then code_in (told_in one)) in
+      let mid_so : mid ≡ out ++ line = mid_is ∙ ap (λ l. out ++ error_line name p l code) long_is ∙ ap (λ c. out ++ error_line name p one.is_long c) code_is in
       let whole = r.is (line ++ (notes ++ later)) (subst (λ rs. Reports name blank rs (line ++ (notes ++ later))) (sym next) (p, notes, later, placed, are, refl, h)) in
       subst (λ text. Reports name blank all text)
       (sym (ap (λ t. t ++ later) (more_is ∙ ap (λ m. m ++ notes) mid_so) ∙ append_assoc (out ++ line) notes later ∙ append_assoc out line (notes ++ later))) whole;
@@ -51,12 +51,12 @@ are_notes name blank one f notes seen names = record {
 }
 
 -- each refusal has a byte at least
-pub more_bytes : (out mid notes more name : List ℕ) (p : Position) (code : Option ℕ) (refused : ℕ) → refused ≤ length out → mid ≡ out ++ error_line name p code → more ≡ mid ++ notes →
+pub more_bytes : (out mid notes more name : List ℕ) (p : Position) (long : Bool) (code : Option ℕ) (refused : ℕ) → refused ≤ length out → mid ≡ out ++ error_line name p long code → more ≡ mid ++ notes →
     refused + 1 ≤ length more
-more_bytes out mid notes more name p code refused few mid_is more_is =
+more_bytes out mid notes more name p long code refused few mid_is more_is =
     let all = ap length more_is ∙ length-append mid notes in
-    let line = ap length mid_is ∙ length-append out (error_line name p code) in
-    let behind_place = length-append (place_text name p) (codes ": error: " ++ (words_of code ++ codes "\n")) in
-    let words = length-append (codes ": error: ") (words_of code ++ codes "\n") in
-    let end = length-append (words_of code) (codes "\n") in
+    let line = ap length mid_is ∙ length-append out (error_line name p long code) in
+    let behind_place = length-append (place_text name p) (codes ": error: " ++ (words_of long code ++ codes "\n")) in
+    let words = length-append (codes ": error: ") (words_of long code ++ codes "\n") in
+    let end = length-append (words_of long code) (codes "\n") in
     let one : length (codes "\n") ≡ 1 = refl in omega (arith, few, all, line, behind_place, words, end, one)

@@ -1,5 +1,5 @@
 -- At which statements the notes behind a refusal stand.
-use Rattle.std.specs.Prelude.{◌≡◌, [], ℕ, ◌==◌, List, ◌∷◌, ◌++◌, map, flat_map, codes, if◌then◌else◌, Option, Some, None, option_and_then, ◌-◌, length, slice_get, All}
+use Rattle.std.specs.Prelude.{◌≡◌, [], ℕ, ◌==◌, Bool, true, false, List, ◌∷◌, ◌++◌, map, flat_map, codes, if◌then◌else◌, Option, Some, None, option_and_then, ◌-◌, length, slice_get, All}
 use Rattle.std.specs.Fmt.{decimal}
 use Rattle.ot_file.specs.declared.position.Position.{Position}
 use Rattle.ot_reason.specs.Sentences.{sentence_of}
@@ -48,14 +48,15 @@ Names one stands = NamesIn one.book stands
 abbrev pub place_text : List ℕ → Position → List ℕ
 place_text name p = name ++ (codes ":" ++ (decimal p.line ++ (codes ":" ++ decimal p.column)))
 
--- a code, and what it means; a full log has none
-abbrev pub words_of : Option ℕ → List ℕ
-words_of (Some code) = decimal code ++ (codes ": " ++ sentence_of code)
-words_of None = codes "full: the log has no room for this request; a checkpoint begins it anew"
+-- a code, and what it means; a full log has none, and a line that is too long
+abbrev pub words_of : Bool → Option ℕ → List ℕ
+words_of true code = codes "long: without its white space the line has more than 65536 bytes; behind it nothing is answered"
+words_of false (Some code) = decimal code ++ (codes ": " ++ sentence_of code)
+words_of false None = codes "full: the log has no room for this request; a checkpoint begins it anew"
 
 -- `NAME:LINE:COLUMN: error: CODE: ..`
-abbrev pub error_line : List ℕ → Position → Option ℕ → List ℕ
-error_line name p code = place_text name p ++ (codes ": error: " ++ (words_of code ++ codes "\n"))
+abbrev pub error_line : List ℕ → Position → Bool → Option ℕ → List ℕ
+error_line name p long code = place_text name p ++ (codes ": error: " ++ (words_of long code ++ codes "\n"))
 
 -- a byte of words that stand on one line
 abbrev pub on_line : ℕ → ℕ
@@ -85,4 +86,4 @@ abbrev pub Reports : List ℕ → List ℕ → List Refusal → List ℕ → Typ
 Reports name blank [] text = text ≡ []
 Reports name blank (one ∷ others) text =
     (p : Position) × (notes : List ℕ) × (later : List ℕ) × IsPlaced blank one p × AreNotes name blank one p notes
-    × (text ≡ error_line name p (option_and_then code_in (told_in one)) ++ (notes ++ later)) × Reports name blank others later
+    × (text ≡ error_line name p one.is_long (option_and_then code_in (told_in one)) ++ (notes ++ later)) × Reports name blank others later

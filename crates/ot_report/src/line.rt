@@ -1,24 +1,24 @@
 //! Lines in the form of compilers.
-ghost use Rattle.std.specs.Prelude.{◌≡◌, ◌++◌, map, OnOk};
+ghost use Rattle.std.specs.Prelude.{◌≡◌, ◌++◌, false, map, OnOk};
 ghost use Rattle.ot_report.specs.Report.{place_text, words_of, error_line, note_line, on_line};
 
 use ot_file::Position;
+use ot_judge::Finding;
 use ot_reason::sentence_of;
 use std::alloc::{AllocError, Global};
 
-/// Writes the line of a refusal with this code: `NAME:LINE:COLUMN: error: CODE: ..`.
+/// Writes the line of a refusal: `NAME:LINE:COLUMN: error: CODE: ..`.
 pub(crate) fn put_error(
     alloc: Global,
     name: &str,
-    position: Position,
-    code: Option<u32>,
+    finding: &Finding,
     out: &mut Vec<u8>,
 ) -> Result<(), AllocError>
-    ensures { OnOk result (out.new.items ≡ out.old.items ++ error_line name.now position code) }
+    ensures { OnOk result (out.new.items ≡ out.old.items ++ error_line name.now finding.now.position finding.now.is_long finding.now.code) }
 {
-    put_place(alloc, name, position, out)?;
+    put_place(alloc, name, finding.position, out)?;
     out.extend_from_slice(b": error: ".as_slice())?;
-    put_code(alloc, code, out)?;
+    put_words_of(alloc, finding, out)?;
     out.push(b'\n')?;
     Ok(())
 }
@@ -54,9 +54,22 @@ fn put_place(
     Ok(())
 }
 
+/// What is said of a refusal: that the line is too long, or its code.
+fn put_words_of(alloc: Global, finding: &Finding, out: &mut Vec<u8>) -> Result<(), AllocError>
+    ensures { OnOk result (out.new.items ≡ out.old.items ++ words_of finding.now.is_long finding.now.code) }
+{
+    if finding.is_long {
+        out.extend_from_slice(
+            b"long: without its white space the line has more than 65536 bytes; behind it nothing is answered".as_slice(),
+        )?;
+        return Ok(());
+    }
+    put_code(alloc, finding.code, out)
+}
+
 /// A code and what it means, or that the log is full.
 fn put_code(alloc: Global, code: Option<u32>, out: &mut Vec<u8>) -> Result<(), AllocError>
-    ensures { OnOk result (out.new.items ≡ out.old.items ++ words_of code) }
+    ensures { OnOk result (out.new.items ≡ out.old.items ++ words_of false code) }
 {
     match code {
         Some(code) => {

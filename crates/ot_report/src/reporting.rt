@@ -46,7 +46,7 @@ fn report_all(alloc: Global, name: &str, findings: &mut Findings<'_>) -> Result<
     let mut out = Vec::new(alloc);
     let mut refused = 0;
     while let Some(finding) = findings.next(alloc)? {
-        put_error(alloc, name, finding.position, finding.code, &mut out)?;
+        put_error(alloc, name, &finding, &mut out)?;
         let notes = notes_of(alloc, findings.book(), &finding)?;
         put_notes(alloc, name, findings, &finding, &notes, &mut out)?;
         refused += 1;

@@ -1,5 +1,5 @@
 -- What is printed when a server ends.
-use Rattle.std.specs.Prelude.{◌≡◌, [], ◌≤◌, ℕ, List, Option, Some, length, ◌&&◌, Bool, true, not, ◌∷◌, codes, ◌++◌, sum}
+use Rattle.std.specs.Prelude.{◌≡◌, [], ◌≤◌, ℕ, List, Option, None, Some, length, ◌&&◌, Bool, true, not, if◌then◌else◌, ◌∷◌, codes, ◌++◌, sum}
 use Rattle.std.specs.Io.KnownBytes.{Appends}
 use Rattle.ot_serve.specs.declared.fault.Fault.{Fault}
 use Rattle.ot_serve.specs.declared.serve.Serve.{Serve}
@@ -43,6 +43,11 @@ Prints names old new = (units : List ℕ) × (length units ≡ length names) × 
 abbrev pub are_tenants : List (List ℕ) → Bool
 are_tenants [] = true
 are_tenants (name ∷ names) = is_name name && not (list_any (bytes_eq name) names) && are_tenants names
+
+-- the first that hasn't the form of a name, or is among those behind it
+abbrev pub first_bad : List (List ℕ) → Option (List ℕ)
+first_bad [] = None
+first_bad (name ∷ names) = if is_name name && not (list_any (bytes_eq name) names) then first_bad names else Some name
 
 -- What the program tells of a fault.
 

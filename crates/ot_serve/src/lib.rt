@@ -10,5 +10,6 @@ pub mod socket;
 mod usages;
 
 pub use fault::{Fault, fault_line};
+pub use names::bad_name;
 pub use serve::Serve;
 pub use socket::serve_socket;

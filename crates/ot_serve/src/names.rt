@@ -1,8 +1,8 @@
 //! Which names tenants may have.
-ghost use Rattle.std.specs.Prelude.{◌≡◌, map, string_bytes};
+ghost use Rattle.std.specs.Prelude.{◌≡◌, is_none, map, option_map, string_bytes};
 ghost use Rattle.std.specs.List.{list_any};
 ghost use Rattle.std.specs.Str.{bytes_eq};
-ghost use Rattle.ot_serve.specs.Serving.{are_tenants};
+ghost use Rattle.ot_serve.specs.Serving.{are_tenants, first_bad};
 ghost use Rattle.ot_serve.specs.Starting.{TellsOf};
 
 use crate::fault::Fault;
@@ -15,7 +15,7 @@ const MAX_TENANTS: usize = 64;
 pub(crate) fn look_at_names(names: &[String]) -> Result<(), Fault>
     ensures { TellsOf (map string_bytes names.now) result }
 {
-    if !are_tenants(names) {
+    if bad_name(names).is_some() {
         return Err(Fault::BadTenantName);
     }
     if names.len() > MAX_TENANTS {
@@ -24,17 +24,19 @@ pub(crate) fn look_at_names(names: &[String]) -> Result<(), Fault>
     Ok(())
 }
 
-fn are_tenants(names: &[String]) -> bool
-    ensures { result ≡ are_tenants (map string_bytes names.now) }
+/// The first name that isn't one of a tenant beside those behind it: it hasn't the form of a name, or is given again.
+pub fn bad_name(names: &[String]) -> Option<&str>
+    ensures first { option_map (λ name. name.now) result ≡ first_bad (map string_bytes names.now) }
+    ensures none { is_none result ≡ are_tenants (map string_bytes names.now) }
 {
     let mut rest = names;
     while let [first, behind @ ..] = rest {
         if !is_name(first.as_str()) || has_name(behind, first.as_str()) {
-            return false;
+            return Some(first.as_str());
         }
         rest = behind;
     }
-    true
+    None
 }
 
 fn has_name(names: &[String], name: &str) -> bool

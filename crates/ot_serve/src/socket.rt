@@ -62,10 +62,11 @@ pub fn serve_socket<R: Threads + Wait + Sync + Files + Net, W: Sink>(
     }
 }
 
-/// A desk with an empty book for each tenant.
+/// A desk with an empty book for each tenant, in order.
 fn lay_desk(alloc: Global, names: &[String]) -> Result<Desk, AllocError>
     requires names { are_tenants (map string_bytes names.now) ≡ true }
     requires few { length names.now ≤ 64 }
+    ensures { IfOk result (λ desk. desk ≡ map string_bytes names.now) }
 {
     Desk::new(alloc, empty_books(alloc, names)?)
 }

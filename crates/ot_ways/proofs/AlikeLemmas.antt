@@ -1,19 +1,24 @@
 -- Each number is that of a way: one whose conditions go by how many statements were executed before.
-use Rattle.std.proofs.Common.{◌≡◌, ◌≢◌, ◌+◌, ◌-◌, ◌/◌, ◌%◌, ◌<◌, ◌≤◌, ℕ, [], ◌∷◌, ◌++◌, length, map, refl, sym, ap, subst, ◌∙◌, ◌⊎◌, inl, inr, arith}
-use Rattle.std.specs.Prelude.{true, false, if◌then◌else◌, nat_lt, Some}
+use Rattle.std.proofs.Common.{◌≡◌, ◌≢◌, ◌+◌, ◌/◌, ◌%◌, ◌<◌, ◌≤◌, ℕ, [], ◌∷◌, ◌++◌, length, map, refl, sym, ap, subst, ◌∙◌, inl, inr, arith}
+use Rattle.std.specs.Prelude.{true, false, if◌then◌else◌, nat_lt, Some, unwrap_or}
 use Rattle.std.proofs.lemmas.Bool.{cases_eq}
 use Rattle.ot_model.specs.Tree.{E, S, Set, Fold, If, Task, Wait, Group, Body, End, Next, size, size_one, cells_named}
 use Rattle.ot_model.specs.Serial.{State, bump, either}
 use Rattle.ot_model.specs.declared.stmt.Mode.TheVariants.{Reads, Writes}
 use Rattle.ot_check.specs.Offences.{use_as, Declared}
 use Rattle.ot_race.specs.Events.{Way, event, Touches, Begins, Leaves, events, events_one, after, after_one}
+use Rattle.ot_ways.specs.Known.{known}
 use Rattle.ot_ways.specs.Ways.{way_by, ways, ways_one, turn, turns, turns_one}
-use Rattle.ot_ways.specs.Numbered.{events_on, events_on_one, tasks_on, tasks_on_one, turns_on, turns_on_one}
-use Rattle.ot_ways.proofs.NumberLemmas.{either_first, either_second, if_less, if_not_less}
+use Rattle.ot_ways.specs.Numbered.{events_on, events_on_one, tasks_on, tasks_on_one, turns_on, turns_on_one, takes_first, left_for_second}
+use Rattle.ot_ways.proofs.BranchLemmas.{either_first, either_second, if_less, if_not_less, if_met, if_unmet, truth, taken_first, taken_second}
 
 -- the way whose condition in the statement executed as number u, from 0, has the number at u
 abbrev pub by_units : (ℕ → ℕ) → Way
 by_units numbers = way_by (λ s e. numbers s.units)
+
+-- the number of a condition in the statement executed as this one
+abbrev pub number_at : (ℕ → ℕ) → E → State → ℕ
+number_at numbers e s = unwrap_or (known e) (numbers s.units)
 
 -- ---- statements executed are counted
 
@@ -57,24 +62,24 @@ pub record Alike (p q : ℕ → ℕ) (own : Declared) (me k : ℕ) (b : Body) (s
   pub after_same : after (by_units p) b s ≡ after (by_units q) b s
   pub turns_same : turns (by_units p) k b s ≡ turns (by_units q) k b s
 
-first_alike : (p q : ℕ → ℕ) (own : Declared) (me k : ℕ) (e : E) (a b : Body) (s : State) → p s.units ≢ 0 → q s.units ≢ 0
+first_alike : (p q : ℕ → ℕ) (own : Declared) (me k : ℕ) (e : E) (a b : Body) (s : State) → number_at p e s ≢ 0 → number_at q e s ≢ 0
     → Alike p q own me (k + 1) a (bump 0 1 s) → AlikeOne p q own me k (If e a b) s
 first_alike p q own me k e a b s one other h = record {
   events_same = ap (λ es. event me k Touches (map (use_as Reads) (cells_named e)) ∷ es)
-      (either_first (p s.units) _ _ one ∙ h.events_same ∙ sym (either_first (q s.units) _ _ other));
-  after_same = either_first (p s.units) (after (by_units p) a (bump 0 1 s)) _ one ∙ h.after_same ∙ sym (either_first (q s.units) _ _ other);
-  turns_same = either_first (p s.units) (turn k true ∷ turns (by_units p) (k + 1) a (bump 0 1 s)) _ one ∙ ap (λ ts. turn k true ∷ ts) h.turns_same
-      ∙ sym (either_first (q s.units) _ _ other);
+      (either_first (number_at p e s) _ _ one ∙ h.events_same ∙ sym (either_first (number_at q e s) _ _ other));
+  after_same = either_first (number_at p e s) (after (by_units p) a (bump 0 1 s)) _ one ∙ h.after_same ∙ sym (either_first (number_at q e s) _ _ other);
+  turns_same = either_first (number_at p e s) (turn k true ∷ turns (by_units p) (k + 1) a (bump 0 1 s)) _ one ∙ ap (λ ts. turn k true ∷ ts) h.turns_same
+      ∙ sym (either_first (number_at q e s) _ _ other);
 }
 
-second_alike : (p q : ℕ → ℕ) (own : Declared) (me k : ℕ) (e : E) (a b : Body) (s : State) → p s.units ≡ 0 → q s.units ≡ 0
+second_alike : (p q : ℕ → ℕ) (own : Declared) (me k : ℕ) (e : E) (a b : Body) (s : State) → number_at p e s ≡ 0 → number_at q e s ≡ 0
     → Alike p q own me (k + 1 + size a) b (bump 0 1 s) → AlikeOne p q own me k (If e a b) s
 second_alike p q own me k e a b s one other h = record {
   events_same = ap (λ es. event me k Touches (map (use_as Reads) (cells_named e)) ∷ es)
-      (either_second (p s.units) _ _ one ∙ h.events_same ∙ sym (either_second (q s.units) _ _ other));
-  after_same = either_second (p s.units) _ (after (by_units p) b (bump 0 1 s)) one ∙ h.after_same ∙ sym (either_second (q s.units) _ _ other);
-  turns_same = either_second (p s.units) _ (turn k false ∷ turns (by_units p) (k + 1 + size a) b (bump 0 1 s)) one
-      ∙ ap (λ ts. turn k false ∷ ts) h.turns_same ∙ sym (either_second (q s.units) _ _ other);
+      (either_second (number_at p e s) _ _ one ∙ h.events_same ∙ sym (either_second (number_at q e s) _ _ other));
+  after_same = either_second (number_at p e s) _ (after (by_units p) b (bump 0 1 s)) one ∙ h.after_same ∙ sym (either_second (number_at q e s) _ _ other);
+  turns_same = either_second (number_at p e s) _ (turn k false ∷ turns (by_units p) (k + 1 + size a) b (bump 0 1 s)) one
+      ∙ ap (λ ts. turn k false ∷ ts) h.turns_same ∙ sym (either_second (number_at q e s) _ _ other);
 }
 
 mutual
@@ -83,14 +88,15 @@ mutual
   alike_one p q own me k (Set c e) s agree = record { events_same = refl; after_same = refl; turns_same = refl }
   alike_one p q own me k (Fold o c e) s agree = record { events_same = refl; after_same = refl; turns_same = refl }
   alike_one p q own me k (If e a b) s agree =
-      let here : p s.units ≡ q s.units = agree s.units (omega arith) (units_grow_one (by_units p) (If e a b) s) in
-      elim (cases_eq (p s.units) 0) [
+      let here : number_at p e s ≡ number_at q e s =
+      ap (unwrap_or (known e)) (agree s.units (omega arith) (units_grow_one (by_units p) (If e a b) s)) in
+      elim (cases_eq (number_at p e s) 0) [
         | inl is ↦ second_alike p q own me k e a b s is (sym here ∙ is)
             (alike p q own me (k + 1 + size a) b (bump 0 1 s)
-            (λ t from to. agree t (omega (arith, from)) (subst (λ (u : State). t < u.units) (sym (either_second (p s.units) _ (after (by_units p) b (bump 0 1 s)) is)) to)))
+            (λ t from to. agree t (omega (arith, from)) (subst (λ (u : State). t < u.units) (sym (either_second (number_at p e s) _ (after (by_units p) b (bump 0 1 s)) is)) to)))
         | inr apart ↦ first_alike p q own me k e a b s apart (λ z. apart (here ∙ z))
             (alike p q own me (k + 1) a (bump 0 1 s)
-            (λ t from to. agree t (omega (arith, from)) (subst (λ (u : State). t < u.units) (sym (either_first (p s.units) (after (by_units p) a (bump 0 1 s)) _ apart)) to)))
+            (λ t from to. agree t (omega (arith, from)) (subst (λ (u : State). t < u.units) (sym (either_first (number_at p e s) (after (by_units p) a (bump 0 1 s)) _ apart)) to)))
       ]
   alike_one p q own me k (Task d b) s agree =
       let h = alike p q (Some d) (s.tasks + 1) (k + 1) b (bump 1 1 s) (λ t from to. agree t (omega (arith, from)) to) in
@@ -142,41 +148,43 @@ no_more n = omega arith
 abbrev then_by : ℕ → ℕ → (ℕ → ℕ) → ℕ → ℕ
 then_by here number numbers t = if nat_lt here t then numbers t else number
 
-way_first : (n : ℕ) (own : Declared) (me k : ℕ) (e : E) (a b : Body) (s : State) → n < ways a → HasWay n own me (k + 1) a (bump 0 1 s)
-    → HasWayOne n own me k (If e a b) s
-way_first n own me k e a b s less h =
+way_first : (n : ℕ) (own : Declared) (me k : ℕ) (e : E) (a b : Body) (s : State) → takes_first (known e) n (ways a) ≡ true
+    → HasWay n own me (k + 1) a (bump 0 1 s) → HasWayOne n own me k (If e a b) s
+way_first n own me k e a b s first h =
     let c = then_by s.units 1 h.numbers in
     let here : c s.units ≡ 1 = if_not_less s.units s.units _ _ (omega arith) in
-    let taken : c s.units ≢ 0 = λ z. absurd (omega (arith, here, z)) in
+    let taken : number_at c e s ≢ 0 = taken_first (known e) (c s.units) n (ways a) first here in
     let l : Alike h.numbers c own me (k + 1) a (bump 0 1 s) =
     alike h.numbers c own me (k + 1) a (bump 0 1 s) (λ t from to. sym (if_less s.units t _ _ (omega (arith, from)))) in
     record {
       numbers = c;
       events_are = ap (λ es. event me k Touches (map (use_as Reads) (cells_named e)) ∷ es)
-          (either_first (c s.units) _ _ taken ∙ sym l.events_same ∙ h.events_are ∙ ap (events_on n own me (k + 1) a) (no_more s.tasks)
-          ∙ sym (if_less n (ways a) _ _ less));
-      tasks_are = ap (λ t. t.tasks) (either_first (c s.units) (after (by_units c) a (bump 0 1 s)) _ taken ∙ sym l.after_same) ∙ h.tasks_are
-          ∙ ap (λ t. t + tasks_on n a) (no_more s.tasks) ∙ ap (λ t. s.tasks + t) (sym (if_less n (ways a) _ _ less));
-      turns_are = either_first (c s.units) (turn k true ∷ turns (by_units c) (k + 1) a (bump 0 1 s)) _ taken
-          ∙ ap (λ ts. turn k true ∷ ts) (sym l.turns_same ∙ h.turns_are) ∙ sym (if_less n (ways a) _ _ less);
+          (either_first (number_at c e s) _ _ taken ∙ sym l.events_same ∙ h.events_are ∙ ap (events_on n own me (k + 1) a) (no_more s.tasks)
+          ∙ sym (if_met (takes_first (known e) n (ways a)) _ _ first));
+      tasks_are = ap (λ t. t.tasks) (either_first (number_at c e s) (after (by_units c) a (bump 0 1 s)) _ taken ∙ sym l.after_same) ∙ h.tasks_are
+          ∙ ap (λ t. t + tasks_on n a) (no_more s.tasks) ∙ ap (λ t. s.tasks + t) (sym (if_met (takes_first (known e) n (ways a)) _ _ first));
+      turns_are = either_first (number_at c e s) (turn k true ∷ turns (by_units c) (k + 1) a (bump 0 1 s)) _ taken
+          ∙ ap (λ ts. turn k true ∷ ts) (sym l.turns_same ∙ h.turns_are) ∙ sym (if_met (takes_first (known e) n (ways a)) _ _ first);
     }
 
-way_second : (n : ℕ) (own : Declared) (me k : ℕ) (e : E) (a b : Body) (s : State) → ways a ≤ n
-    → HasWay (n - ways a) own me (k + 1 + size a) b (bump 0 1 s) → HasWayOne n own me k (If e a b) s
-way_second n own me k e a b s over h =
+way_second : (n : ℕ) (own : Declared) (me k : ℕ) (e : E) (a b : Body) (s : State) → takes_first (known e) n (ways a) ≡ false
+    → HasWay (left_for_second (known e) n (ways a)) own me (k + 1 + size a) b (bump 0 1 s) → HasWayOne n own me k (If e a b) s
+way_second n own me k e a b s second h =
+    let left = left_for_second (known e) n (ways a) in
     let c = then_by s.units 0 h.numbers in
-    let taken : c s.units ≡ 0 = if_not_less s.units s.units _ _ (omega arith) in
+    let here : c s.units ≡ 0 = if_not_less s.units s.units _ _ (omega arith) in
+    let taken : number_at c e s ≡ 0 = taken_second (known e) (c s.units) n (ways a) second here in
     let l : Alike h.numbers c own me (k + 1 + size a) b (bump 0 1 s) =
     alike h.numbers c own me (k + 1 + size a) b (bump 0 1 s) (λ t from to. sym (if_less s.units t _ _ (omega (arith, from)))) in
     record {
       numbers = c;
       events_are = ap (λ es. event me k Touches (map (use_as Reads) (cells_named e)) ∷ es)
-          (either_second (c s.units) _ _ taken ∙ sym l.events_same ∙ h.events_are ∙ ap (events_on (n - ways a) own me (k + 1 + size a) b) (no_more s.tasks)
-          ∙ sym (if_not_less n (ways a) _ _ over));
-      tasks_are = ap (λ t. t.tasks) (either_second (c s.units) _ (after (by_units c) b (bump 0 1 s)) taken ∙ sym l.after_same) ∙ h.tasks_are
-          ∙ ap (λ t. t + tasks_on (n - ways a) b) (no_more s.tasks) ∙ ap (λ t. s.tasks + t) (sym (if_not_less n (ways a) _ _ over));
-      turns_are = either_second (c s.units) _ (turn k false ∷ turns (by_units c) (k + 1 + size a) b (bump 0 1 s)) taken
-          ∙ ap (λ ts. turn k false ∷ ts) (sym l.turns_same ∙ h.turns_are) ∙ sym (if_not_less n (ways a) _ _ over);
+          (either_second (number_at c e s) _ _ taken ∙ sym l.events_same ∙ h.events_are ∙ ap (events_on left own me (k + 1 + size a) b) (no_more s.tasks)
+          ∙ sym (if_unmet (takes_first (known e) n (ways a)) _ _ second));
+      tasks_are = ap (λ t. t.tasks) (either_second (number_at c e s) _ (after (by_units c) b (bump 0 1 s)) taken ∙ sym l.after_same) ∙ h.tasks_are
+          ∙ ap (λ t. t + tasks_on left b) (no_more s.tasks) ∙ ap (λ t. s.tasks + t) (sym (if_unmet (takes_first (known e) n (ways a)) _ _ second));
+      turns_are = either_second (number_at c e s) _ (turn k false ∷ turns (by_units c) (k + 1 + size a) b (bump 0 1 s)) taken
+          ∙ ap (λ ts. turn k false ∷ ts) (sym l.turns_same ∙ h.turns_are) ∙ sym (if_unmet (takes_first (known e) n (ways a)) _ _ second);
     }
 
 way_next : (n : ℕ) (own : Declared) (me k : ℕ) (x : S) (rest : Body) (s : State) → (i : HasWayOne (n % ways_one x) own me k x s)
@@ -201,16 +209,13 @@ way_next n own me k x rest s i j =
           (ap (turns (by_units c) (k + size_one x) rest) (sym p.after_same) ∙ sym q.turns_same ∙ j.turns_are);
     }
 
-less_or_over : (n m : ℕ) → (n < m) ⊎ (m ≤ n)
-less_or_over n m = grind arith
-
 mutual
   pub way_of_one : (n : ℕ) (own : Declared) (me k : ℕ) (x : S) (s : State) → HasWayOne n own me k x s
   way_of_one n own me k (Set c e) s = record { numbers = λ t. 0; events_are = refl; tasks_are = refl; turns_are = refl }
   way_of_one n own me k (Fold o c e) s = record { numbers = λ t. 0; events_are = refl; tasks_are = refl; turns_are = refl }
-  way_of_one n own me k (If e a b) s = elim (less_or_over n (ways a)) [
-    | inl less ↦ way_first n own me k e a b s less (way_of n own me (k + 1) a (bump 0 1 s))
-    | inr over ↦ way_second n own me k e a b s over (way_of (n - ways a) own me (k + 1 + size a) b (bump 0 1 s))
+  way_of_one n own me k (If e a b) s = elim (truth (takes_first (known e) n (ways a))) [
+    | inl first ↦ way_first n own me k e a b s first (way_of n own me (k + 1) a (bump 0 1 s))
+    | inr second ↦ way_second n own me k e a b s second (way_of (left_for_second (known e) n (ways a)) own me (k + 1 + size a) b (bump 0 1 s))
   ]
   way_of_one n own me k (Task d b) s =
       let h = way_of n (Some d) (s.tasks + 1) (k + 1) b (bump 1 1 s) in

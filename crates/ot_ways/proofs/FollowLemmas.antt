@@ -1,6 +1,6 @@
 -- What happens on a way, in parts.
-use Rattle.std.proofs.Common.{◌≡◌, ◌<◌, ◌≤◌, ◌+◌, ◌-◌, ◌/◌, ◌%◌, ℕ, List, [], ◌∷◌, ◌++◌, length, map, sym, ap, subst, ◌∙◌, arith}
-use Rattle.std.specs.Prelude.{true, false, if◌then◌else◌, nat_lt, Some}
+use Rattle.std.proofs.Common.{◌≡◌, ◌+◌, ◌/◌, ◌%◌, ℕ, List, [], ◌∷◌, ◌++◌, length, map, sym, ap, subst, ◌∙◌, arith}
+use Rattle.std.specs.Prelude.{Bool, true, false, if◌then◌else◌, Some}
 use Rattle.std.specs.List.{range_with_len}
 use Rattle.std.proofs.lemmas.List.{append_assoc, map-append, length-append}
 use Rattle.std.proofs.lemmas.List.FromFn.{map-range_with_len_more}
@@ -15,10 +15,11 @@ use Rattle.ot_check.specs.Offences.{use_as, Declared}
 use Rattle.ot_parts.specs.Modes.{PicksFit}
 use Rattle.ot_parts.proofs.FitLemmas.{value-fits}
 use Rattle.ot_race.specs.Events.{Event, event, Touches, Begins, Leaves}
+use Rattle.ot_ways.specs.Known.{known}
 use Rattle.ot_ways.specs.Ways.{ways, ways_one, turn}
-use Rattle.ot_ways.specs.Numbered.{events_on, events_on_one, tasks_on, tasks_on_one, turns_on, turns_on_one}
+use Rattle.ot_ways.specs.Numbered.{events_on, events_on_one, tasks_on, tasks_on_one, turns_on, turns_on_one, takes_first, left_for_second}
 use Rattle.ot_ways.specs.declared.verdict.Turn.{Turn}
-use Rattle.ot_ways.proofs.NumberLemmas.{is_less, not_less, if_less, if_not_less}
+use Rattle.ot_ways.proofs.BranchLemmas.{if_met, if_unmet}
 
 -- one list behind another, and a third behind both
 pub join_events : {A : Type 0} (ps qs rs xs ys : List A) → qs ≡ ps ++ xs → rs ≡ qs ++ ys → rs ≡ ps ++ (xs ++ ys)
@@ -79,42 +80,47 @@ tasks_loop t u all left w x more b split so_far is ways_are =
 
 -- ---- statements with bodies
 
-pub if_first : (es more new : List Event) (own : Declared) (me k n w : ℕ) (e : E) (a b : Body) (t u : ℕ) (uses : List Use) (s : S)
+pub if_first : (es more new : List Event) (own : Declared) (me k n : ℕ) (e : E) (a b : Body) (t u : ℕ) (uses : List Use) (s : S)
     → s ≡ If e a b → more ≡ es ++ event me k Touches uses ∷ [] → uses ≡ map (use_as Reads) (cells_named e)
-    → new ≡ more ++ events_on n own me (k + 1) a u → u ≡ t → w ≡ ways a → n < w → new ≡ es ++ events_on_one n own me k s t
-if_first es more new own me k n w e a b t u uses s is put reads ran same ways_are less =
-    let taken : events_on n own me (k + 1) a u ≡ (if nat_lt n (ways a) then events_on n own me (k + 1) a t else events_on (n - ways a) own me (k + 1 + size a) b t) =
-    ap (events_on n own me (k + 1) a) same ∙ sym (if_less n (ways a) _ _ (omega (arith, ways_are, less))) in
+    → new ≡ more ++ events_on n own me (k + 1) a u → u ≡ t → takes_first (known e) n (ways a) ≡ true → new ≡ es ++ events_on_one n own me k s t
+if_first es more new own me k n e a b t u uses s is put reads ran same first =
+    let left = left_for_second (known e) n (ways a) in
+    let taken : events_on n own me (k + 1) a u
+    ≡ (if takes_first (known e) n (ways a) then events_on n own me (k + 1) a t else events_on left own me (k + 1 + size a) b t) =
+    ap (events_on n own me (k + 1) a) same ∙ sym (if_met (takes_first (known e) n (ways a)) _ _ first) in
     join_events es more new _ _ put ran ∙ ap (λ l. es ++ event me k Touches uses ∷ l) taken
-    ∙ ap (λ u. es ++ event me k Touches u ∷ (if nat_lt n (ways a) then events_on n own me (k + 1) a t else events_on (n - ways a) own me (k + 1 + size a) b t)) reads
+    ∙ ap (λ u. es ++ event me k Touches u ∷ (if takes_first (known e) n (ways a) then events_on n own me (k + 1) a t else events_on left own me (k + 1 + size a) b t)) reads
     ∙ sym (ap (λ s. es ++ events_on_one n own me k s t) is)
 
-pub if_second : (es more new : List Event) (own : Declared) (me k n w place : ℕ) (e : E) (a b : Body) (t u : ℕ) (uses : List Use) (s : S)
+pub if_second : (es more new : List Event) (own : Declared) (me k n m place : ℕ) (e : E) (a b : Body) (t u : ℕ) (uses : List Use) (s : S)
     → s ≡ If e a b → more ≡ es ++ event me k Touches uses ∷ [] → uses ≡ map (use_as Reads) (cells_named e)
-    → new ≡ more ++ events_on (n - w) own me place b u → u ≡ t → place ≡ k + 1 + size a → w ≡ ways a → w ≤ n
-    → new ≡ es ++ events_on_one n own me k s t
-if_second es more new own me k n w place e a b t u uses s is put reads ran same place_is ways_are over =
-    let taken : events_on (n - w) own me place b u ≡ (if nat_lt n (ways a) then events_on n own me (k + 1) a t else events_on (n - ways a) own me (k + 1 + size a) b t) =
-    ap (events_on (n - w) own me place b) same ∙ ap (λ v. events_on (n - v) own me place b t) ways_are ∙ ap (λ m. events_on (n - ways a) own me m b t) place_is
-    ∙ sym (if_not_less n (ways a) _ _ (omega (arith, ways_are, over))) in
+    → new ≡ more ++ events_on m own me place b u → u ≡ t → place ≡ k + 1 + size a → m ≡ left_for_second (known e) n (ways a)
+    → takes_first (known e) n (ways a) ≡ false → new ≡ es ++ events_on_one n own me k s t
+if_second es more new own me k n m place e a b t u uses s is put reads ran same place_is left_is second =
+    let left = left_for_second (known e) n (ways a) in
+    let taken : events_on m own me place b u
+    ≡ (if takes_first (known e) n (ways a) then events_on n own me (k + 1) a t else events_on left own me (k + 1 + size a) b t) =
+    ap (events_on m own me place b) same ∙ ap (λ v. events_on v own me place b t) left_is ∙ ap (λ p. events_on left own me p b t) place_is
+    ∙ sym (if_unmet (takes_first (known e) n (ways a)) _ _ second) in
     join_events es more new _ _ put ran ∙ ap (λ l. es ++ event me k Touches uses ∷ l) taken
-    ∙ ap (λ u. es ++ event me k Touches u ∷ (if nat_lt n (ways a) then events_on n own me (k + 1) a t else events_on (n - ways a) own me (k + 1 + size a) b t)) reads
+    ∙ ap (λ u. es ++ event me k Touches u ∷ (if takes_first (known e) n (ways a) then events_on n own me (k + 1) a t else events_on left own me (k + 1 + size a) b t)) reads
     ∙ sym (ap (λ s. es ++ events_on_one n own me k s t) is)
 
-pub turns_first : (ts more new : List Turn) (k n w : ℕ) (e : E) (a b : Body) (s : S) → s ≡ If e a b → more ≡ ts ++ turn k (nat_lt n w) ∷ []
-    → new ≡ more ++ turns_on n (k + 1) a → w ≡ ways a → n < w → new ≡ ts ++ turns_on_one n k s
-turns_first ts more new k n w e a b s is put ran ways_are less =
-    let taken : turn k true ∷ turns_on n (k + 1) a ≡ turns_on_one n k (If e a b) = sym (if_less n (ways a) _ _ (omega (arith, ways_are, less))) in
-    join_events ts more new _ _ put ran ∙ ap (λ f. ts ++ turn k f ∷ turns_on n (k + 1) a) (is_less n w less) ∙ ap (λ l. ts ++ l) taken
+pub turns_first : (ts more new : List Turn) (k n : ℕ) (first : Bool) (e : E) (a b : Body) (s : S) → s ≡ If e a b → more ≡ ts ++ turn k first ∷ []
+    → first ≡ true → new ≡ more ++ turns_on n (k + 1) a → takes_first (known e) n (ways a) ≡ true → new ≡ ts ++ turns_on_one n k s
+turns_first ts more new k n first e a b s is put told ran taken =
+    join_events ts more new _ _ put ran ∙ ap (λ f. ts ++ turn k f ∷ turns_on n (k + 1) a) told
+    ∙ ap (λ l. ts ++ l) (sym (if_met (takes_first (known e) n (ways a)) (turn k true ∷ turns_on n (k + 1) a) _ taken))
     ∙ sym (ap (λ s. ts ++ turns_on_one n k s) is)
 
-pub turns_second : (ts more new : List Turn) (k n w place : ℕ) (e : E) (a b : Body) (s : S) → s ≡ If e a b → more ≡ ts ++ turn k (nat_lt n w) ∷ []
-    → new ≡ more ++ turns_on (n - w) place b → place ≡ k + 1 + size a → w ≡ ways a → w ≤ n → new ≡ ts ++ turns_on_one n k s
-turns_second ts more new k n w place e a b s is put ran place_is ways_are over =
-    let taken : turn k false ∷ turns_on (n - w) place b ≡ turns_on_one n k (If e a b) =
-    ap (λ v. turn k false ∷ turns_on (n - v) place b) ways_are ∙ ap (λ m. turn k false ∷ turns_on (n - ways a) m b) place_is
-    ∙ sym (if_not_less n (ways a) _ _ (omega (arith, ways_are, over))) in
-    join_events ts more new _ _ put ran ∙ ap (λ f. ts ++ turn k f ∷ turns_on (n - w) place b) (not_less n w over) ∙ ap (λ l. ts ++ l) taken
+pub turns_second : (ts more new : List Turn) (k n m place : ℕ) (first : Bool) (e : E) (a b : Body) (s : S) → s ≡ If e a b → more ≡ ts ++ turn k first ∷ []
+    → first ≡ false → new ≡ more ++ turns_on m place b → place ≡ k + 1 + size a → m ≡ left_for_second (known e) n (ways a)
+    → takes_first (known e) n (ways a) ≡ false → new ≡ ts ++ turns_on_one n k s
+turns_second ts more new k n m place first e a b s is put told ran place_is left_is taken =
+    let left = left_for_second (known e) n (ways a) in
+    join_events ts more new _ _ put ran ∙ ap (λ f. ts ++ turn k f ∷ turns_on m place b) told
+    ∙ ap (λ v. ts ++ turn k false ∷ turns_on v place b) left_is ∙ ap (λ p. ts ++ turn k false ∷ turns_on left p b) place_is
+    ∙ ap (λ l. ts ++ l) (sym (if_unmet (takes_first (known e) n (ways a)) _ (turn k false ∷ turns_on left (k + 1 + size a) b) taken))
     ∙ sym (ap (λ s. ts ++ turns_on_one n k s) is)
 
 pub task_begins : (es more new : List Event) (own : Declared) (me k n child : ℕ) (d : List Use) (b : Body) (t u : ℕ) (uses : List Use) (s : S)

@@ -1,35 +1,17 @@
 -- Each way has a number.
-use Rattle.std.proofs.Common.{◌≡◌, ◌≢◌, ◌+◌, ◌-◌, ◌*◌, ◌/◌, ◌%◌, ◌<◌, ◌≤◌, ℕ, [], ◌∷◌, ◌++◌, length, map, refl, sym, ap, ◌∙◌, inl, inr, arith}
-use Rattle.std.specs.Prelude.{true, false, if◌then◌else◌, nat_lt, Some}
+use Rattle.std.proofs.Common.{◌≡◌, ◌≢◌, ◌+◌, ◌*◌, ◌/◌, ◌%◌, ◌<◌, ℕ, [], ◌∷◌, ◌++◌, length, map, refl, sym, ap, ◌∙◌, inl, inr, arith}
+use Rattle.std.specs.Prelude.{true, false, Some, unwrap_or}
 use Rattle.std.proofs.lemmas.Bool.{cases_eq}
-use Rattle.std.proofs.lemmas.Bool.Decides.{nat_tests}
 use Rattle.std.proofs.lemmas.Nat.{mul-add-lt, mod-mul-add, div-mul-add}
 use Rattle.ot_model.specs.Tree.{E, S, Set, Fold, If, Task, Wait, Group, Body, End, Next, size, size_one, cells_named}
-use Rattle.ot_model.specs.Serial.{State, bump, either}
+use Rattle.ot_model.specs.Serial.{State, bump}
 use Rattle.ot_model.specs.declared.stmt.Mode.TheVariants.{Reads, Writes}
 use Rattle.ot_check.specs.Offences.{use_as, Declared}
-use Rattle.ot_check.proofs.Cited.{eq_apart}
 use Rattle.ot_race.specs.Events.{event, Touches, Begins, Leaves, events, events_one, after, after_one}
+use Rattle.ot_ways.specs.Known.{known}
 use Rattle.ot_ways.specs.Ways.{way_by, ways, ways_one}
-use Rattle.ot_ways.specs.Numbered.{events_on, events_on_one, tasks_on, tasks_on_one}
-
-pub either_first : {A : Type 0} (n : ℕ) (one two : A) → n ≢ 0 → either n one two ≡ one
-either_first n one two apart = ap (λ b. if b then two else one) (eq_apart n 0 apart)
-
-pub either_second : {A : Type 0} (n : ℕ) (one two : A) → n ≡ 0 → either n one two ≡ two
-either_second n one two is = ap (λ m. either m one two) is
-
-pub is_less : (n m : ℕ) → n < m → nat_lt n m ≡ true
-is_less n m l = grind (arith, nat_tests)
-
-pub not_less : (n m : ℕ) → m ≤ n → nat_lt n m ≡ false
-not_less n m l = grind (arith, nat_tests)
-
-pub if_less : {A : Type 0} (n m : ℕ) (x y : A) → n < m → (if nat_lt n m then x else y) ≡ x
-if_less n m x y l = ap (λ b. if b then x else y) (is_less n m l)
-
-pub if_not_less : {A : Type 0} (n m : ℕ) (x y : A) → m ≤ n → (if nat_lt n m then x else y) ≡ y
-if_not_less n m x y l = ap (λ b. if b then x else y) (not_less n m l)
+use Rattle.ot_ways.specs.Numbered.{events_on, events_on_one, tasks_on, tasks_on_one, takes_first, left_for_second}
+use Rattle.ot_ways.proofs.BranchLemmas.{either_first, either_second, if_met, if_unmet, first_taken, first_below, number_of_second, second_taken, second_left, second_below}
 
 pub record HasNumberOne (condition : State → E → ℕ) (own : Declared) (me k : ℕ) (x : S) (s : State) : Type 0 where
   pub n : ℕ
@@ -46,36 +28,39 @@ pub record HasNumber (condition : State → E → ℕ) (own : Declared) (me k : 
 add_none : (n : ℕ) → n + 0 ≡ n
 add_none n = omega arith
 
-number_first : (condition : State → E → ℕ) (own : Declared) (me k : ℕ) (e : E) (a b : Body) (s : State) → condition s e ≢ 0
+number_first : (condition : State → E → ℕ) (own : Declared) (me k : ℕ) (e : E) (a b : Body) (s : State) → unwrap_or (known e) (condition s e) ≢ 0
     → HasNumber condition own me (k + 1) a (bump 0 1 s) → HasNumberOne condition own me k (If e a b) s
 number_first condition own me k e a b s taken h =
     let way = way_by condition in
+    let number = unwrap_or (known e) (condition s e) in
+    let first : takes_first (known e) h.n (ways a) ≡ true = first_taken (known e) (condition s e) h.n (ways a) taken h.below in
     record {
       n = h.n;
-      below = let l : h.n < ways a = h.below in omega (arith, l);
+      below = first_below (known e) (condition s e) h.n (ways a) (ways b) taken h.below;
       events_are = ap (λ es. event me k Touches (map (use_as Reads) (cells_named e)) ∷ es)
-          (either_first (condition s e) _ _ taken ∙ h.events_are ∙ ap (events_on h.n own me (k + 1) a) (add_none s.tasks)
-          ∙ sym (if_less h.n (ways a) _ _ h.below));
-      tasks_are = ap (λ t. t.tasks) (either_first (condition s e) (after way a (bump 0 1 s)) _ taken) ∙ h.tasks_are
-          ∙ ap (λ t. t + tasks_on h.n a) (add_none s.tasks) ∙ ap (λ t. s.tasks + t) (sym (if_less h.n (ways a) _ _ h.below));
+          (either_first number _ _ taken ∙ h.events_are ∙ ap (events_on h.n own me (k + 1) a) (add_none s.tasks)
+          ∙ sym (if_met (takes_first (known e) h.n (ways a)) _ _ first));
+      tasks_are = ap (λ t. t.tasks) (either_first number (after way a (bump 0 1 s)) _ taken) ∙ h.tasks_are
+          ∙ ap (λ t. t + tasks_on h.n a) (add_none s.tasks) ∙ ap (λ t. s.tasks + t) (sym (if_met (takes_first (known e) h.n (ways a)) _ _ first));
     }
 
-number_second : (condition : State → E → ℕ) (own : Declared) (me k : ℕ) (e : E) (a b : Body) (s : State) → condition s e ≡ 0
+number_second : (condition : State → E → ℕ) (own : Declared) (me k : ℕ) (e : E) (a b : Body) (s : State) → unwrap_or (known e) (condition s e) ≡ 0
     → HasNumber condition own me (k + 1 + size a) b (bump 0 1 s) → HasNumberOne condition own me k (If e a b) s
 number_second condition own me k e a b s taken h =
     let way = way_by condition in
-    let n = ways a + h.n in
-    let over : ways a ≤ n = omega arith in
-    let less : h.n ≡ n - ways a = omega arith in
+    let number = unwrap_or (known e) (condition s e) in
+    let n = number_of_second (known e) (ways a) h.n in
+    let second : takes_first (known e) n (ways a) ≡ false = second_taken (known e) (condition s e) h.n (ways a) taken in
+    let left : h.n ≡ left_for_second (known e) n (ways a) = second_left (known e) h.n (ways a) in
     record {
       n = n;
-      below = let l : h.n < ways b = h.below in omega (arith, l);
+      below = second_below (known e) (condition s e) h.n (ways a) (ways b) taken h.below;
       events_are = ap (λ es. event me k Touches (map (use_as Reads) (cells_named e)) ∷ es)
-          (either_second (condition s e) _ _ taken ∙ h.events_are ∙ ap (events_on h.n own me (k + 1 + size a) b) (add_none s.tasks)
-          ∙ ap (λ m. events_on m own me (k + 1 + size a) b s.tasks) less ∙ sym (if_not_less n (ways a) _ _ over));
-      tasks_are = ap (λ t. t.tasks) (either_second (condition s e) _ (after way b (bump 0 1 s)) taken) ∙ h.tasks_are
-          ∙ ap (λ t. t + tasks_on h.n b) (add_none s.tasks) ∙ ap (λ m. s.tasks + tasks_on m b) less
-          ∙ ap (λ t. s.tasks + t) (sym (if_not_less n (ways a) _ _ over));
+          (either_second number _ _ taken ∙ h.events_are ∙ ap (events_on h.n own me (k + 1 + size a) b) (add_none s.tasks)
+          ∙ ap (λ m. events_on m own me (k + 1 + size a) b s.tasks) left ∙ sym (if_unmet (takes_first (known e) n (ways a)) _ _ second));
+      tasks_are = ap (λ t. t.tasks) (either_second number _ (after way b (bump 0 1 s)) taken) ∙ h.tasks_are
+          ∙ ap (λ t. t + tasks_on h.n b) (add_none s.tasks) ∙ ap (λ m. s.tasks + tasks_on m b) left
+          ∙ ap (λ t. s.tasks + t) (sym (if_unmet (takes_first (known e) n (ways a)) _ _ second));
     }
 
 number_next : (condition : State → E → ℕ) (own : Declared) (me k : ℕ) (x : S) (rest : Body) (s : State) → (i : HasNumberOne condition own me k x s)
@@ -104,7 +89,7 @@ mutual
   pub number_one : (condition : State → E → ℕ) (own : Declared) (me k : ℕ) (x : S) (s : State) → HasNumberOne condition own me k x s
   number_one condition own me k (Set c e) s = record { n = 0; below = omega arith; events_are = refl; tasks_are = refl }
   number_one condition own me k (Fold o c e) s = record { n = 0; below = omega arith; events_are = refl; tasks_are = refl }
-  number_one condition own me k (If e a b) s = elim (cases_eq (condition s e) 0) [
+  number_one condition own me k (If e a b) s = elim (cases_eq (unwrap_or (known e) (condition s e)) 0) [
     | inl taken ↦ number_second condition own me k e a b s taken (number condition own me (k + 1 + size a) b (bump 0 1 s))
     | inr taken ↦ number_first condition own me k e a b s taken (number condition own me (k + 1) a (bump 0 1 s))
   ]

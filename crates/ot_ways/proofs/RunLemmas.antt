@@ -1,6 +1,6 @@
 -- A run and the way with its values have the same events, but for what picks read.
-use Rattle.std.proofs.Common.{◌≡◌, ◌+◌, ◌%◌, ◌<◌, ℕ, zero, suc, List, [], ◌∷◌, ◌++◌, length, map, refl, ap, subst, ◌∙◌, inl, inr, arith}
-use Rattle.std.specs.Prelude.{◌==◌, Option, Some, Contains}
+use Rattle.std.proofs.Common.{◌≡◌, ◌+◌, ◌%◌, ◌<◌, ℕ, zero, suc, List, [], ◌∷◌, ◌++◌, length, map, refl, sym, ap, subst, ◌∙◌, inl, inr, arith}
+use Rattle.std.specs.Prelude.{◌==◌, Option, Some, Contains, unwrap_or}
 use Rattle.std.proofs.lemmas.Nat.{mod_below}
 use Rattle.std.proofs.lemmas.List.Elements.{Contains-append_left, Contains-append_right, Contains-append_cases}
 use Rattle.std.proofs.lemmas.List.FromFn.{length-map-range_with_len, get_or-map-range_with_len}
@@ -14,20 +14,16 @@ use Rattle.ot_model.specs.declared.stmt.Mode.TheVariants.{Reads}
 use Rattle.ot_model.specs.declared.stmt.Use.{Use}
 use Rattle.ot_check.specs.Offences.{use_as, Declared}
 use Rattle.ot_race.specs.Events.{Way, event, Begins, Leaves, events, events_one, after, after_one, reads_now, this_way}
+use Rattle.ot_ways.specs.Known.{known}
 use Rattle.ot_ways.specs.Ways.{way_by}
-use Rattle.ot_ways.proofs.LikeLemmas.{AreLike, like_itself, like_append, like_length, like_if}
+use Rattle.ot_ways.proofs.BranchLemmas.{known_in_run}
+use Rattle.ot_corder.proofs.LikeLemmas.{AreLike, like_itself, like_append, like_length, like_if, first_of_list, later_of_list}
 
 -- the way whose conditions have the values of the run
 abbrev pub run_as_way : Way
 run_as_way = way_by (λ s e. val (cell_of s.cells) e)
 
 -- ---- what is read
-
-first_of_list : {A : Type 0} (x : A) (xs : List A) → Contains (x ∷ xs) x
-first_of_list x xs = (zero, (let l : 0 < length (x ∷ xs) = omega arith in l), refl)
-
-later_of_list : {A : Type 0} (x y : A) (xs : List A) → Contains xs y → Contains (x ∷ xs) y
-later_of_list x y xs h = (suc h.0, (let l : suc h.0 < length (x ∷ xs) = omega (arith, h.1) in l), h.2)
 
 record Comes {A B : Type 0} (f : A → B) (xs : List A) (u : B) : Type 0 where
   from : A
@@ -92,7 +88,9 @@ mutual
   after_one_same (Fold o c e) s = refl
   after_one_same (If e a b) s =
       let n = val (cell_of s.cells) e in
-      ap (λ t. either n t (after this_way b (bump 0 1 s))) (after_same a (bump 0 1 s)) ∙ ap (either n (after run_as_way a (bump 0 1 s))) (after_same b (bump 0 1 s))
+      let same : n ≡ unwrap_or (known e) n = sym (known_in_run (cell_of s.cells) e) in
+      ap (λ m. either m (after this_way a (bump 0 1 s)) (after this_way b (bump 0 1 s))) same
+      ∙ ap (λ t. either (unwrap_or (known e) n) t (after this_way b (bump 0 1 s))) (after_same a (bump 0 1 s)) ∙ ap (either (unwrap_or (known e) n) (after run_as_way a (bump 0 1 s))) (after_same b (bump 0 1 s))
   after_one_same (Task d b) s = after_same b (bump 1 1 s)
   after_one_same (Wait w) s = refl
   after_one_same (Group o cs b) s = after_same b (bump 0 1 s)
@@ -108,7 +106,12 @@ mutual
   like_one lens own me k (Fold o c e) s h = (record { task_same = refl; deed_same = refl; within = uses_within lens (cell_of s.cells) e _ h.1 }, tt)
   like_one lens own me k (If e a b) s h = (
     record { task_same = refl; deed_same = refl; within = test_within lens (cell_of s.cells) e h.0 },
-    like_if (val (cell_of s.cells) e == 0) _ _ _ _ (like_all lens own me (k + 1 + size a) b (bump 0 1 s) h.2) (like_all lens own me (k + 1) a (bump 0 1 s) h.1),
+    subst
+        (λ (n : ℕ). AreLike
+        (either (val (cell_of s.cells) e) (events this_way own me (k + 1) a (bump 0 1 s)) (events this_way own me (k + 1 + size a) b (bump 0 1 s)))
+        (either n (events run_as_way own me (k + 1) a (bump 0 1 s)) (events run_as_way own me (k + 1 + size a) b (bump 0 1 s))))
+        (sym (known_in_run (cell_of s.cells) e))
+        (like_if (val (cell_of s.cells) e == 0) _ _ _ _ (like_all lens own me (k + 1 + size a) b (bump 0 1 s) h.2) (like_all lens own me (k + 1) a (bump 0 1 s) h.1)),
   )
   like_one lens own me k (Task d b) s h = (like_itself (event (s.tasks + 1) k (Begins me d) []), like_all lens (Some d) (s.tasks + 1) (k + 1) b (bump 1 1 s) h.1)
   like_one lens own me k (Wait w) s h = (record { task_same = refl; deed_same = refl; within = λ u r. r }, tt)

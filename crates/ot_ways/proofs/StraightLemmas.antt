@@ -1,9 +1,10 @@
 -- The way through a straight body does what its run does.
-use Rattle.std.proofs.Common.{◌≡◌, ◌∙◌, ◌+◌, ℕ, true, false, ◌&&◌, List, [], ◌∷◌, ◌++◌, length, map, refl, sym, ap, subst, arith}
-use Rattle.std.specs.Prelude.{Option, Some, None}
-use Rattle.ot_model.specs.Tree.{E, Literal, CellAt, Apply, PickFrom, S, Set, Fold, If, Task, Wait, Group, Body, End, Next, size_one, cells_named}
+use Rattle.std.proofs.Common.{◌≡◌, ◌∙◌, ◌+◌, ℕ, true, false, ◌&&◌, List, [], ◌∷◌, ◌++◌, length, map, refl, sym, ap, subst, arith, inl, inr}
+use Rattle.std.specs.Prelude.{Option, Some, None, unwrap_or}
+use Rattle.std.proofs.lemmas.Bool.{cases_eq}
+use Rattle.ot_model.specs.Tree.{E, Literal, CellAt, Apply, PickFrom, S, Set, Fold, If, Task, Wait, Group, Body, End, Next, size, size_one, cells_named, val}
 use Rattle.ot_model.specs.Cells.{cell_of}
-use Rattle.ot_model.specs.Serial.{State, bump}
+use Rattle.ot_model.specs.Serial.{State, bump, either}
 use Rattle.ot_model.specs.declared.expr.Cell.{Cell}
 use Rattle.ot_model.specs.declared.stmt.Mode.TheVariants.{Reads, Writes}
 use Rattle.ot_check.specs.Offences.{use_as, Declared}
@@ -11,9 +12,11 @@ use Rattle.ot_race.specs.Events.{event, Touches, Begins, Leaves, fold_as, events
 use Rattle.ot_race.specs.Races.{NothingRaces}
 use Rattle.ot_corder.specs.Orders.{ordered_by}
 use Rattle.ot_corder.specs.declared.order.Order.{Order}
+use Rattle.ot_ways.specs.Known.{names_none, known}
 use Rattle.ot_ways.specs.Straight.{has_no_pick, is_straight, is_straight_one}
 use Rattle.ot_ways.specs.Verdicts.{NoWayRaces}
 use Rattle.ot_ways.specs.Ways.{way_by}
+use Rattle.ot_ways.proofs.BranchLemmas.{either_first, either_second, same_number, picks_none, number_of, known_number, straight_knows, straight_takes}
 use Rattle.ot_ways.proofs.TellLemmas.{left_of, right_of}
 
 -- a value without picks reads what it names
@@ -48,7 +51,35 @@ mutual
     events_same = ap (λ cs. event me k Touches (map (use_as Reads) cs ++ use_as (fold_as own o c) c ∷ []) ∷ []) (reads_named (cell_of s.cells) e h);
     tasks_same = more_tasks s.tasks t.tasks 0 tasks;
   }
-  same_one condition own me k (If e a b) s t h tasks = cc
+  same_one condition own me k (If e a b) s t h tasks =
+      let way = way_by condition in
+      let none : names_none e ≡ true = straight_knows e (is_straight a) (is_straight b) h in
+      let body : either (number_of e) (is_straight a) (is_straight b) ≡ true = straight_takes e (is_straight a) (is_straight b) h in
+      let run : val (cell_of s.cells) e ≡ number_of e = same_number (cell_of s.cells) (λ c. None) e none in
+      let on : unwrap_or (known e) (condition t e) ≡ number_of e = known_number e (condition t e) none in
+      let one = events this_way own me (k + 1) a (bump 0 1 s) in
+      let two = events this_way own me (k + 1 + size a) b (bump 0 1 s) in
+      let reads = ap (λ cs. event me k Touches (map (use_as Reads) cs) ∷ either (val (cell_of s.cells) e) one two)
+      (reads_named (cell_of s.cells) e (picks_none e none)) in
+      let test = event me k Touches (map (use_as Reads) (cells_named e)) in
+      elim (cases_eq (number_of e) 0) [
+        | inl is ↦
+            let i = same condition own me (k + 1 + size a) b (bump 0 1 s) (bump 0 1 t) (sym (either_second (number_of e) _ _ is) ∙ body) (more_tasks s.tasks t.tasks 0 tasks) in
+            record {
+              events_same = reads ∙ ap (λ es. test ∷ es) (either_second (val (cell_of s.cells) e) one two (run ∙ is) ∙ i.events_same
+                  ∙ sym (either_second (unwrap_or (known e) (condition t e)) (events way own me (k + 1) a (bump 0 1 t)) _ (on ∙ is)));
+              tasks_same = ap (λ t. t.tasks) (either_second (val (cell_of s.cells) e) (after this_way a (bump 0 1 s)) _ (run ∙ is)) ∙ i.tasks_same
+                  ∙ sym (ap (λ t. t.tasks) (either_second (unwrap_or (known e) (condition t e)) (after way a (bump 0 1 t)) (after way b (bump 0 1 t)) (on ∙ is)));
+            }
+        | inr apart ↦
+            let i = same condition own me (k + 1) a (bump 0 1 s) (bump 0 1 t) (sym (either_first (number_of e) _ _ apart) ∙ body) (more_tasks s.tasks t.tasks 0 tasks) in
+            record {
+              events_same = reads ∙ ap (λ es. test ∷ es) (either_first (val (cell_of s.cells) e) one two (λ z. apart (sym run ∙ z)) ∙ i.events_same
+                  ∙ sym (either_first (unwrap_or (known e) (condition t e)) _ (events way own me (k + 1 + size a) b (bump 0 1 t)) (λ z. apart (sym on ∙ z))));
+              tasks_same = ap (λ t. t.tasks) (either_first (val (cell_of s.cells) e) _ (after this_way b (bump 0 1 s)) (λ z. apart (sym run ∙ z))) ∙ i.tasks_same
+                  ∙ sym (ap (λ t. t.tasks) (either_first (unwrap_or (known e) (condition t e)) (after way a (bump 0 1 t)) (after way b (bump 0 1 t)) (λ z. apart (sym on ∙ z))));
+            }
+      ]
   same_one condition own me k (Task d b) s t h tasks =
       let i = same condition (Some d) (s.tasks + 1) (k + 1) b (bump 1 1 s) (bump 1 1 t) h (more_tasks s.tasks t.tasks 1 tasks) in
       record {

@@ -1,15 +1,26 @@
 -- How many ways there are: one at least.
-use Rattle.std.proofs.Common.{ℕ, ◌≡◌, ◌+◌, ◌*◌, ◌<◌, ◌≤◌, ◌⊎◌, inl, inr, ap, sym, ◌∙◌, arith}
-use Rattle.std.specs.Prelude.{min}
+use Rattle.std.proofs.Common.{ℕ, ◌≡◌, ◌*◌, ◌<◌, ◌≤◌, ◌⊎◌, inl, inr, ap, sym, subst, ◌∙◌, refl, arith}
+use Rattle.std.proofs.lemmas.Bool.{cases_eq}
+use Rattle.std.specs.Prelude.{nat_lt, Option, Some, None, min}
 use Rattle.std.proofs.Math.Nat.{mul-pos, le-mul_of_pos_right}
 use Rattle.ot_model.specs.Tree.{E, S, Set, Fold, If, Task, Wait, Group, Body, End, Next}
-use Rattle.ot_ways.specs.Ways.{ways, ways_one}
+use Rattle.ot_ways.specs.Known.{known}
+use Rattle.ot_ways.specs.Numbered.{takes_first, left_for_second}
+use Rattle.ot_ways.specs.Ways.{ways, ways_one, ways_of_if}
+use Rattle.ot_ways.proofs.BranchLemmas.{either_first, either_second}
+
+some_of_if : (o : Option ℕ) (v w : ℕ) → 0 < v → 0 < w → 0 < ways_of_if o v w
+some_of_if None v w p q = omega (arith, p)
+some_of_if (Some n) v w p q = elim (cases_eq n 0) [
+  | inl is ↦ subst (λ m. 0 < m) (sym (either_second n v w is)) q
+  | inr apart ↦ subst (λ m. 0 < m) (sym (either_first n v w apart)) p
+]
 
 mutual
   pub some_way_one : (x : S) → 0 < ways_one x
   some_way_one (Set c e) = omega arith
   some_way_one (Fold o c e) = omega arith
-  some_way_one (If e a b) = let h : 0 < ways a = some_way a in omega (arith, h)
+  some_way_one (If e a b) = some_of_if (known e) (ways a) (ways b) (some_way a) (some_way b)
   some_way_one (Task d b) = some_way b
   some_way_one (Wait w) = omega arith
   some_way_one (Group o cs b) = some_way b
@@ -63,6 +74,16 @@ counted_some w n is some = omega (arith, is, some)
 pub counted_few : (w n : ℕ) → w ≡ min n 1025 → n < 1025 → w ≡ n
 counted_few w n is few = omega (arith, is, few)
 
--- few ways through an `if` are few through its first body
-pub few_first : (e : E) (a b : Body) (x : S) → x ≡ If e a b → ways_one x < 1025 → ways a < 1025
-few_first e a b x is few = let all : ways_one x ≡ ways a + ways b = ap ways_one is in omega (arith, few, all)
+-- ---- an `if` with so many ways through its bodies
+
+pub few_of_if : (e : E) (a b : Body) (x : S) → x ≡ If e a b → ways_one x < 1025 → ways_of_if (known e) (ways a) (ways b) < 1025
+few_of_if e a b x is few = subst (λ n. n < 1025) (ap ways_one is) few
+
+-- where they are few it doesn't matter that those of its first body are counted up to 1025
+pub counted_takes : (o : Option ℕ) (n v one w : ℕ) → v ≡ min one 1025 → ways_of_if o one w < 1025 → takes_first o n v ≡ takes_first o n one
+counted_takes None n v one w is few = let same : v ≡ one = omega (arith, is, few) in ap (nat_lt n) same
+counted_takes (Some k) n v one w is few = refl
+
+pub counted_left : (o : Option ℕ) (n v one w : ℕ) → v ≡ min one 1025 → ways_of_if o one w < 1025 → left_for_second o n v ≡ left_for_second o n one
+counted_left None n v one w is few = omega (arith, is, few)
+counted_left (Some k) n v one w is few = refl

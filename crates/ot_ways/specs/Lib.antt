@@ -1,3 +1,4 @@
+pub mod Known
 pub mod Ways
 pub mod Naming
 pub mod Verdicts

@@ -1,21 +1,27 @@
--- All ways through a program: on each, an `if` takes either of its bodies.
-use Rattle.std.specs.Prelude.{ℕ, ◌+◌, ◌*◌, ◌++◌, Bool, true, false, List, [], ◌∷◌}
+-- All ways through a program: on each, an `if` takes either of its bodies, but for one whose condition names no cell.
+use Rattle.std.specs.Prelude.{ℕ, ◌+◌, ◌*◌, ◌++◌, Bool, true, false, List, [], ◌∷◌, Option, Some, None, unwrap_or}
 use Rattle.ot_model.specs.Tree.{E, S, Set, Fold, If, Task, Wait, Group, Body, End, Next, size, size_one, cells_named}
 use Rattle.ot_model.specs.Serial.{State, bump, either}
 use Rattle.ot_race.specs.Events.{Way, after_one}
+use Rattle.ot_ways.specs.Known.{known}
 use Rattle.ot_ways.specs.declared.verdict.Turn.{Turn}
 
--- The way on which conditions have these numbers, whatever the cells hold. A value reads each cell that it names, a pick its
--- whole section.
+-- The way on which conditions have these numbers, whatever the cells hold; one that names no cell has its own. A value reads each
+-- cell that it names, a pick its whole section.
 abbrev pub way_by : (State → E → ℕ) → Way
-way_by condition = record { condition = condition; reads = λ s e. cells_named e }
+way_by condition = record { condition = λ s e. unwrap_or (known e) (condition s e); reads = λ s e. cells_named e }
+
+-- how many ways there are through an `if` with so many through its bodies; one whose condition is known takes the body that it says
+abbrev pub ways_of_if : Option ℕ → ℕ → ℕ → ℕ
+ways_of_if None one two = one + two
+ways_of_if (Some n) one two = either n one two
 
 -- how many ways there are through a statement, through a body
 abbrev mutual
   pub ways_one : S → ℕ
   ways_one (Set c e) = 1
   ways_one (Fold o c e) = 1
-  ways_one (If e a b) = ways a + ways b
+  ways_one (If e a b) = ways_of_if (known e) (ways a) (ways b)
   ways_one (Task d b) = ways b
   ways_one (Wait w) = 1
   ways_one (Group o cs b) = ways b

@@ -4,6 +4,7 @@ ghost use Rattle.ot_model.specs.View.{stmt_of, stmts_of};
 ghost use Rattle.ot_model.specs.Tree.{size, size_one};
 ghost use Rattle.ot_ways.specs.Ways.{ways, ways_one};
 
+use crate::known::{known, ways_of_if};
 use ot_model::Stmt;
 
 /// One more than the ways that are judged. Ways are counted up to here.
@@ -27,12 +28,12 @@ pub(crate) fn extent_one(stmt: &Stmt) -> Extent
             statements: 1,
             ways: 1,
         },
-        Stmt::If(_, one, two) => {
+        Stmt::If(expr, one, two) => {
             let one = extent_all(one);
             let two = extent_all(two);
             Extent {
                 statements: 1 + one.statements + two.statements,
-                ways: few(one.ways + two.ways),
+                ways: few(ways_of_if(known(expr), one.ways, two.ways)),
             }
         }
         Stmt::Task(_, body) | Stmt::Group(_, _, body) => {

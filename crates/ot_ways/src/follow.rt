@@ -8,6 +8,7 @@ ghost use Rattle.ot_ways.specs.Ways.{ways, ways_one};
 ghost use Rattle.ot_ways.specs.Numbered.{events_on, events_on_one, tasks_on, tasks_on_one, turns_on, turns_on_one};
 
 use crate::extent::{extent_all, extent_one};
+use crate::known::{known, left_for_second, takes_first};
 use crate::reads::note_reads;
 use crate::verdict::Turn;
 use ot_model::{Decl, Mode, Stmt, Use};
@@ -99,13 +100,15 @@ fn follow_one<'a>(
             note_reads(expr, &mut uses)?;
             put(trail, owner.task, place, Deed::Touches, uses)?;
             let extent = extent_all(one);
-            let first = way < extent.ways;
+            let decided = known(expr);
+            let first = takes_first(decided, way, extent.ways);
             trail.turns.push(Turn { place, first })?;
             if first {
                 follow_all(alloc, one, trail, owner, place + 1, way)
             } else {
                 let behind = place + 1 + extent.statements;
-                follow_all(alloc, two, trail, owner, behind, way - extent.ways)
+                let left = left_for_second(decided, way, extent.ways);
+                follow_all(alloc, two, trail, owner, behind, left)
             }
         }
         Stmt::Task(decl, body) => {

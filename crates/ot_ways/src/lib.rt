@@ -4,6 +4,7 @@
 mod extent;
 mod follow;
 mod judging;
+mod known;
 pub mod laws;
 mod naming;
 mod reads;

@@ -3,9 +3,10 @@ ghost use Rattle.std.specs.Prelude.{◌≡◌};
 ghost use Rattle.ot_model.specs.View.{expr_of, stmt_of, stmts_of};
 ghost use Rattle.ot_ways.specs.Straight.{has_no_pick, is_straight, is_straight_one};
 
+use crate::known::{is_straight_if, known};
 use ot_model::{Expr, Stmt};
 
-/// Whether a body has no branches and no picks: the way through it does what its run does.
+/// Whether a body has no picks, and no branches but those whose conditions name no cell: the way through it does what its run does.
 #[cycle(straight)]
 pub fn is_straight(body: &Vec<Stmt>) -> bool
     ensures { result ≡ is_straight (stmts_of body.now.items) }
@@ -24,7 +25,9 @@ fn is_straight_one(stmt: &Stmt) -> bool
 {
     match stmt {
         Stmt::Set(_, expr) | Stmt::Fold(_, _, expr) => has_no_pick(expr),
-        Stmt::If(_, _, _) => false,
+        Stmt::If(expr, one, two) => {
+            is_straight_if(known(expr), is_straight(one), is_straight(two))
+        }
         Stmt::Wait(_) => true,
         Stmt::Task(_, body) | Stmt::Group(_, _, body) => is_straight(body),
     }

@@ -1,5 +1,5 @@
 -- How far goes what begins here, one byte further on.
-use Rattle.std.proofs.Common.{◌≡◌, ℕ, zero, suc, ◌+◌, ◌<◌, Bool, true, false, [], ◌∷◌, take, drop, length, get_or, Option, Some, None, refl, sym, ap, ◌∙◌, subst, lit<, arith}
+use Rattle.std.proofs.Common.{◌≡◌, ℕ, zero, suc, ◌+◌, ◌<◌, Bool, true, false, [], ◌∷◌, ◌||◌, take, drop, length, get_or, Option, Some, None, refl, sym, ap, ◌∙◌, subst, lit<, arith}
 use Rattle.std.specs.Prelude.{option_map, nat_eq, codes, if◌then◌else◌}
 use Rattle.std.specs.List.{starts_with, prefix_len}
 use Rattle.std.specs.Str.{IsAscii}
@@ -7,7 +7,7 @@ use Rattle.std.proofs.lemmas.Bool.Decides.{nat_tests}
 use Rattle.ot_words.specs.Names.{in_name}
 use Rattle.std.proofs.lemmas.List.{at_drop_more}
 use Rattle.ot_words.specs.Tables.{Text}
-use Rattle.ot_words.specs.Spans.{one_more, comment_len}
+use Rattle.ot_words.specs.Spans.{one_more, comment_len, begins_trigraph, has_trigraph}
 
 shifted : (n : ℕ) (o : Option ℕ) → option_map (λ m. n + m) (one_more o) ≡ option_map (λ m. n + 1 + m) o
 shifted n None = refl
@@ -22,6 +22,15 @@ pub comment_goes_on : (bytes : Text) (i : ℕ) → i < length bytes → starts_w
 comment_goes_on bytes i within h =
     let front = at_drop_more (λ (rest : Text). rest) bytes i 0 within in
     sym (ap (λ rest. option_map (λ m. i + m) (comment_len rest)) front ∙ comment_step i (get_or bytes i 0) (drop (i + 1) bytes) (sym (ap (λ rest. starts_with nat_eq rest (codes "*/")) front) ∙ h))
+
+trigraph_step : (b : ℕ) (bs : Text) → begins_trigraph (b ∷ bs) ≡ false → has_trigraph (b ∷ bs) ≡ has_trigraph bs
+trigraph_step b bs h = ap (λ x. x || has_trigraph bs) h
+
+-- where no trigraph begins, what is left tells it as before
+pub trigraph_goes_on : (bytes : Text) (i : ℕ) → i < length bytes → begins_trigraph (drop i bytes) ≡ false → has_trigraph (drop (i + 1) bytes) ≡ has_trigraph (drop i bytes)
+trigraph_goes_on bytes i within h =
+    let front = at_drop_more (λ (rest : Text). rest) bytes i 0 within in
+    sym (ap (λ rest. has_trigraph rest) front ∙ trigraph_step (get_or bytes i 0) (drop (i + 1) bytes) (sym (ap (λ rest. begins_trigraph rest) front) ∙ h))
 
 -- ---- names
 

@@ -6,7 +6,7 @@ use Rattle.ot_words.specs.Tables.{Text}
 use Rattle.ot_words.specs.Names.{is_digit, is_letter}
 use Rattle.ot_words.specs.Marks.{mark_at}
 use Rattle.ot_words.specs.Numbers.{Numbered, number_of}
-use Rattle.ot_words.specs.Spans.{is_white, name_len, blank_len, line_len, comment_len, quoted_len, closed_len, spliced_behind, next_word}
+use Rattle.ot_words.specs.Spans.{is_white, name_len, blank_len, line_len, comment_len, quoted_len, closed_len, spliced_behind, begins_trigraph, has_trigraph, next_word}
 use Rattle.ot_words.specs.declared.fault.Wrong.{Wrong}
 use Rattle.ot_words.specs.declared.fault.Wrong.TheVariants as wrong
 use Rattle.ot_words.specs.declared.known.Known.{Known}
@@ -63,19 +63,23 @@ numbered len (Ok n) = Ok (p.Number n.0 n.1, len)
 unfoldable pub numeral_at : Text → Found
 numeral_at bytes = numbered (name_len bytes) (number_of (take (name_len bytes) bytes))
 
--- what ends, with so many bytes before it, or else is open
-abbrev pub ended : Piece → ℕ → Wrong → Option ℕ → Found
-ended piece len otherwise None = Err otherwise
-ended piece len otherwise (Some n) = Ok (piece, len + n)
+-- what has these bytes, unless a trigraph is among them
+abbrev pub without_trigraph : Text → Found → Found
+without_trigraph bytes found = if has_trigraph bytes then Err wrong.Trigraph else found
+
+-- what ends among these bytes, with so many before it, or else is open
+abbrev pub ended : Piece → ℕ → Wrong → Text → Option ℕ → Found
+ended piece len otherwise bytes None = Err otherwise
+ended piece len otherwise bytes (Some n) = without_trigraph (take n bytes) (Ok (piece, len + n))
 
 -- behind two strokes
 unfoldable pub line_at : Text → Found
-line_at bytes = if spliced_behind false (take (line_len bytes) bytes) then Err wrong.SplicedComment else Ok (p.Nothing, 2 + line_len bytes)
+line_at bytes = if spliced_behind false (take (line_len bytes) bytes) then Err wrong.SplicedComment else without_trigraph (take (line_len bytes) bytes) (Ok (p.Nothing, 2 + line_len bytes))
 
 -- behind a stroke: a comment, or a mark
 unfoldable pub stroke_at : Text → Text → Found
 stroke_at bytes [] = marked (mark_at bytes)
-stroke_at bytes (b ∷ bs) = if b == 47 then line_at bs else if b == 42 then ended p.Nothing 2 wrong.OpenComment (comment_len bs) else marked (mark_at bytes)
+stroke_at bytes (b ∷ bs) = if b == 47 then line_at bs else if b == 42 then ended p.Nothing 2 wrong.OpenComment bs (comment_len bs) else marked (mark_at bytes)
 
 -- behind a single quote: a byte that means itself, and another quote
 unfoldable pub letter_at : Text → Found
@@ -88,7 +92,7 @@ letter_at (b ∷ c ∷ bs) = if (c == 39) && not (b == 39) && not (b == 92) && n
 -- behind `#include` and blanks: a header
 unfoldable pub header_at : ℕ → Text → Found
 header_at len [] = Err wrong.OtherDirective
-header_at len (b ∷ bs) = if b == 60 then ended p.Include (len + 1) wrong.OtherDirective (closed_len 62 bs) else if b == 34 then ended p.Include (len + 1) wrong.OtherDirective (closed_len 34 bs) else Err wrong.OtherDirective
+header_at len (b ∷ bs) = if b == 60 then ended p.Include (len + 1) wrong.OtherDirective bs (closed_len 62 bs) else if b == 34 then ended p.Include (len + 1) wrong.OtherDirective bs (closed_len 34 bs) else Err wrong.OtherDirective
 
 -- behind `#pragma`: OpenMP's
 unfoldable pub omp_at : ℕ → Option Known × ℕ → Found
@@ -121,8 +125,9 @@ front on (b ∷ bs) =
     else if b == 92 then splice_at bs
     else if b == 47 then stroke_at (b ∷ bs) bs
     else if b == 35 then directive_at on bs
-    else if b == 34 then ended p.Text 1 wrong.OpenText (quoted_len false bs)
+    else if b == 34 then ended p.Text 1 wrong.OpenText bs (quoted_len false bs)
     else if b == 39 then letter_at bs
     else if is_letter b then Ok (p.Name, name_len (b ∷ bs))
     else if is_digit b then numeral_at (b ∷ bs)
+    else if begins_trigraph (b ∷ bs) then Err wrong.Trigraph
     else marked (mark_at (b ∷ bs))

@@ -1,5 +1,5 @@
 -- How far goes what begins here.
-use Rattle.std.specs.Prelude.{ℕ, ◌+◌, nat_eq, ◌==◌, Bool, not, ◌&&◌, ◌||◌, [], ◌∷◌, drop, take, Option, Some, None, codes, option_map, if◌then◌else◌}
+use Rattle.std.specs.Prelude.{ℕ, ◌+◌, nat_eq, ◌==◌, Bool, false, not, ◌&&◌, ◌||◌, [], ◌∷◌, drop, take, Option, Some, None, codes, option_map, if◌then◌else◌}
 use Rattle.std.specs.List.{prefix_len, starts_with}
 use Rattle.ot_words.specs.Tables.{Text}
 use Rattle.ot_words.specs.Names.{in_name, known_of}
@@ -51,6 +51,29 @@ closed_len mark (b ∷ bs) = if b == mark then Some 1 else if b == 10 then None 
 abbrev pub spliced_behind : Bool → Text → Bool
 spliced_behind spliced [] = spliced
 spliced_behind spliced (b ∷ bs) = spliced_behind ((b == 92) || (spliced && is_white b)) bs
+
+-- ---- trigraphs (C17, section 5.2.1.1)
+
+-- one of = / ' ( ) ! < > -
+abbrev pub is_third : ℕ → Bool
+is_third b = (b == 61) || (b == 47) || (b == 39) || (b == 40) || (b == 41) || (b == 33) || (b == 60) || (b == 62) || (b == 45)
+
+abbrev pub begins_third : Text → Bool
+begins_third [] = false
+begins_third (b ∷ bs) = is_third b
+
+abbrev pub begins_second : Text → Bool
+begins_second [] = false
+begins_second (b ∷ bs) = (b == 63) && begins_third bs
+
+-- two question marks and one of these at the front
+abbrev pub begins_trigraph : Text → Bool
+begins_trigraph [] = false
+begins_trigraph (b ∷ bs) = (b == 63) && begins_second bs
+
+abbrev pub has_trigraph : Text → Bool
+has_trigraph [] = false
+has_trigraph (b ∷ bs) = begins_trigraph (b ∷ bs) || has_trigraph bs
 
 -- ---- a word of a directive, behind blanks
 

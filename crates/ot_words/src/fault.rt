@@ -19,6 +19,8 @@ pub enum Wrong {
     SplicedComment,
     /// A string that doesn't end on its line.
     OpenText,
+    /// A trigraph: C reads two question marks and another mark as one mark, which nothing here does.
+    Trigraph,
     /// No directive that is read: `#include`, `#define` and `#pragma omp` are.
     OtherDirective,
 }

@@ -9,8 +9,8 @@ use crate::known::Known;
 use crate::mark::{Mark, mark_at};
 use crate::number::number;
 use crate::span::{
-    blank_len, closed_len, comment_len, is_digit, is_letter, is_spliced, is_white, line_len,
-    name_len, next_word, quoted_len,
+    begins_trigraph, blank_len, closed_len, comment_len, has_trigraph, is_digit, is_letter,
+    is_spliced, is_white, line_len, name_len, next_word, quoted_len,
 };
 use crate::word::IntegerType;
 
@@ -100,19 +100,29 @@ fn line_comment(bytes: &[u8]) -> Found
     if is_spliced(&bytes[..len]) {
         return Err(Wrong::SplicedComment);
     }
+    if has_trigraph(&bytes[..len]) {
+        return Err(Wrong::Trigraph);
+    }
     Ok((Piece::Nothing, 2 + len))
 }
 
-/// A piece that ends, with so many bytes before it, or else is open.
-fn ended(piece: Piece, len: usize, otherwise: Wrong, rest: Option<usize>) -> Found
+/// A piece that ends among these bytes, with so many before it, or else is open.
+fn ended(piece: Piece, len: usize, otherwise: Wrong, bytes: &[u8], rest: Option<usize>) -> Found
     requires room { IfSome rest (λ n. len + n < 2 ^ 64) }
+    requires within { IfSome rest (λ n. n ≤ length bytes.now) }
     requires other { pieces.IsOther piece }
     requires some { 0 < len }
-    ensures value { result ≡ pieces.ended piece len otherwise rest }
+    ensures value { result ≡ pieces.ended piece len otherwise bytes.now rest }
     ensures other { IfOk result (λ x. (0 < x.1) × pieces.IsOther x.0) }
 {
     match rest {
-        Some(more) => Ok((piece, len + more)),
+        Some(more) => {
+            if has_trigraph(&bytes[..more]) {
+                Err(Wrong::Trigraph)
+            } else {
+                Ok((piece, len + more))
+            }
+        }
         None => Err(otherwise),
     }
 }
@@ -126,7 +136,13 @@ fn stroke(bytes: &[u8], rest: &[u8]) -> Found
 {
     match rest {
         [b'/', rest @ ..] => line_comment(rest),
-        [b'*', rest @ ..] => ended(Piece::Nothing, 2, Wrong::OpenComment, comment_len(rest)),
+        [b'*', rest @ ..] => ended(
+            Piece::Nothing,
+            2,
+            Wrong::OpenComment,
+            rest,
+            comment_len(rest),
+        ),
         _ => marked(bytes),
     }
 }
@@ -166,12 +182,14 @@ fn header(len: usize, bytes: &[u8]) -> Found
             Piece::Include,
             len + 1,
             Wrong::OtherDirective,
+            rest,
             closed_len(b'>', rest),
         ),
         [b'"', rest @ ..] => ended(
             Piece::Include,
             len + 1,
             Wrong::OtherDirective,
+            rest,
             closed_len(b'"', rest),
         ),
         _ => Err(Wrong::OtherDirective),
@@ -248,13 +266,15 @@ pub(crate) fn front(on: Line, bytes: &[u8]) -> Found
     } else if first == b'#' {
         directive(on, rest)
     } else if first == b'"' {
-        ended(Piece::Text, 1, Wrong::OpenText, quoted_len(rest))
+        ended(Piece::Text, 1, Wrong::OpenText, rest, quoted_len(rest))
     } else if first == b'\'' {
         letter(rest)
     } else if is_letter(first) {
         Ok((Piece::Name, name_len(bytes)))
     } else if is_digit(first) {
         numeral(bytes)
+    } else if begins_trigraph(bytes) {
+        Err(Wrong::Trigraph)
     } else {
         marked(bytes)
     }

@@ -132,6 +132,60 @@ pub(crate) fn is_spliced(line: &[u8]) -> bool
     spliced
 }
 
+/// The last mark of a trigraph.
+fn is_third(byte: u8) -> bool
+    ensures { result ≡ spans.is_third byte }
+{
+    byte == b'='
+        || byte == b'/'
+        || byte == b'\''
+        || byte == b'('
+        || byte == b')'
+        || byte == b'!'
+        || byte == b'<'
+        || byte == b'>'
+        || byte == b'-'
+}
+
+fn begins_third(bytes: &[u8]) -> bool
+    ensures { result ≡ spans.begins_third bytes.now }
+{
+    match bytes {
+        [byte, ..] => is_third(*byte),
+        [] => false,
+    }
+}
+
+fn begins_second(bytes: &[u8]) -> bool
+    ensures { result ≡ spans.begins_second bytes.now }
+{
+    match bytes {
+        [byte, rest @ ..] => *byte == b'?' && begins_third(rest),
+        [] => false,
+    }
+}
+
+/// Whether a trigraph is at the front: two question marks and another mark.
+pub(crate) fn begins_trigraph(bytes: &[u8]) -> bool
+    ensures { result ≡ spans.begins_trigraph bytes.now }
+{
+    match bytes {
+        [byte, rest @ ..] => *byte == b'?' && begins_second(rest),
+        [] => false,
+    }
+}
+
+pub(crate) fn has_trigraph(bytes: &[u8]) -> bool
+    ensures { result ≡ spans.has_trigraph bytes.now }
+{
+    for i in 0..bytes.len() {
+        if begins_trigraph(&bytes[i..]) {
+            return true;
+        }
+    }
+    false
+}
+
 /// The next word of a directive, behind blanks, and how many bytes both have.
 #[tactic(auto, unfolding(crate::specs::Spans::next_word))]
 pub(crate) fn next_word(bytes: &[u8]) -> (Option<Known>, usize)

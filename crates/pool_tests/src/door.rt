@@ -75,8 +75,8 @@ pub(crate) struct Door {
     looks: bool,
     /// How many pieces of the first tenant pass before others of it are held.
     free: u64,
-    /// Whether a piece of a task of the first tenant is held until one of each of the first two has come.
-    pairs: bool,
+    /// How many pieces of tasks of the first tenant, its root aside, stand here together before one of them goes on.
+    together: u64,
     /// How many pieces of the first tenant have come.
     came: AtomicU64,
     /// The pieces of the first tenant.
@@ -107,7 +107,7 @@ impl Door {
         Door {
             looks: true,
             free,
-            pairs: false,
+            together: 0,
             came: AtomicU64::new(0),
             first: Pieces::new(),
             others: Pieces::new(),
@@ -116,11 +116,11 @@ impl Door {
         }
     }
 
-    /// A door that holds the pieces of the first tenant, and behind that those of its first two tasks until both
-    /// have come.
-    pub(crate) fn pairing() -> Door {
+    /// A door that holds the pieces of the first tenant, and behind that those of its tasks, its root aside, until so many
+    /// of these stand here together.
+    pub(crate) fn gathering(together: u64) -> Door {
         Door {
-            pairs: true,
+            together,
             ..Door::behind(0)
         }
     }
@@ -168,12 +168,16 @@ impl Door {
         came
     }
 
-    /// Waits until a piece of each of the first two tasks of the first tenant has come: whether they have.
-    fn wait_for_both(&self) -> bool {
+    /// Waits until as many pieces of tasks have come as are to stand here together, or another has given up: whether
+    /// they have.
+    fn wait_for_others(&self) -> bool {
         for _ in 0..TURNS {
-            let [_, one, two, _] = self.first.by_task.counts();
-            if one > 0 && two > 0 {
+            let [_, one, two, more] = self.first.by_task.counts();
+            if one.saturating_add(two).saturating_add(more) >= self.together {
                 return true;
+            }
+            if self.gave_up() {
+                return false;
             }
             thread::yield_now();
         }
@@ -186,10 +190,7 @@ impl Door {
         if before >= self.free && !self.wait_open() {
             return false;
         }
-        if self.pairs && task > 0 {
-            return self.wait_for_both();
-        }
-        true
+        task == 0 || self.wait_for_others()
     }
 
     /// How many pieces of each task have come: of the first tenant, and of all others.

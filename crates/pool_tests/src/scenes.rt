@@ -138,7 +138,7 @@ const SIDE_BY_SIDE: &str =
 fn a_worker_that_sleeps_is_told_of_a_piece_beside_that_of_another(
     rt: HostRuntime,
 ) -> Result<(), Fail> {
-    let door = Door::pairing();
+    let door = Door::gathering(2);
     let told = play(&rt, rt.alloc(), 1, 2, &door, &Scene::Asleep(SIDE_BY_SIDE))?;
     assert!(rt; !door.gave_up(), "{told:?}");
     assert!(rt;
@@ -146,6 +146,23 @@ fn a_worker_that_sleeps_is_told_of_a_piece_beside_that_of_another(
         "{told:?}"
     );
     assert_eq!(rt; door.by_task(), ([3, 1, 1, 0], [0; 4]));
+    Ok(())
+}
+
+/// Sixteen tasks that may run side by side.
+const SIXTEEN: &str = r#"[["for","i",0,16,[["task",[],[]]]]]"#;
+
+/// The pieces of all tasks stand at the door together, for which each worker has to hold one of them.
+#[test]
+fn sixteen_workers_hold_sixteen_pieces_together(rt: HostRuntime) -> Result<(), Fail> {
+    let door = Door::gathering(16);
+    let told = play(&rt, rt.alloc(), 1, 16, &door, &Scene::Asleep(SIXTEEN))?;
+    assert!(rt; !door.gave_up(), "{told:?}");
+    assert!(rt;
+        told.is("16 16 [1, 2, 3]\ntrue\n", [16].as_slice(), 16),
+        "{told:?}"
+    );
+    assert_eq!(rt; door.by_task(), ([17, 1, 1, 14], [0; 4]));
     Ok(())
 }
 

@@ -13,9 +13,10 @@ unfolding restore_words
 returns-clause-words c =
     let new = ap app_of_fields c.after_help.ensures ∙ ap app_of_fields c.about.ensures ∙ c.new.ensures.app in
     let socket = c.in_ok-arg.ensures.shape c.socket_arg.ensures.own ∙ ap₂ with_rule new c.socket_arg.ensures.rule in
-    IfOk-weaker c.arg-2.result _ _
-    (λ command added. ap (λ (a : App). a.top) (added.shape c.name_arg.ensures.own ∙ ap₂ with_rule socket c.name_arg.ensures.rule))
-    c.arg-2.ensures
+    let replace = c.in_ok-arg-2.ensures.shape c.flag_arg.ensures.own ∙ ap₂ with_rule socket c.flag_arg.ensures.rule in
+    IfOk-weaker c.arg-3.result _ _
+    (λ command added. ap (λ (a : App). a.top) (added.shape c.name_arg.ensures.own ∙ ap₂ with_rule replace c.name_arg.ensures.rule))
+    c.arg-3.ensures
 
 -- no argument is global
 pub returns-clause-own : goal.returns-clause-own
@@ -23,4 +24,5 @@ returns-clause-own c =
     let new = ap (λ (f : Command-F Command). f.has_globals) c.after_help.ensures
     ∙ ap (λ (f : Command-F Command). f.has_globals) c.about.ensures ∙ c.new.ensures.local in
     let socket = c.in_ok-arg.ensures.globals ∙ ap₂ (λ a b. a || b) new c.socket_arg.ensures.own in
-    IfOk-weaker c.arg-2.result _ _ (λ command added. added.globals ∙ ap₂ (λ a b. a || b) socket c.name_arg.ensures.own) c.arg-2.ensures
+    let replace = c.in_ok-arg-2.ensures.globals ∙ ap₂ (λ a b. a || b) socket c.flag_arg.ensures.own in
+    IfOk-weaker c.arg-3.result _ _ (λ command added. added.globals ∙ ap₂ (λ a b. a || b) replace c.name_arg.ensures.own) c.arg-3.ensures

@@ -1,19 +1,14 @@
 use Rattle.std.proofs.Common.{◌≡◌, ◌∙◌, sym, ap, true≢false}
-use Rattle.ot_model.specs.View.{stmts_of}
 use Rattle.ot_model.specs.Programs.{Expanded}
 use Rattle.ot_check.proofs.EqualLemmas.{expanded-same}
 use Rattle.ot_check.proofs.job.same_program.Goals as goal
 
 pub returns-then-same_shows : goal.returns-then-same_shows
 returns-then-same_shows c =
-    let p = c.args.one.now in
-    let q = c.args.other.now in
+    let p = c.args.one.now.program in
+    let q = c.args.other.now.program in
     let shows : p.shows.items ≡ q.shows.items = sym c.deref.ensures.value ∙ c.same_shows.ensures.0 c.if-same_shows.true ∙ c.deref-2.ensures.value in
-    let one = ap stmts_of c.deref-then-same_shows.ensures.value in
-    let other = ap stmts_of c.deref-then-same_shows-2.ensures.value in (
-      (λ yes. expanded-same p q shows (sym one ∙ c.same_stmts.ensures.0 yes ∙ other)),
-      λ is. c.same_stmts.ensures.1 (one ∙ ap (λ (e : Expanded). e.body) is ∙ sym other),
-    )
+    ((λ yes. expanded-same p q shows (c.same_body.ensures.0 yes)), λ is. c.same_body.ensures.1 (ap (λ (e : Expanded). e.body) is))
 
 pub returns-else-same_shows : goal.returns-else-same_shows
 returns-else-same_shows c = (

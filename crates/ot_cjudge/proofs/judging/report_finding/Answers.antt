@@ -1,6 +1,7 @@
-use Rattle.std.proofs.Common.{◌∙◌, sym, subst}
+use Rattle.std.proofs.Common.{refl, sym, subst}
 use Rattle.ot_model.specs.View.{stmts_of}
-use Rattle.ot_cjudge.specs.Reports.{ReportsFinding}
+use Rattle.ot_cjudge.specs.Reports.{ReportsFinding, warning_text, none_in_run}
+use Rattle.ot_cjudge.specs.declared.report.Verdict.TheVariants.{Clean}
 use Rattle.ot_cjudge.specs.SiteView.{source_by}
 use Rattle.ot_cjudge.proofs.ReportLemmas.{if_both}
 use Rattle.ot_cjudge.proofs.judging.report_finding.Goals as goal
@@ -21,19 +22,18 @@ returns-in-OnWay c = λ first.
     (λ report v t. subst (λ f. ReportsFinding s body f report.verdict report.text.items) (sym c.in-OnWay.is) (v, t))
     c.report_race-in-OnWay.ensures.verdict c.report_race-in-OnWay.ensures.text
 
-pub returns-in-Nowhere : goal.returns-in-Nowhere
-returns-in-Nowhere c = λ first.
+pub returns-in_ok-text-in-Nowhere : goal.returns-in_ok-text-in-Nowhere
+returns-in_ok-text-in-Nowhere c = λ first.
     let s = source_by c.args.source.now in
     let body = stmts_of c.args.program.now.body.items in
-    if_both c.report_offence.result _ _ (λ report. ReportsFinding s body c.args.finding report.verdict report.text.items)
-    (λ report v t. subst (λ f. ReportsFinding s body f report.verdict report.text.items) (sym c.in-Nowhere.is) (v, (c.args.first, first, t)))
-    c.report_offence.ensures.verdict c.report_offence.ensures.text
+    subst (λ f. ReportsFinding s body f Clean c.in_ok-text-in-Nowhere.text.items) (sym c.in-Nowhere.is)
+    (refl, (c.args.first, first, c.in_ok-text-in-Nowhere.ensures))
 
-pub returns-in_ok-told-in-OnlyRun : goal.returns-in_ok-told-in-OnlyRun
-returns-in_ok-told-in-OnlyRun c = λ first.
+pub returns-in-OnlyRun : goal.returns-in-OnlyRun
+returns-in-OnlyRun c = λ first.
     let s = source_by c.args.source.now in
     let body = stmts_of c.args.program.now.body.items in
-    if_both c.with_only_run.result _ _ (λ report. ReportsFinding s body c.args.finding report.verdict report.text.items)
+    if_both c.report_only_run.result _ _ (λ report. ReportsFinding s body c.args.finding report.verdict report.text.items)
     (λ report v t. subst (λ f. ReportsFinding s body f report.verdict report.text.items) (sym c.in-OnlyRun.is)
-    (v ∙ c.in_ok-told-in-OnlyRun.ensures.verdict, c.in_ok-told-in-OnlyRun.told.text.items, (c.args.first, first, c.in_ok-told-in-OnlyRun.ensures.text), t))
-    c.with_only_run.ensures.verdict c.with_only_run.ensures.text
+    (v, warning_text s body none_in_run c.args.first, (c.args.first, first, refl), t))
+    c.report_only_run.ensures.verdict c.report_only_run.ensures.text

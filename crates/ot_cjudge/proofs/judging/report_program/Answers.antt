@@ -2,9 +2,9 @@ use Rattle.std.proofs.Common.{subst}
 use Rattle.std.specs.Prelude.{Some, None}
 use Rattle.ot_model.specs.View.{stmts_of}
 use Rattle.ot_check.proofs.Cited.{if_ok}
-use Rattle.ot_overlap.specs.Items.{items_of}
+use Rattle.ot_overlap.specs.Items.{items_of, ground}
 use Rattle.ot_overlap.specs.Overlaps.{IsFirst}
-use Rattle.ot_cjudge.specs.Reports.{ReportsProgram}
+use Rattle.ot_cjudge.specs.Reports.{ReportsProgram, has_red_items}
 use Rattle.ot_cjudge.specs.SiteView.{source_by}
 use Rattle.ot_cjudge.proofs.ReportLemmas.{if_both}
 use Rattle.ot_cjudge.proofs.judging.report_program.Goals as goal
@@ -13,14 +13,18 @@ pub returns-in-Some : goal.returns-in-Some
 returns-in-Some c =
     let s = source_by c.args.source.now in
     let body = stmts_of c.args.program.body.items in
+    let first : IsFirst (items_of (ground s.arrays (has_red_items s.order)) s.request) c.in_ok-entry.field-0 =
+    subst (λ red. IsFirst (items_of (ground s.arrays red) s.request) c.in_ok-entry.field-0) c.has_red_items.ensures c.in_ok-entry.ensures in
     if_both c.report_overlap.result _ _ (λ report. ReportsProgram s c.args.cells body report.verdict report.text.items)
-    (λ report v t. (Some c.in-Some.entry, subst (IsFirst (items_of s.arrays s.request)) c.in-Some.is c.in_ok-entry.ensures, (v, t)))
+    (λ report v t. (Some c.in-Some.entry, subst (IsFirst (items_of (ground s.arrays (has_red_items s.order)) s.request)) c.in-Some.is first, (v, t)))
     c.report_overlap.ensures.verdict c.report_overlap.ensures.text
 
 pub returns : goal.returns
 returns c =
     let s = source_by c.args.source.now in
     let body = stmts_of c.args.program.body.items in
+    let first : IsFirst (items_of (ground s.arrays (has_red_items s.order)) s.request) c.in_ok-entry.field-0 =
+    subst (λ red. IsFirst (items_of (ground s.arrays red) s.request) c.in_ok-entry.field-0) c.has_red_items.ensures c.in_ok-entry.ensures in
     if_ok c.report_run.result _ (λ report. ReportsProgram s c.args.cells body report.verdict report.text.items)
-    (λ report h. (None, subst (IsFirst (items_of s.arrays s.request)) c.in-None.is c.in_ok-entry.ensures, h))
+    (λ report h. (None, subst (IsFirst (items_of (ground s.arrays (has_red_items s.order)) s.request)) c.in-None.is first, h))
     c.report_run.ensures

@@ -1,5 +1,4 @@
 use Rattle.std.proofs.Common.{sym, subst}
-use Rattle.ot_model.specs.Cells.{lengths}
 use Rattle.ot_model.specs.Names.{NamedIn}
 use Rattle.ot_model.specs.View.{stmts_of}
 use Rattle.ot_check.proofs.Cited.{if_ok}

@@ -1,5 +1,6 @@
-use Rattle.std.proofs.Common.{List, subst}
+use Rattle.std.proofs.Common.{List, ap, subst, ◌∙◌}
 use Rattle.std.specs.Prelude.{IfOk}
+use Rattle.ot_race.specs.Events as s
 use Rattle.ot_race.specs.Races.{TellsFirst}
 use Rattle.ot_race.specs.View.{events_in}
 use Rattle.ot_race.specs.declared.event.Event.{Event}
@@ -11,3 +12,9 @@ returns-in-OfLanguage c =
 
 pub returns-in-OfC : goal.returns-in-OfC
 returns-in-OfC c = rw c.in-OfC.is c.judge_in_c.ensures
+
+pub returns-in-OfCByPointers : goal.returns-in-OfCByPointers
+returns-in-OfCByPointers c =
+    rw c.in-OfCByPointers.is
+    (subst (λ (es : List s.Event). IfOk c.judge-in-OfCByPointers.result (TellsFirst es))
+    (ap events_in c.deref-in-OfCByPointers.ensures.value ∙ c.events_by_pointers.ensures) c.judge-in-OfCByPointers.ensures)

@@ -4,5 +4,5 @@ use Rattle.ot_cstatement.specs.Directives.{all_fit}
 use Rattle.ot_cstatement.proofs.directive.all_fit.Given as goal
 
 -- those that are left decide
-abbrev pub invariant-loop-clause : goal.invariant-loop-clause
-invariant-loop-clause l = all_fit l.directive (clauses_of (drop l.clause-index l.clauses)) ≡ all_fit l.directive (clauses_of l.clauses)
+abbrev pub invariant-loop-i : goal.invariant-loop-i
+invariant-loop-i l = all_fit l.directive (clauses_of (drop l.i l.clauses)) ≡ all_fit l.directive (clauses_of l.clauses)

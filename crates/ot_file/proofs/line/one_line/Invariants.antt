@@ -1,8 +1,10 @@
-use Rattle.std.proofs.Common.{◌≡◌, ◌++◌, drop}
-use Rattle.std.specs.List.{scan}
-use Rattle.ot_file.specs.Places.{place_after}
-use Rattle.ot_file.specs.OneLine.{on_line, one_line}
+use Rattle.std.proofs.Common.{◌≡◌, ◌++◌, length}
+use Rattle.ot_file.specs.OneLine.{line_in, one_line}
 use Rattle.ot_file.proofs.line.one_line.Given as goal
 
-abbrev pub invariant-loop-byte : goal.invariant-loop-byte
-invariant-loop-byte l = l.line.items ++ scan place_after on_line l.place (drop l.byte-index l.piece) ≡ one_line l.piece
+-- the line so far, and then the rest's, is the whole line
+abbrev pub invariant-loop-rest : goal.invariant-loop-rest
+invariant-loop-rest l = l.line.items ++ line_in l.place l.word l.rest ≡ one_line l.piece
+
+abbrev pub decreases-loop-rest : goal.decreases-loop-rest
+decreases-loop-rest l = length l.rest

@@ -1,5 +1,5 @@
-use Rattle.std.proofs.Common.{rules, arith, ◌≡◌, ◌∙◌, ◌+◌, ◌<◌, [], ◌∷◌, ◌++◌, length, map, drop, refl, ap, subst}
-use Rattle.std.specs.Prelude.{Vec, nat_lt}
+use Rattle.std.proofs.Common.{rules, arith, ◌≡◌, ◌∙◌, ◌+◌, ◌<◌, [], ◌∷◌, ◌++◌, length, map, drop, refl, sym, ap, subst}
+use Rattle.std.specs.Prelude.{Vec, true, false}
 use Rattle.std.specs.Global.{Global}
 use Rattle.std.proofs.lemmas.Result.{on_ok_weaker}
 use Rattle.std.proofs.lemmas.List.{length-map, length-append}
@@ -12,9 +12,11 @@ use Rattle.ot_model.specs.declared.stmt.Stmt.{the_lemmas}
 use Rattle.ot_check.proofs.Cited.{rest_is}
 use Rattle.ot_parts.proofs.MakeLemmas.{condition-fits}
 use Rattle.ot_race.specs.View.{event_of, events_in}
-use Rattle.ot_ways.specs.Ways.{ways, ways_one, turn}
+use Rattle.ot_ways.specs.Known.{known}
+use Rattle.ot_ways.specs.Numbered.{takes_first, left_for_second}
+use Rattle.ot_ways.specs.Ways.{ways, ways_one, ways_of_if, turn}
 use Rattle.ot_ways.specs.declared.verdict.Turn.{Turn}
-use Rattle.ot_ways.proofs.WayLemmas.{some_way_one, few_one, few_rest, few_first, counted_some, counted_few}
+use Rattle.ot_ways.proofs.WayLemmas.{some_way_one, few_one, few_rest, few_of_if, counted_takes, counted_left, counted_some, counted_few}
 use Rattle.ot_ways.proofs.FollowLemmas.{set_fits, fold_fits, events_loop, turns_loop, tasks_loop, if_first, if_second, turns_first, turns_second, task_begins, group_ends}
 use Rattle.ot_ways.proofs.follow.+follow.Goals as goal
 
@@ -85,47 +87,71 @@ pub follow_one-returns-then-first-clause-events : goal.follow_one-returns-then-f
 follow_one-returns-then-first-clause-events t c =
     let is : stmt_of c.args.stmt.now ≡ If (expr_of c.in-If.expr) (stmts_of c.in-If.one.items) (stmts_of c.in-If.two.items) =
     ap stmt_of c.in-If.is ∙ search (rules, the_lemmas) in
-    let few : ways (stmts_of c.in-If.one.items) < 1025 =
-    few_first _ _ _ (stmt_of c.args.stmt.now) is c.requires.few_ways in
-    let same : c.extent_all-extent.result.ways ≡ ways (stmts_of c.in-If.one.items) = counted_few _ _ c.extent_all-extent.ensures.ways few in
+    let few : ways_of_if (known (expr_of c.in-If.expr)) (ways (stmts_of c.in-If.one.items)) (ways (stmts_of c.in-If.two.items)) < 1025 =
+    few_of_if _ _ _ (stmt_of c.args.stmt.now) is c.requires.few_ways in
+    let told : c.takes_first-first.result ≡ true = c.if-first.true in
+    let taken : takes_first (known (expr_of c.in-If.expr)) c.args.way (ways (stmts_of c.in-If.one.items)) ≡ true =
+    sym (counted_takes (known (expr_of c.in-If.expr)) c.args.way c.extent_all-extent.result.ways (ways (stmts_of c.in-If.one.items)) (ways (stmts_of c.in-If.two.items))
+    c.extent_all-extent.ensures.ways few) ∙ ap (λ o. takes_first o c.args.way c.extent_all-extent.result.ways) (sym c.known-decided.ensures)
+    ∙ sym c.takes_first-first.ensures ∙ told in
     let reads = c.in_ok-note_reads-in-If.ensures ∙ ap (λ l. l ++ map (use_as Reads) (cells_named (expr_of c.in-If.expr))) c.new-uses.ensures.items in
     on_ok_weaker c.follow_all.result
-    (λ ran. if_first _ _ _ _ _ _ c.args.way c.extent_all-extent.result.ways _ _ _ _ _ _ _ is c.in_ok-put-in-If.ensures.events reads ran c.in_ok-put-in-If.ensures.tasks same c.if-first.true)
+    (λ ran. if_first _ _ _ _ _ _ c.args.way _ _ _ _ _ _ _ is c.in_ok-put-in-If.ensures.events reads ran c.in_ok-put-in-If.ensures.tasks taken)
     c.follow_all.ensures.events
 
 pub follow_one-returns-then-first-clause-turns : goal.follow_one-returns-then-first-clause-turns
 follow_one-returns-then-first-clause-turns t c =
     let is : stmt_of c.args.stmt.now ≡ If (expr_of c.in-If.expr) (stmts_of c.in-If.one.items) (stmts_of c.in-If.two.items) =
     ap stmt_of c.in-If.is ∙ search (rules, the_lemmas) in
-    let few : ways (stmts_of c.in-If.one.items) < 1025 =
-    few_first _ _ _ (stmt_of c.args.stmt.now) is c.requires.few_ways in
-    let same : c.extent_all-extent.result.ways ≡ ways (stmts_of c.in-If.one.items) = counted_few _ _ c.extent_all-extent.ensures.ways few in
-    let put = c.in_ok-push-in-If.ensures.items ∙ ap (λ (v : Vec Turn Global). v.items ++ turn c.args.place (nat_lt c.args.way c.extent_all-extent.result.ways) ∷ []) c.in_ok-put-in-If.ensures.turns in
-    on_ok_weaker c.follow_all.result (λ ran. turns_first _ _ _ _ c.args.way c.extent_all-extent.result.ways _ _ _ _ is put ran same c.if-first.true) c.follow_all.ensures.turns
+    let few : ways_of_if (known (expr_of c.in-If.expr)) (ways (stmts_of c.in-If.one.items)) (ways (stmts_of c.in-If.two.items)) < 1025 =
+    few_of_if _ _ _ (stmt_of c.args.stmt.now) is c.requires.few_ways in
+    let told : c.takes_first-first.result ≡ true = c.if-first.true in
+    let taken : takes_first (known (expr_of c.in-If.expr)) c.args.way (ways (stmts_of c.in-If.one.items)) ≡ true =
+    sym (counted_takes (known (expr_of c.in-If.expr)) c.args.way c.extent_all-extent.result.ways (ways (stmts_of c.in-If.one.items)) (ways (stmts_of c.in-If.two.items))
+    c.extent_all-extent.ensures.ways few) ∙ ap (λ o. takes_first o c.args.way c.extent_all-extent.result.ways) (sym c.known-decided.ensures)
+    ∙ sym c.takes_first-first.ensures ∙ told in
+    let put = c.in_ok-push-in-If.ensures.items ∙ ap (λ (v : Vec Turn Global). v.items ++ turn c.args.place c.takes_first-first.result ∷ []) c.in_ok-put-in-If.ensures.turns in
+    on_ok_weaker c.follow_all.result (λ ran. turns_first _ _ _ _ c.args.way _ _ _ _ _ is put told ran taken) c.follow_all.ensures.turns
 
 pub follow_one-returns-else-first-clause-events : goal.follow_one-returns-else-first-clause-events
 follow_one-returns-else-first-clause-events t c =
     let is : stmt_of c.args.stmt.now ≡ If (expr_of c.in-If.expr) (stmts_of c.in-If.one.items) (stmts_of c.in-If.two.items) =
     ap stmt_of c.in-If.is ∙ search (rules, the_lemmas) in
-    let few : ways (stmts_of c.in-If.one.items) < 1025 =
-    few_first _ _ _ (stmt_of c.args.stmt.now) is c.requires.few_ways in
-    let same : c.extent_all-extent.result.ways ≡ ways (stmts_of c.in-If.one.items) = counted_few _ _ c.extent_all-extent.ensures.ways few in
+    let few : ways_of_if (known (expr_of c.in-If.expr)) (ways (stmts_of c.in-If.one.items)) (ways (stmts_of c.in-If.two.items)) < 1025 =
+    few_of_if _ _ _ (stmt_of c.args.stmt.now) is c.requires.few_ways in
+    let told : c.takes_first-first.result ≡ false = c.if-first.false in
+    let taken : takes_first (known (expr_of c.in-If.expr)) c.args.way (ways (stmts_of c.in-If.one.items)) ≡ false =
+    sym (counted_takes (known (expr_of c.in-If.expr)) c.args.way c.extent_all-extent.result.ways (ways (stmts_of c.in-If.one.items)) (ways (stmts_of c.in-If.two.items))
+    c.extent_all-extent.ensures.ways few) ∙ ap (λ o. takes_first o c.args.way c.extent_all-extent.result.ways) (sym c.known-decided.ensures)
+    ∙ sym c.takes_first-first.ensures ∙ told in
+    let left : c.left_for_second-left.result ≡ left_for_second (known (expr_of c.in-If.expr)) c.args.way (ways (stmts_of c.in-If.one.items)) =
+    c.left_for_second-left.ensures ∙ ap (λ o. left_for_second o c.args.way c.extent_all-extent.result.ways) c.known-decided.ensures
+    ∙ counted_left (known (expr_of c.in-If.expr)) c.args.way c.extent_all-extent.result.ways (ways (stmts_of c.in-If.one.items)) (ways (stmts_of c.in-If.two.items))
+    c.extent_all-extent.ensures.ways few in
     let reads = c.in_ok-note_reads-in-If.ensures ∙ ap (λ l. l ++ map (use_as Reads) (cells_named (expr_of c.in-If.expr))) c.new-uses.ensures.items in
     let place : c.args.place + 1 + c.extent_all-extent.result.statements ≡ c.args.place + 1 + size (stmts_of c.in-If.one.items) = ap (λ n. c.args.place + 1 + n) c.extent_all-extent.ensures.statements in
     on_ok_weaker c.follow_all-else-first.result
-    (λ ran. if_second _ _ _ _ _ _ c.args.way c.extent_all-extent.result.ways _ _ _ _ _ _ _ _ is c.in_ok-put-in-If.ensures.events reads ran c.in_ok-put-in-If.ensures.tasks place same c.if-first.false)
+    (λ ran. if_second _ _ _ _ _ _ c.args.way _ _ _ _ _ _ _ _ _ is c.in_ok-put-in-If.ensures.events reads ran c.in_ok-put-in-If.ensures.tasks place left taken)
     c.follow_all-else-first.ensures.events
 
 pub follow_one-returns-else-first-clause-turns : goal.follow_one-returns-else-first-clause-turns
 follow_one-returns-else-first-clause-turns t c =
     let is : stmt_of c.args.stmt.now ≡ If (expr_of c.in-If.expr) (stmts_of c.in-If.one.items) (stmts_of c.in-If.two.items) =
     ap stmt_of c.in-If.is ∙ search (rules, the_lemmas) in
-    let few : ways (stmts_of c.in-If.one.items) < 1025 =
-    few_first _ _ _ (stmt_of c.args.stmt.now) is c.requires.few_ways in
-    let same : c.extent_all-extent.result.ways ≡ ways (stmts_of c.in-If.one.items) = counted_few _ _ c.extent_all-extent.ensures.ways few in
+    let few : ways_of_if (known (expr_of c.in-If.expr)) (ways (stmts_of c.in-If.one.items)) (ways (stmts_of c.in-If.two.items)) < 1025 =
+    few_of_if _ _ _ (stmt_of c.args.stmt.now) is c.requires.few_ways in
+    let told : c.takes_first-first.result ≡ false = c.if-first.false in
+    let taken : takes_first (known (expr_of c.in-If.expr)) c.args.way (ways (stmts_of c.in-If.one.items)) ≡ false =
+    sym (counted_takes (known (expr_of c.in-If.expr)) c.args.way c.extent_all-extent.result.ways (ways (stmts_of c.in-If.one.items)) (ways (stmts_of c.in-If.two.items))
+    c.extent_all-extent.ensures.ways few) ∙ ap (λ o. takes_first o c.args.way c.extent_all-extent.result.ways) (sym c.known-decided.ensures)
+    ∙ sym c.takes_first-first.ensures ∙ told in
+    let left : c.left_for_second-left.result ≡ left_for_second (known (expr_of c.in-If.expr)) c.args.way (ways (stmts_of c.in-If.one.items)) =
+    c.left_for_second-left.ensures ∙ ap (λ o. left_for_second o c.args.way c.extent_all-extent.result.ways) c.known-decided.ensures
+    ∙ counted_left (known (expr_of c.in-If.expr)) c.args.way c.extent_all-extent.result.ways (ways (stmts_of c.in-If.one.items)) (ways (stmts_of c.in-If.two.items))
+    c.extent_all-extent.ensures.ways few in
     let place : c.args.place + 1 + c.extent_all-extent.result.statements ≡ c.args.place + 1 + size (stmts_of c.in-If.one.items) = ap (λ n. c.args.place + 1 + n) c.extent_all-extent.ensures.statements in
-    let put = c.in_ok-push-in-If.ensures.items ∙ ap (λ (v : Vec Turn Global). v.items ++ turn c.args.place (nat_lt c.args.way c.extent_all-extent.result.ways) ∷ []) c.in_ok-put-in-If.ensures.turns in
-    on_ok_weaker c.follow_all-else-first.result (λ ran. turns_second _ _ _ _ c.args.way c.extent_all-extent.result.ways _ _ _ _ _ is put ran place same c.if-first.false)
+    let put = c.in_ok-push-in-If.ensures.items ∙ ap (λ (v : Vec Turn Global). v.items ++ turn c.args.place c.takes_first-first.result ∷ []) c.in_ok-put-in-If.ensures.turns in
+    on_ok_weaker c.follow_all-else-first.result (λ ran. turns_second _ _ _ _ c.args.way _ _ _ _ _ _ _ is put told ran place left taken)
     c.follow_all-else-first.ensures.turns
 
 pub follow_one-returns-in_ok-put-in-Task-clause-events : goal.follow_one-returns-in_ok-put-in-Task-clause-events

@@ -1,7 +1,7 @@
 use Rattle.std.specs.Prelude.{None}
 use Rattle.ot_model.specs.Cells.{lengths}
 use Rattle.ot_race.specs.Events.{beginning}
-use Rattle.ot_ways.proofs.LikeLemmas.{race_there, like_ordered}
+use Rattle.ot_corder.proofs.LikeLemmas.{race_there, like_ordered}
 use Rattle.ot_ways.proofs.RunLemmas.{like_all}
 use Rattle.ot_ways.proofs.laws.runs_are_ways.Goals as goal
 

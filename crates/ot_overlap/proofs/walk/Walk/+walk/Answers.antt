@@ -8,7 +8,7 @@ use Rattle.ot_place.specs.Texts.{depth_of}
 use Rattle.ot_place.specs.Spots.{bindings_of}
 use Rattle.ot_place.proofs.CopyLemmas.{no_list, a_list, item_depth}
 use Rattle.ot_overlap.specs.Items.{met_in}
-use Rattle.ot_overlap.specs.View.{met_by, arrays_by}
+use Rattle.ot_overlap.specs.View.{met_by, ground_by}
 use Rattle.ot_overlap.proofs.WalkLemmas.{items_next, items_none, turns_next, turns_none, statement_met, for_met, if_met}
 use Rattle.ot_overlap.proofs.walk.Walk.+walk.Goals as goal
 
@@ -36,19 +36,19 @@ items-statement-requires t c =
 pub items-loop-item-preserved : goal.items-loop-item-preserved
 items-loop-item-preserved t c defined level s =
     let trail = c.args.trail.now in
-    let arrays = arrays_by c.args.self.now in
+    let ground = ground_by c.args.self.now in
     let items = c.args.items.now in
     c.loop-item.invariant defined level s
-    ∙ items_next arrays defined level (bindings_of trail) c.args.parent items c.loop-item.item-index c.item-item.result (met_by c.loop-item.met)
+    ∙ items_next ground defined level (bindings_of trail) c.args.parent items c.loop-item.item-index c.item-item.result (met_by c.loop-item.met)
     c.loop-item-test.true c.item-item.is
-    ∙ ap (met_in arrays c.args.parent (copies_of defined level (items_view (drop (c.loop-item.item-index + 1) items)) (bindings_of trail)))
+    ∙ ap (met_in ground c.args.parent (copies_of defined level (items_view (drop (c.loop-item.item-index + 1) items)) (bindings_of trail)))
     (sym (c.in_ok-statement.ensures defined level s))
 
 pub items-returns : goal.items-returns
 items-returns t c defined level s =
     let trail = c.args.trail.now in
     sym (c.loop-item.invariant defined level s
-    ∙ items_none (arrays_by c.args.self.now) defined level (bindings_of trail) c.args.parent c.args.items.now c.loop-item.item-index (met_by c.loop-item.met) c.loop-item-test.false)
+    ∙ items_none (ground_by c.args.self.now) defined level (bindings_of trail) c.args.parent c.args.items.now c.loop-item.item-index (met_by c.loop-item.met) c.loop-item-test.false)
 
 pub statement-bodies-requires : goal.statement-bodies-requires
 statement-bodies-requires t c =
@@ -60,7 +60,7 @@ pub statement-returns : goal.statement-returns
 statement-returns t c defined level s =
     let trail = c.args.trail.now in
     on_ok_weaker c.bodies.result
-    (λ e. statement_met (arrays_by c.args.self.now) defined level (bindings_of trail) c.args.parent (view c.args.statement.now) c.text_of-text.result c.task_of-task.result
+    (λ e. statement_met (ground_by c.args.self.now) defined level (bindings_of trail) c.args.parent (view c.args.statement.now) c.text_of-text.result c.task_of-task.result
     (met_by c.args.met.now) (met_by c.enter.new.met) (met_by c.bodies.new.met) (c.text_of-text.ensures.is defined s) (c.task_of-task.ensures defined)
     (c.in_ok-enter.ensures defined level) e)
     (c.bodies.ensures defined level s)
@@ -69,7 +69,7 @@ pub bodies-returns-in-For : goal.bodies-returns-in-For
 bodies-returns-in-For t c defined level s =
     let trail = c.args.trail.now in
     on_ok_weaker c.turns.result
-    (λ e. e ∙ for_met (arrays_by c.args.self.now) defined level (bindings_of trail) c.args.task c.args.text _ _ _ _ _ _ _ (met_by c.args.met.now) c.in-For.is
+    (λ e. e ∙ for_met (ground_by c.args.self.now) defined level (bindings_of trail) c.args.task c.args.text _ _ _ _ _ _ _ (met_by c.args.met.now) c.in-For.is
     c.letters.ensures c.size_of.ensures c.size_of-in-For.ensures)
     (c.turns.ensures defined level s)
 
@@ -106,7 +106,7 @@ pub turn-returns : goal.turn-returns
 turn-returns t c defined level s =
     let trail = c.args.trail.now in
     on_ok_weaker c.body.result
-    (λ e. e ∙ ap (met_in (arrays_by c.args.self.now) c.args.parent (copies defined (level + 1) (view c.args.body.now) ((c.args.turn.name.now, c.args.turn.number) ∷ bindings_of trail)))
+    (λ e. e ∙ ap (met_in (ground_by c.args.self.now) c.args.parent (copies defined (level + 1) (view c.args.body.now) ((c.args.turn.name.now, c.args.turn.number) ∷ bindings_of trail)))
     (c.in_ok-enter.ensures defined level))
     (c.body.ensures defined (level + 1) s)
 
@@ -120,21 +120,21 @@ turns-loop-number-preserved t c defined level s =
     let trail = c.args.trail.now in
     let body : ℕ → Copies = λ n. copies defined (level + 1) (view c.args.body.now) ((c.args.turns.variable.now, n) ∷ bindings_of trail) in
     c.loop-number.invariant defined level s
-    ∙ turns_next (arrays_by c.args.self.now) c.args.parent level (bindings_of trail) body c.loop-number.number c.args.turns.behind (met_by c.loop-number.met) c.loop-number-test.true
-    ∙ ap (met_in (arrays_by c.args.self.now) c.args.parent (turns level (bindings_of trail) body (c.loop-number.number + 1) (c.args.turns.behind - (c.loop-number.number + 1))))
+    ∙ turns_next (ground_by c.args.self.now) c.args.parent level (bindings_of trail) body c.loop-number.number c.args.turns.behind (met_by c.loop-number.met) c.loop-number-test.true
+    ∙ ap (met_in (ground_by c.args.self.now) c.args.parent (turns level (bindings_of trail) body (c.loop-number.number + 1) (c.args.turns.behind - (c.loop-number.number + 1))))
     (sym (c.in_ok-turn.ensures defined level s))
 
 pub turns-returns : goal.turns-returns
 turns-returns t c defined level s =
     let trail = c.args.trail.now in
     sym (c.loop-number.invariant defined level s
-    ∙ turns_none (arrays_by c.args.self.now) c.args.parent level (bindings_of trail)
+    ∙ turns_none (ground_by c.args.self.now) c.args.parent level (bindings_of trail)
     (λ n. copies defined (level + 1) (view c.args.body.now) ((c.args.turns.variable.now, n) ∷ bindings_of trail)) c.loop-number.number c.args.turns.behind (met_by c.loop-number.met)
     c.loop-number-test.false)
 
 pub bodies-returns-in_ok-body-in-If : goal.bodies-returns-in_ok-body-in-If
 bodies-returns-in_ok-body-in-If t c defined level s =
     on_ok_weaker c.body-in-If.result
-    (λ e. if_met (arrays_by c.args.self.now) defined level (bindings_of c.args.trail.now) c.args.task c.args.text _ _ _ (met_by c.args.met.now) _ _ c.in-If.is
+    (λ e. if_met (ground_by c.args.self.now) defined level (bindings_of c.args.trail.now) c.args.task c.args.text _ _ _ (met_by c.args.met.now) _ _ c.in-If.is
     (c.in_ok-body-in-If.ensures defined (level + 1) s) e)
     (c.body-in-If.ensures defined (level + 1) s)

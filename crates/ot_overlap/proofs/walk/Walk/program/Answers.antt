@@ -3,11 +3,11 @@ use Rattle.std.proofs.lemmas.Result.{on_ok_weaker}
 use Rattle.serde_json.specs.View.{view}
 use Rattle.ot_program.specs.Copies.{copies}
 use Rattle.ot_overlap.specs.Items.{met_in}
-use Rattle.ot_overlap.specs.View.{arrays_by}
+use Rattle.ot_overlap.specs.View.{ground_by}
 use Rattle.ot_overlap.proofs.walk.Walk.program.Goals as goal
 
 pub returns : goal.returns
 returns c defined s =
     on_ok_weaker c.body.result
-    (λ e. e ∙ ap (met_in (arrays_by c.args.self.now) 0 (copies defined 1 (view c.args.body.now) [])) (c.in_ok-enter.ensures defined 0))
+    (λ e. e ∙ ap (met_in (ground_by c.args.self.now) 0 (copies defined 1 (view c.args.body.now) [])) (c.in_ok-enter.ensures defined 0))
     (c.body.ensures defined 1 s)

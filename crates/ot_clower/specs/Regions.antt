@@ -1,0 +1,89 @@
+-- Parallel regions, of which one thread does what stands in them: groups over nothing, since all tasks have ended at their ends
+-- (OpenMP API 5.2, section 15.3.2).
+use Rattle.std.specs.Prelude.{ℕ, nat_lt, Bool, true, false, List, [], ◌∷◌, length, map, Option, Some, None, Result, Ok, Err, slice_get, slice_set, String, if◌then◌else◌}
+use Rattle.std.specs.List.{list_any}
+use Rattle.std.specs.declared.alloc.Global.{Global}
+use Rattle.ot_words.specs.declared.word.Name.{Name}
+use Rattle.ot_words.specs.declared.word.Name.TheVariants as n
+use Rattle.ot_cread.specs.declared.tree.Operation.TheVariants as op
+use Rattle.ot_cread.specs.declared.tree.Role.{Role}
+use Rattle.ot_cread.specs.declared.tree.Role.TheVariants as r
+use Rattle.ot_cread.specs.Tree.{Entry, Claim}
+use Rattle.ot_cstatement.specs.Tree.{Body}
+use Rattle.ot_cscope.specs.declared.reason.Reason.{Reason}
+use Rattle.ot_cscope.specs.declared.reason.Reason.TheVariants as why
+use Rattle.ot_cscope.specs.declared.scope.Meaning.{Meaning}
+use Rattle.ot_cscope.specs.declared.scope.Meaning.TheVariants as m
+use Rattle.ot_cscope.specs.Results.{Refusal, ◌>>=◌}
+use Rattle.ot_cclause.specs.Clauses.{heading}
+use Rattle.ot_cdeclare.specs.Arrays.{outside}
+use Rattle.ot_clower.specs.Lines.{L, Lowered}
+use Rattle.ot_clower.specs.Statements.{Origin, body, group}
+
+abbrev pub Names : Type 0
+Names = List (String Global)
+
+-- ---- `default(none)`: only what clauses list is named (OpenMP API 5.2, section 5.4.1)
+
+unfoldable pub is_strict : Role → Bool
+is_strict r.DefaultNone = true
+is_strict _ = false
+
+unfoldable pub is_shared : Role → Bool
+is_shared r.Shared = true
+is_shared _ = false
+
+abbrev pub are_strict : List Claim → Bool
+are_strict cs = list_any (λ c. is_strict c.role) cs
+
+-- arrays and variables mean nothing
+unfoldable pub hidden : Meaning → Meaning
+hidden (m.Cells k length) = m.Nothing
+hidden other = other
+
+abbrev pub put_again : List Meaning → ℕ → Option Meaning → List Meaning
+put_again hs i None = hs
+put_again hs i (Some meaning) = if nat_lt i (length hs) then slice_set hs i meaning else hs
+
+-- but one that is listed means what it does
+abbrev pub shown : List Meaning → List Meaning → Name → List Meaning
+shown ms hs (n.Known k) = hs
+shown ms hs (n.Other i) = put_again hs i (slice_get ms i)
+
+abbrev pub shown_items : List Meaning → List Meaning → List Entry → List Meaning
+shown_items ms hs [] = hs
+shown_items ms hs (i ∷ is) = shown_items ms (shown ms hs i.array) is
+
+abbrev pub shown_clause : List Meaning → List Meaning → Claim → List Meaning
+shown_clause ms hs c = if is_shared c.role then shown_items ms hs c.items else hs
+
+abbrev pub shown_clauses : List Meaning → List Meaning → List Claim → List Meaning
+shown_clauses ms hs [] = hs
+shown_clauses ms hs (c ∷ cs) = shown_clauses ms (shown_clause ms hs c) cs
+
+-- what names mean of which these clauses list some
+abbrev pub listed : List Meaning → List Claim → List Meaning
+listed ms cs = shown_clauses ms (map hidden ms) cs
+
+unfoldable pub unlisted : Reason → Reason
+unlisted why.Unknown = why.Unlisted
+unlisted other = other
+
+abbrev pub strictly : Lowered → Lowered
+strictly (Ok l) = Ok l
+strictly (Err e) = Err (e.0, unlisted e.1)
+
+-- ---- regions
+
+-- what one thread does in a region, where names mean this
+abbrev pub within : Names → Origin → List Meaning → Body → Lowered
+within names o meanings b = body o (outside names meanings true) b
+
+abbrev pub within_by : Names → Origin → List Meaning → List Claim → Body → Lowered
+within_by names o meanings cs b = if are_strict cs then strictly (within names o (listed meanings cs) b) else within names o meanings b
+
+abbrev pub region : Names → Origin → List Meaning → ℕ → List Claim → Body → Lowered
+region names o meanings at cs b =
+    heading at (outside names meanings true) cs >>= λ h.
+    within_by names o meanings cs b >>= λ x.
+    Ok (group at op.Plus [] x)

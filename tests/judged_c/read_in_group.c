@@ -1,0 +1,22 @@
+/* The fold is into a copy: x itself is written at the group's end, and its reader is awaited before that. */
+#include <stdint.h>
+static uint64_t x, y, z;
+int main(void)
+{
+    #pragma omp parallel
+    #pragma omp single
+    {
+        #pragma omp task depend(out: z, y) depend(in: x)
+        {
+            y = x;
+            z = 1;
+        }
+        #pragma omp taskgroup task_reduction(+: x)
+        {
+            #pragma omp task in_reduction(+: x)
+            x += 1;
+            #pragma omp taskwait depend(in: z)
+        }
+    }
+    return 0;
+}
