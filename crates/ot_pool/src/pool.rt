@@ -8,6 +8,7 @@ use crate::usage::Usage;
 use ot_book::NotDone;
 use ot_check::{JobSpec, Outcome};
 use ot_job::{Done, Job, Piece};
+use ot_parts::Assigns;
 use std::alloc::{AllocError, Global};
 use std::hint::spin_loop;
 use std::sync::ledger::{Blank, Ledger, Share};
@@ -108,28 +109,42 @@ impl<L: Ledger> Pool<L> {
                     return None;
                 }
                 Claimed::Aborted(_) | Claimed::Idle => {
-                    if tells {
-                        drop(locked);
-                        held = None;
-                        self.tell(true);
-                        locked = self.hold(rt);
-                    } else if looks < LOOKS || (looks < LAST_LOOKS && locked.lookers == 0) {
-                        looks += 1;
-                        locked.begin_look();
-                        drop(locked);
-                        held = None;
-                        yield_now();
-                        locked = self.hold(rt);
-                        locked.end_look();
-                    } else {
-                        locked.worker_waits = true;
-                        locked = self.told.wait(rt, locked);
-                    }
+                    locked = self.pass(rt, locked, tells, &mut looks, &mut held);
                 }
             }
             round = locked.round(alloc, turn, None, share, worker);
         }
         unreachable!()
+    }
+
+    // What a worker does that got nothing: it tells all that wait, or looks once more for a while, or else waits. It has the lock
+    // again then.
+    fn pass<'a, R: Wait>(
+        &'a self,
+        rt: &R,
+        mut locked: MutexGuard<'a, Locked<L>>,
+        tells: bool,
+        looks: &mut u32,
+        held: &mut Option<Assigns>,
+    ) -> MutexGuard<'a, Locked<L>> {
+        if tells {
+            drop(locked);
+            *held = None;
+            self.tell(true);
+            return self.hold(rt);
+        }
+        if *looks < LOOKS || (*looks < LAST_LOOKS && locked.lookers == 0) {
+            *looks += 1;
+            locked.begin_look();
+            drop(locked);
+            *held = None;
+            yield_now();
+            let mut locked = self.hold(rt);
+            locked.end_look();
+            return locked;
+        }
+        locked.worker_waits = true;
+        self.told.wait(rt, locked)
     }
 
     // Takes the lock. It is held for a microsecond or two, which is less than it takes to sleep and to be woken; and as long

@@ -1,9 +1,9 @@
 //! The server, from its names to the lines that it prints when it ends.
-ghost use Rattle.std.specs.Prelude.{◌≡◌, ◌≢◌, ◌↔◌, ◌<◌, ◌≤◌, Err, None, IfOk, IfErr, OnOk, true, false, length, map, string_bytes};
+ghost use Rattle.std.specs.Prelude.{◌≡◌, ◌≢◌, ◌↔◌, ◌<◌, ◌≤◌, Err, None, IfOk, IfErr, OnOk, true, false, length, map, string_bytes, sum, vec_len};
 ghost use Rattle.std.specs.List.{All};
 ghost use Rattle.ot_front.specs.Serving.{next_count};
 ghost use Rattle.ot_serve.specs.Serving.{IsInRange, Prints, are_tenants};
-ghost use Rattle.ot_serve.specs.Starting.{newcomer};
+ghost use Rattle.ot_serve.specs.Starting.{IsLate, newcomer};
 
 use crate::crew::run;
 use crate::door::Door;
@@ -13,6 +13,7 @@ use crate::serve::Serve;
 use crate::usages::write_usage;
 use ot_book::Book;
 use ot_front::{Desk, Sink, write_whole};
+use ot_pool::Usage;
 use ot_store::{Limits, Store};
 use std::alloc::{AllocError, Global};
 use std::fs::Files;
@@ -45,6 +46,23 @@ pub fn serve_socket<R: Threads + Wait + Sync + Files + Net, W: Sink>(
     ensures write_worked { result ≢ Err Fault.WriteFailed → W.failures sink.new ≡ W.failures sink.old }
 {
     look_at_names(asked.names.as_slice())?;
+    let usage = serve_desk(rt, alloc, asked)?;
+    print_usage(alloc, asked.names.as_slice(), &usage, sink)
+}
+
+/// Serves tenants with empty books, from the making of the socket until the server ends: the units that were settled.
+fn serve_desk<R: Threads + Wait + Sync + Files + Net>(
+    rt: &R,
+    alloc: Global,
+    asked: &Serve,
+) -> Result<Usage, Fault>
+    requires range { IsInRange asked.now }
+    requires names { are_tenants (map string_bytes asked.now.names.items) ≡ true }
+    requires few { vec_len asked.now.names ≤ 64 }
+    ensures each { IfOk result (λ usage. vec_len usage.by_tenant ≡ vec_len asked.now.names) }
+    ensures adds_up { IfOk result (λ usage. sum usage.by_tenant.items ≡ usage.total) }
+    ensures late { IfErr result IsLate }
+{
     let Ok(desk) = lay_desk(alloc, asked.names.as_slice()) else {
         return Err(Fault::Memory);
     };
@@ -52,8 +70,25 @@ pub fn serve_socket<R: Threads + Wait + Sync + Files + Net, W: Sink>(
     let blank = Blank::new(u64::from(asked.workers));
     let ended = run::<Brand, R>(rt, alloc, blank, asked, &desk, &door);
     door.remove(rt);
-    let usage = ended?;
-    let Ok(text) = write_usage(alloc, asked.names.as_slice(), &usage) else {
+    ended
+}
+
+/// Writes the units of each tenant, in their order, and of all.
+fn print_usage<W: Sink>(
+    alloc: Global,
+    names: &[String],
+    usage: &Usage,
+    sink: &mut W,
+) -> Result<(), Fault>
+    requires each { vec_len usage.now.by_tenant ≡ length names.now }
+    requires adds_up { sum usage.now.by_tenant.items ≡ usage.now.total }
+    ensures prints { OnOk result (Prints (map string_bytes names.now) (W.contents sink.old) (W.contents sink.new)) }
+    ensures silent { IfErr result (λ fault. fault ≢ Fault.WriteFailed → W.contents sink.new ≡ W.contents sink.old) }
+    ensures write_failed { result ≡ Err Fault.WriteFailed → W.failures sink.new ≡ next_count (W.failures sink.old) }
+    ensures write_worked { result ≢ Err Fault.WriteFailed → W.failures sink.new ≡ W.failures sink.old }
+    ensures names { IfErr result (λ fault. (fault ≢ Fault.BadTenantName) × (fault ≢ Fault.TooManyTenants)) }
+{
+    let Ok(text) = write_usage(alloc, names, usage) else {
         return Err(Fault::Memory);
     };
     match write_whole(sink, text.as_bytes()) {

@@ -1,5 +1,5 @@
 //! What a line is answered, as text.
-ghost use Rattle.std.specs.Prelude.{◌≡◌, ◌++◌, ◌∷◌, [], OnOk, string_bytes};
+ghost use Rattle.std.specs.Prelude.{◌≡◌, ◌++◌, ◌∷◌, [], OnOk, codes, string_bytes};
 ghost use Rattle.std.specs.Fmt.{decimal};
 ghost use Rattle.ot_sim.specs.Playing.{answer_text};
 
@@ -45,20 +45,10 @@ pub fn write_answer(answer: Answer<'_>, out: &mut String) -> Result<(), AllocErr
         Answer::Tenant(tenant) => write_words("tenant ", tenant, "\n", out),
         Answer::Asked(tenant) => write_words("asked ", tenant, "\n", out),
         Answer::Full(tenant) => write_words("full ", tenant, "\n", out),
-        Answer::Reply(tenant, reply) => {
-            write_words("", tenant, " ", out)?;
-            write_words(reply, "\n", "", out)
-        }
+        Answer::Reply(tenant, reply) => write_reply(tenant, reply, out),
         Answer::Job(tenant) => write_words("", tenant, " job\n", out),
-        Answer::Started(worker, tenant, task) => {
-            write_number("start ", u64::from(worker), " ", out)?;
-            write_words(tenant, " task ", "", out)?;
-            write_number("", u64::from(task), "\n", out)
-        }
-        Answer::Finished(worker, units) => {
-            write_number("finish ", u64::from(worker), "", out)?;
-            write_number(" units ", u64::from(units), "\n", out)
-        }
+        Answer::Started(worker, tenant, task) => write_started(worker, tenant, task, out),
+        Answer::Finished(worker, units) => write_finished(worker, units, out),
         Answer::FinishedFailed(worker) => write_number(
             "finish ",
             u64::from(worker),
@@ -67,14 +57,42 @@ pub fn write_answer(answer: Answer<'_>, out: &mut String) -> Result<(), AllocErr
         ),
         Answer::Aborted(tenant) => write_words("abort ", tenant, "\n", out),
         Answer::Drained => out.push_str("drained\n"),
-        Answer::Usage(tenant, units, total) => {
-            write_words("usage ", tenant, " ", out)?;
-            write_number("", units, " of ", out)?;
-            write_number("", total, "\n", out)
-        }
+        Answer::Usage(tenant, units, total) => write_usage(tenant, units, total, out),
         Answer::NotNow => out.push_str("notnow\n"),
         Answer::BadLine => out.push_str("badline\n"),
     }
+}
+
+fn write_reply(tenant: &str, reply: &str, out: &mut String) -> Result<(), AllocError>
+    ensures { OnOk result (string_bytes out.new ≡ string_bytes out.old ++ tenant.now ++ codes " " ++ reply.now ++ codes "\n") }
+{
+    write_words("", tenant, " ", out)?;
+    write_words(reply, "\n", "", out)
+}
+
+fn write_started(worker: u32, tenant: &str, task: u32, out: &mut String) -> Result<(), AllocError>
+    ensures { OnOk result (string_bytes out.new ≡ string_bytes out.old ++ codes "start " ++ decimal worker ++ codes " " ++ tenant.now
+        ++ codes " task " ++ decimal task ++ codes "\n") }
+{
+    write_number("start ", u64::from(worker), " ", out)?;
+    write_words(tenant, " task ", "", out)?;
+    write_number("", u64::from(task), "\n", out)
+}
+
+fn write_finished(worker: u32, units: u32, out: &mut String) -> Result<(), AllocError>
+    ensures { OnOk result (string_bytes out.new ≡ string_bytes out.old ++ codes "finish " ++ decimal worker ++ codes " units " ++ decimal units ++ codes "\n") }
+{
+    write_number("finish ", u64::from(worker), "", out)?;
+    write_number(" units ", u64::from(units), "\n", out)
+}
+
+fn write_usage(tenant: &str, units: u64, total: u64, out: &mut String) -> Result<(), AllocError>
+    ensures { OnOk result (string_bytes out.new ≡ string_bytes out.old ++ codes "usage " ++ tenant.now ++ codes " " ++ decimal units
+        ++ codes " of " ++ decimal total ++ codes "\n") }
+{
+    write_words("usage ", tenant, " ", out)?;
+    write_number("", units, " of ", out)?;
+    write_number("", total, "\n", out)
 }
 
 fn write_words(first: &str, second: &str, third: &str, out: &mut String) -> Result<(), AllocError>

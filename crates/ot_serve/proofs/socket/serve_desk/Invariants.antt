@@ -1,4 +1,4 @@
-use Rattle.ot_serve.proofs.socket.serve_socket.Given as goal
+use Rattle.ot_serve.proofs.socket.serve_desk.Given as goal
 
 -- the ledger is the one that is opened
 abbrev pub ghosts-run : goal.ghosts-run
