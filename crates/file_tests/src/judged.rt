@@ -6,7 +6,7 @@ use std::alloc::{AllocError, Global};
 use std::test::Fail;
 
 /// Files, and where each refused request is refused, with its code. There is an array `a` of 3 cells.
-const FILES: [(&str, &str); 25] = [
+const FILES: [(&str, &str); 27] = [
     ("", ""),
     ("// nothing\n", ""),
     ("[\"list\"]", ""),
@@ -20,6 +20,8 @@ const FILES: [(&str, &str); 25] = [
     ("[\"list\"],\n[\"list\"]", "1:9 410 "),
     ("[\"get\",\n \"a\" 0, 3]", "2:6 410 "),
     ("[\"list\"", "1:7 410 "),
+    ("[\"list\", ]", "1:10 410 "),
+    ("[\"get\",\"a\",0,\n  thre]", "2:3 410 "),
     ("[1]\n[\"list\"]\n{}", "1:1 411 3:1 411 "),
     ("[\"bye\"]\n[1]", ""),
     (

@@ -39,7 +39,7 @@ pub(crate) fn of_program(
     }
     match entry_of(alloc, request, found.index)? {
         Some(place) => of_fault(alloc, request, &place, found.why, arrays, telling),
-        None => refused_for(alloc, refusal),
+        None => of_why(alloc, has_operations(request), request, found.why, arrays),
     }
 }
 
@@ -81,7 +81,9 @@ fn of_why(
     statement: &Value,
     why: Why<'_>,
     arrays: &[ArrayShape],
-) -> Result<Vec<String>, AllocError> {
+) -> Result<Vec<String>, AllocError>
+    ensures { IfOk result (λ reasons. 0 < vec_len reasons) }
+{
     let mut reasons = Vec::new(alloc);
     match why {
         Why::NoStatement => unlike_statement(alloc, second, statement, &mut reasons)?,
