@@ -5,7 +5,7 @@ use Rattle.ot_model.specs.declared.expr.Op.TheVariants as op
 use Rattle.serde_json.specs.Data.{Data}
 use Rattle.ot_program.specs.declared.clause.Clause.{Clause as CodeClause}
 use Rattle.ot_program.specs.declared.counts.Counts.{Counts}
-use Rattle.ot_program.specs.declared.part.KnownArray.{KnownArray}
+use Rattle.ot_program.specs.declared.shape.KnownArray.{KnownArray}
 use Rattle.ot_program.specs.declared.size.Sign.{Sign}
 use Rattle.ot_program.specs.declared.size.Sign.TheVariants.{Plus, Minus, Times}
 use Rattle.ot_program.specs.Limits.{Tally}

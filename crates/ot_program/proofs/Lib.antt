@@ -18,6 +18,7 @@ pub mod KeyOrder
 pub mod AnyOrder
 pub mod DeclarationsRead
 pub mod PartsRead
+pub mod KnownArrays
 pub mod Tallies
 pub mod WaitClauses
 pub mod StatementsRead

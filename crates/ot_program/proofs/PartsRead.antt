@@ -10,7 +10,7 @@ use Rattle.ot_model.specs.declared.expr.Op.TheVariants as op
 use Rattle.ot_model.specs.declared.expr.Section.{Section}
 use Rattle.ot_model.specs.declared.stmt.Mode.{Mode}
 use Rattle.ot_model.specs.declared.stmt.Mode.TheVariants.{Reads as AsRead}
-use Rattle.ot_program.specs.declared.part.KnownArray.{KnownArray}
+use Rattle.ot_program.specs.declared.shape.KnownArray.{KnownArray}
 use Rattle.ot_program.specs.declared.size.Sign.{Sign}
 use Rattle.ot_program.specs.declared.size.Sign.TheVariants.{Plus, Minus, Times}
 use Rattle.ot_program.specs.declared.fault.Refusal.{Refusal}

@@ -17,6 +17,7 @@ mod profile;
 mod program;
 mod scope;
 mod section;
+mod shape;
 mod size;
 mod statement;
 mod value;

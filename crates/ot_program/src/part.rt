@@ -1,46 +1,24 @@
-ghost use Rattle.std.specs.Prelude.{◌≡◌, ◌<◌, ◌^◌, length};
+ghost use Rattle.std.specs.Prelude.{◌≡◌};
 ghost use Rattle.serde_json.specs.Data.{array};
 ghost use Rattle.serde_json.specs.View.{view, items_view};
-ghost use Rattle.ot_model.specs.Programs.{arrays_of};
 ghost use Rattle.ot_program.specs.walk.Sizes.{bindings_of};
-ghost use Rattle.ot_program.specs.walk.Parts.{known_from, array_of, cell_in, cell_at, cell_of, section_in, section_of, section_at};
+ghost use Rattle.ot_program.specs.walk.Parts.{array_of, cell_in, cell_at, cell_of, section_in, section_of, section_at};
 
 use crate::both::both;
 use crate::fault::Refusal;
 use crate::name::{is_name, is_word};
 use crate::scope::Scope;
+use crate::shape::{KnownArray, NamedShape};
 use crate::size::{check_depth, read_size};
-use ot_model::{ArrayShape, Cell, Section, Shape};
+use ot_model::{Cell, Section};
 use serde_json::Value;
 
-/// An array of the shape: its position, and how many cells it has.
-#[derive(Clone, Copy, Debug, PartialEq, Eq)]
-pub(crate) struct KnownArray {
-    position: u32,
-    len: u32,
-}
-
-fn find_array(arrays: &[ArrayShape], name: &str) -> Option<KnownArray>
-    requires { length arrays.now < 2 ^ 32 }
-    ensures { result ≡ known_from 0 (arrays_of arrays.now) name.now }
-{
-    for (position, array) in arrays.iter().enumerate() {
-        if array.name.as_str() == name {
-            return Some(KnownArray {
-                position: position as u32,
-                len: array.len,
-            });
-        }
-    }
-    None
-}
-
-fn read_array(shape: &Shape, value: &Value) -> Result<KnownArray, Refusal>
+fn read_array(shape: &NamedShape, value: &Value) -> Result<KnownArray, Refusal>
     ensures { result ≡ array_of shape.now (view value.now) }
 {
     match value {
         Value::String(text) if is_name(text.as_str()) => {
-            find_array(shape.arrays(), text.as_str()).ok_or(Refusal::UnknownArray)
+            shape.find(text.as_str()).ok_or(Refusal::UnknownArray)
         }
         _ => Err(Refusal::Form),
     }

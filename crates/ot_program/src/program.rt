@@ -13,6 +13,7 @@ use crate::head::read_list;
 use crate::profile::{Profile, read_profile};
 use crate::scope::{Scope, Variables};
 use crate::section::read_sections;
+use crate::shape::NamedShape;
 use crate::statement::read_body;
 use ot_model::{Program, Shape};
 use serde_json::Value;
@@ -59,14 +60,14 @@ fn program_in(
         (view body.now)) }
 {
     match profile {
-        Some(profile) => program_at(alloc, shape, profile, shows, body),
+        Some(profile) => program_at(alloc, &NamedShape::new(alloc, shape)?, profile, shows, body),
         None => Err(ProgramFault::Refused(Refusal::Form)),
     }
 }
 
 fn program_at(
     alloc: Global,
-    shape: &Shape,
+    shape: &NamedShape,
     profile: Profile,
     shows: &Value,
     body: &Value,

@@ -4,7 +4,7 @@ ghost use Rattle.ot_program.specs.walk.Sizes.{bindings_of, variable_of};
 use crate::fault::Refusal;
 use crate::name::is_name;
 use crate::profile::Profile;
-use ot_model::Shape;
+use crate::shape::NamedShape;
 
 /// A variable of a `for`, and its number in this turn.
 #[derive(Clone, Copy, Debug)]
@@ -48,7 +48,7 @@ fn bound(variables: &Variables, name: &str) -> Option<u32>
 /// around them, and the level of their body, the program's own being at 1.
 #[derive(Clone, Copy)]
 pub(crate) struct Scope<'a> {
-    pub(crate) shape: &'a Shape,
+    pub(crate) shape: &'a NamedShape<'a>,
     pub(crate) profile: Profile,
     pub(crate) variables: &'a Variables<'a>,
     pub(crate) level: u32,

@@ -7,7 +7,7 @@ use Rattle.ot_program.specs.walk.Reading.{◌>>=◌, both_of, each_of}
 use Rattle.ot_program.specs.walk.Sizes.{size_of, shallow, variable_of}
 use Rattle.ot_program.specs.declared.fault.Refusal.TheVariants.{Form, UnknownArray, OutOfRange, EmptySection, TooLarge, MixedReduction}
 use Rattle.ot_program.specs.declared.fault.Refusal.{Refusal}
-use Rattle.ot_program.specs.declared.part.KnownArray.{KnownArray}
+use Rattle.ot_program.specs.declared.shape.KnownArray.{KnownArray}
 use Rattle.serde_json.specs.Data.{Data, array, no_items, item, string, number}
 use Rattle.std.specs.Prelude.{ℕ, suc, List, [], ◌∷◌, Option, Some, None, Result, Ok, Err, if◌then◌else◌, ◌+◌, ◌==◌, nat_lt, nat_le, bytes_eq, codes}
 use Rattle.ot_model.specs.Tree.{E, Literal, CellAt, Apply, PickFrom}

@@ -74,19 +74,17 @@ follow_one-note_reads-requires t c =
     (c.requires.named.0, of_set c.requires.named.0 (stmt_of c.args.stmt.now) c.in-Set.cell (expr_of c.in-Set.expr) (ap stmt_of c.in-Set.is ∙ search (rules, the_lemmas)) c.requires.named.1)
 
 pub follow_one-note_reads-requires-in-Fold : goal.follow_one-note_reads-requires-in-Fold
-follow_one-note_reads-requires-in-Fold t c =
-    (
-      c.requires.named.0,
-      of_fold c.requires.named.0 (stmt_of c.args.stmt.now) c.in-Fold.op c.in-Fold.cell (expr_of c.in-Fold.expr) (ap stmt_of c.in-Fold.is ∙ search (rules, the_lemmas)) c.requires.named.1,
-    )
+follow_one-note_reads-requires-in-Fold t c = (
+  c.requires.named.0,
+  of_fold c.requires.named.0 (stmt_of c.args.stmt.now) c.in-Fold.op c.in-Fold.cell (expr_of c.in-Fold.expr) (ap stmt_of c.in-Fold.is ∙ search (rules, the_lemmas)) c.requires.named.1,
+)
 
 pub follow_one-note_reads-requires-in-If : goal.follow_one-note_reads-requires-in-If
-follow_one-note_reads-requires-in-If t c =
-    (
-      c.requires.named.0,
-      of_if c.requires.named.0 (stmt_of c.args.stmt.now) (expr_of c.in-If.expr) (stmts_of c.in-If.one.items) (stmts_of c.in-If.two.items)
-          (ap stmt_of c.in-If.is ∙ search (rules, the_lemmas)) c.requires.named.1,
-    )
+follow_one-note_reads-requires-in-If t c = (
+  c.requires.named.0,
+  of_if c.requires.named.0 (stmt_of c.args.stmt.now) (expr_of c.in-If.expr) (stmts_of c.in-If.one.items) (stmts_of c.in-If.two.items)
+      (ap stmt_of c.in-If.is ∙ search (rules, the_lemmas)) c.requires.named.1,
+)
 
 pub follow_one-returns-then-first-clause-events : goal.follow_one-returns-then-first-clause-events
 follow_one-returns-then-first-clause-events t c =

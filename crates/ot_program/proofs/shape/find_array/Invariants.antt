@@ -1,7 +1,7 @@
 use Rattle.std.proofs.Common.{◌≡◌, drop}
 use Rattle.ot_model.specs.Programs.{arrays_of}
 use Rattle.ot_program.specs.walk.Parts.{known_from}
-use Rattle.ot_program.proofs.part.find_array.Given as goal
+use Rattle.ot_program.proofs.shape.find_array.Given as goal
 
 -- what the rest of the arrays gives is what all of them give
 abbrev pub invariant-loop-position : goal.invariant-loop-position
