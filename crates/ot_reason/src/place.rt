@@ -2,7 +2,7 @@
 ghost use Rattle.std.specs.Prelude.{◌≡◌, ◌++◌, ℕ, List, map, string_bytes, IfOk, OnOk};
 ghost use Rattle.serde_json.specs.View.{view};
 ghost use Rattle.ot_place.specs.Spots.{turn_by, place_by};
-ghost use Rattle.ot_reason.specs.Places.{path_words, turns_words, where_words, place_words, entry_words, statement_words};
+ghost use Rattle.ot_reason.specs.Places.{path_words, turn_words, before_turn, turns_words, where_words, place_words, in_file, entry_words, statement_words};
 
 use ot_place::{Place, Turn, place_of};
 use serde_json::Value;
@@ -42,12 +42,27 @@ fn at(alloc: Global, place: &Place<'_>, telling: Telling) -> Result<String, Allo
     ensures { IfOk result (λ text. string_bytes text ≡ place_words telling (place_by place.now)) }
 {
     let mut said = String::new(alloc);
-    if telling == Telling::Line {
-        said.push_str(" at ")?;
-        put_path(alloc, &mut said, place.path.as_slice())?;
-    }
-    put_where(alloc, &mut said, place.turns.as_slice())?;
+    put_place(alloc, &mut said, place, telling)?;
     Ok(said)
+}
+
+/// A place behind other words.
+fn put_place(
+    alloc: Global,
+    said: &mut String,
+    place: &Place<'_>,
+    telling: Telling,
+) -> Result<(), AllocError>
+    ensures { OnOk result (string_bytes said.new ≡ string_bytes said.old ++ place_words telling (place_by place.now)) }
+{
+    match telling {
+        Telling::Line => {
+            said.push_str(" at ")?;
+            put_path(alloc, said, place.path.as_slice())?;
+            put_where(alloc, said, place.turns.as_slice())
+        }
+        Telling::File => put_where(alloc, said, place.turns.as_slice()),
+    }
 }
 
 /// A place, and what stands there.
@@ -59,32 +74,43 @@ pub(crate) fn at_line(
 ) -> Result<String, AllocError>
     ensures { IfOk result (λ text. (shown : List ℕ) × (string_bytes text ≡ entry_words telling (place_by place.now) ++ shown)) }
 {
-    let mut said = entry(alloc, place, telling)?;
+    let mut said = String::new(alloc);
+    put_entry(alloc, &mut said, place, telling)?;
     said.push_str(cut(alloc, statement, MAX_STATEMENT)?.as_str())?;
     Ok(said)
 }
 
 /// A place before what stands there.
-fn entry(alloc: Global, place: &Place<'_>, telling: Telling) -> Result<String, AllocError>
-    ensures { IfOk result (λ text. string_bytes text ≡ entry_words telling (place_by place.now)) }
+fn put_entry(
+    alloc: Global,
+    said: &mut String,
+    place: &Place<'_>,
+    telling: Telling,
+) -> Result<(), AllocError>
+    ensures { OnOk result (string_bytes said.new ≡ string_bytes said.old ++ entry_words telling (place_by place.now)) }
 {
-    let mut said = String::new(alloc);
-    let turns = place.turns.as_slice();
     match telling {
         Telling::Line => {
             said.push_str("at ")?;
-            put_path(alloc, &mut said, place.path.as_slice())?;
-            put_where(alloc, &mut said, turns)?;
-            said.push_str(": ")?;
+            put_path(alloc, said, place.path.as_slice())?;
+            put_where(alloc, said, place.turns.as_slice())?;
+            said.push_str(": ")
         }
-        Telling::File => {
-            put_turns(alloc, &mut said, turns)?;
-            if !turns.is_empty() {
-                said.push_str(": ")?;
-            }
+        Telling::File => put_in_file(alloc, said, place.turns.as_slice()),
+    }
+}
+
+/// The variables of the loops before what stands there, where there are loops.
+fn put_in_file(alloc: Global, said: &mut String, turns: &[Turn<'_>]) -> Result<(), AllocError>
+    ensures { OnOk result (string_bytes said.new ≡ string_bytes said.old ++ in_file (map turn_by turns.now)) }
+{
+    match turns {
+        [] => Ok(()),
+        [_, ..] => {
+            put_turns(alloc, said, turns)?;
+            said.push_str(": ")
         }
     }
-    Ok(said)
 }
 
 /// A part of a statement as it is written.
@@ -106,21 +132,42 @@ fn put_path(alloc: Global, said: &mut String, path: &[usize]) -> Result<(), Allo
 fn put_where(alloc: Global, said: &mut String, turns: &[Turn<'_>]) -> Result<(), AllocError>
     ensures { OnOk result (string_bytes said.new ≡ string_bytes said.old ++ where_words (map turn_by turns.now)) }
 {
-    if !turns.is_empty() {
-        said.push_str(", ")?;
+    match turns {
+        [] => Ok(()),
+        [_, ..] => {
+            said.push_str(", ")?;
+            put_turns(alloc, said, turns)
+        }
     }
-    put_turns(alloc, said, turns)
 }
 
 /// The variables of the loops with their numbers, the outermost first, which is the last one here.
 fn put_turns(alloc: Global, said: &mut String, turns: &[Turn<'_>]) -> Result<(), AllocError>
     ensures { OnOk result (string_bytes said.new ≡ string_bytes said.old ++ turns_words (map turn_by turns.now)) }
 {
-    let [turn, outer @ ..] = turns else {
-        return Ok(());
-    };
-    put_turns(alloc, said, outer)?;
-    said.push_str(if outer.is_empty() { "where " } else { ", " })?;
+    match turns {
+        [] => Ok(()),
+        [turn, outer @ ..] => {
+            put_turns(alloc, said, outer)?;
+            said.push_str(before_turn(outer))?;
+            put_turn(alloc, said, *turn)
+        }
+    }
+}
+
+/// What stands before a loop's variable that is the outermost, or behind others.
+fn before_turn(outer: &[Turn<'_>]) -> &'static str
+    ensures { result.now ≡ before_turn (map turn_by outer.now) }
+{
+    match outer {
+        [] => "where ",
+        [_, ..] => ", ",
+    }
+}
+
+fn put_turn(alloc: Global, said: &mut String, turn: Turn<'_>) -> Result<(), AllocError>
+    ensures { OnOk result (string_bytes said.new ≡ string_bytes said.old ++ turn_words (turn_by turn)) }
+{
     let (name, number) = (turn.name, turn.number);
     said.push_str(format!(in alloc; "{name} = {number}")?.as_str())
 }
