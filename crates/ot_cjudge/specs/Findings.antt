@@ -22,7 +22,7 @@ events_by order body cells = ordered_by order (events_of this_way body cells)
 abbrev pub IsAccepted : Order → Body → Type 0
 IsAccepted order body = OffendsNowhere body × (is_alike order body ≡ true)
 
--- it has no picks, and no branches but those whose conditions name no cell, so that its ways do what its run does
+-- it has no picks and no branches but those whose values and conditions name no cell, so that its ways do what its run does
 abbrev pub IsStraight : Body → Type 0
 IsStraight body = is_straight body ≡ true
 

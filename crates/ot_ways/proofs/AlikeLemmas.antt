@@ -2,12 +2,12 @@
 use Rattle.std.proofs.Common.{◌≡◌, ◌≢◌, ◌+◌, ◌/◌, ◌%◌, ◌<◌, ◌≤◌, ℕ, [], ◌∷◌, ◌++◌, length, map, refl, sym, ap, subst, ◌∙◌, inl, inr, arith}
 use Rattle.std.specs.Prelude.{true, false, if◌then◌else◌, nat_lt, Some, unwrap_or}
 use Rattle.std.proofs.lemmas.Bool.{cases_eq}
-use Rattle.ot_model.specs.Tree.{E, S, Set, Fold, If, Task, Wait, Group, Body, End, Next, size, size_one, cells_named}
+use Rattle.ot_model.specs.Tree.{E, S, Set, Fold, If, Task, Wait, Group, Body, End, Next, size, size_one}
 use Rattle.ot_model.specs.Serial.{State, bump, either}
 use Rattle.ot_model.specs.declared.stmt.Mode.TheVariants.{Reads, Writes}
 use Rattle.ot_check.specs.Offences.{use_as, Declared}
 use Rattle.ot_race.specs.Events.{Way, event, Touches, Begins, Leaves, events, events_one, after, after_one}
-use Rattle.ot_ways.specs.Known.{known}
+use Rattle.ot_ways.specs.Known.{known, may_read}
 use Rattle.ot_ways.specs.Ways.{way_by, ways, ways_one, turn, turns, turns_one}
 use Rattle.ot_ways.specs.Numbered.{events_on, events_on_one, tasks_on, tasks_on_one, turns_on, turns_on_one, takes_first, left_for_second}
 use Rattle.ot_ways.proofs.BranchLemmas.{either_first, either_second, if_less, if_not_less, if_met, if_unmet, truth, taken_first, taken_second}
@@ -65,7 +65,7 @@ pub record Alike (p q : ℕ → ℕ) (own : Declared) (me k : ℕ) (b : Body) (s
 first_alike : (p q : ℕ → ℕ) (own : Declared) (me k : ℕ) (e : E) (a b : Body) (s : State) → number_at p e s ≢ 0 → number_at q e s ≢ 0
     → Alike p q own me (k + 1) a (bump 0 1 s) → AlikeOne p q own me k (If e a b) s
 first_alike p q own me k e a b s one other h = record {
-  events_same = ap (λ es. event me k Touches (map (use_as Reads) (cells_named e)) ∷ es)
+  events_same = ap (λ es. event me k Touches (map (use_as Reads) (may_read e)) ∷ es)
       (either_first (number_at p e s) _ _ one ∙ h.events_same ∙ sym (either_first (number_at q e s) _ _ other));
   after_same = either_first (number_at p e s) (after (by_units p) a (bump 0 1 s)) _ one ∙ h.after_same ∙ sym (either_first (number_at q e s) _ _ other);
   turns_same = either_first (number_at p e s) (turn k true ∷ turns (by_units p) (k + 1) a (bump 0 1 s)) _ one ∙ ap (λ ts. turn k true ∷ ts) h.turns_same
@@ -75,7 +75,7 @@ first_alike p q own me k e a b s one other h = record {
 second_alike : (p q : ℕ → ℕ) (own : Declared) (me k : ℕ) (e : E) (a b : Body) (s : State) → number_at p e s ≡ 0 → number_at q e s ≡ 0
     → Alike p q own me (k + 1 + size a) b (bump 0 1 s) → AlikeOne p q own me k (If e a b) s
 second_alike p q own me k e a b s one other h = record {
-  events_same = ap (λ es. event me k Touches (map (use_as Reads) (cells_named e)) ∷ es)
+  events_same = ap (λ es. event me k Touches (map (use_as Reads) (may_read e)) ∷ es)
       (either_second (number_at p e s) _ _ one ∙ h.events_same ∙ sym (either_second (number_at q e s) _ _ other));
   after_same = either_second (number_at p e s) _ (after (by_units p) b (bump 0 1 s)) one ∙ h.after_same ∙ sym (either_second (number_at q e s) _ _ other);
   turns_same = either_second (number_at p e s) _ (turn k false ∷ turns (by_units p) (k + 1 + size a) b (bump 0 1 s)) one
@@ -158,7 +158,7 @@ way_first n own me k e a b s first h =
     alike h.numbers c own me (k + 1) a (bump 0 1 s) (λ t from to. sym (if_less s.units t _ _ (omega (arith, from)))) in
     record {
       numbers = c;
-      events_are = ap (λ es. event me k Touches (map (use_as Reads) (cells_named e)) ∷ es)
+      events_are = ap (λ es. event me k Touches (map (use_as Reads) (may_read e)) ∷ es)
           (either_first (number_at c e s) _ _ taken ∙ sym l.events_same ∙ h.events_are ∙ ap (events_on n own me (k + 1) a) (no_more s.tasks)
           ∙ sym (if_met (takes_first (known e) n (ways a)) _ _ first));
       tasks_are = ap (λ t. t.tasks) (either_first (number_at c e s) (after (by_units c) a (bump 0 1 s)) _ taken ∙ sym l.after_same) ∙ h.tasks_are
@@ -178,7 +178,7 @@ way_second n own me k e a b s second h =
     alike h.numbers c own me (k + 1 + size a) b (bump 0 1 s) (λ t from to. sym (if_less s.units t _ _ (omega (arith, from)))) in
     record {
       numbers = c;
-      events_are = ap (λ es. event me k Touches (map (use_as Reads) (cells_named e)) ∷ es)
+      events_are = ap (λ es. event me k Touches (map (use_as Reads) (may_read e)) ∷ es)
           (either_second (number_at c e s) _ _ taken ∙ sym l.events_same ∙ h.events_are ∙ ap (events_on left own me (k + 1 + size a) b) (no_more s.tasks)
           ∙ sym (if_unmet (takes_first (known e) n (ways a)) _ _ second));
       tasks_are = ap (λ t. t.tasks) (either_second (number_at c e s) _ (after (by_units c) b (bump 0 1 s)) taken ∙ sym l.after_same) ∙ h.tasks_are

@@ -8,7 +8,7 @@ use Rattle.ot_model.specs.Serial.{either}
 use Rattle.ot_model.specs.declared.expr.Cell.{Cell}
 use Rattle.ot_check.proofs.Cited.{eq_apart, and_left, and_right, and_true}
 use Rattle.ot_ways.specs.Known.{names_none, known}
-use Rattle.ot_ways.specs.Straight.{has_no_pick, is_straight_if}
+use Rattle.ot_ways.specs.Straight.{is_fixed, is_straight_if}
 use Rattle.ot_ways.specs.Ways.{ways_of_if}
 use Rattle.ot_ways.specs.Numbered.{takes_first, left_for_second}
 
@@ -63,11 +63,11 @@ needs_none look (Apply o a b) h =
     (needs_none look a (and_left (names_none a) (names_none b) h), needs_none look b (and_right (names_none a) (names_none b) h))
 needs_none look (PickFrom s e) h = cc
 
-pub picks_none : (e : E) → names_none e ≡ true → has_no_pick e ≡ true
+pub picks_none : (e : E) → names_none e ≡ true → is_fixed e ≡ true
 picks_none (Literal n) h = refl
 picks_none (CellAt c) h = refl
 picks_none (Apply o a b) h =
-    and_true (has_no_pick a) (has_no_pick b) (picks_none a (and_left (names_none a) (names_none b) h)) (picks_none b (and_right (names_none a) (names_none b) h))
+    and_true (is_fixed a) (is_fixed b) (picks_none a (and_left (names_none a) (names_none b) h)) (picks_none b (and_right (names_none a) (names_none b) h))
 picks_none (PickFrom s e) h = cc
 
 -- the number of a value that names no cell, whatever cells hold

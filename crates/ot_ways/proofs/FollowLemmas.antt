@@ -4,18 +4,16 @@ use Rattle.std.specs.Prelude.{Bool, true, false, if◌then◌else◌, Some}
 use Rattle.std.specs.List.{range_with_len}
 use Rattle.std.proofs.lemmas.List.{append_assoc, map-append, length-append}
 use Rattle.std.proofs.lemmas.List.FromFn.{map-range_with_len_more}
-use Rattle.ot_model.specs.Tree.{E, S, Set, Fold, If, Task, Group, Body, Next, size, size_one, cell_at, cells_named}
-use Rattle.ot_model.specs.Names.{OneNamedIn}
+use Rattle.ot_model.specs.Tree.{E, S, Set, Fold, If, Task, Group, Body, Next, size, size_one, cell_at}
+use Rattle.ot_model.specs.Names.{OneNamedIn, ValueNamedIn}
 use Rattle.ot_model.specs.declared.expr.Cell.{Cell}
 use Rattle.ot_model.specs.declared.expr.Section.{Section}
 use Rattle.ot_model.specs.declared.fold.Fold.{Fold as Operation}
 use Rattle.ot_model.specs.declared.stmt.Mode.TheVariants.{Reads, Writes}
 use Rattle.ot_model.specs.declared.stmt.Use.{Use}
 use Rattle.ot_check.specs.Offences.{use_as, Declared}
-use Rattle.ot_parts.specs.Modes.{PicksFit}
-use Rattle.ot_parts.proofs.FitLemmas.{value-fits}
 use Rattle.ot_race.specs.Events.{Event, event, Touches, Begins, Leaves}
-use Rattle.ot_ways.specs.Known.{known}
+use Rattle.ot_ways.specs.Known.{known, may_read}
 use Rattle.ot_ways.specs.Ways.{ways, ways_one, turn}
 use Rattle.ot_ways.specs.Numbered.{events_on, events_on_one, tasks_on, tasks_on_one, turns_on, turns_on_one, takes_first, left_for_second}
 use Rattle.ot_ways.specs.declared.verdict.Turn.{Turn}
@@ -27,11 +25,15 @@ join_events ps qs rs xs ys one two = two ∙ ap (λ l. l ++ ys) one ∙ append_a
 
 -- ---- sections
 
-pub set_fits : (lens : List ℕ) (s : S) (c : Cell) (e : E) → s ≡ Set c e → OneNamedIn lens s → PicksFit e
-set_fits lens s c e is h = value-fits lens e (subst (OneNamedIn lens) is h).1
+-- the value of a statement whose cells are in a shape
+pub of_set : (lens : List ℕ) (s : S) (c : Cell) (e : E) → s ≡ Set c e → OneNamedIn lens s → ValueNamedIn lens e
+of_set lens s c e is h = (subst (OneNamedIn lens) is h).1
 
-pub fold_fits : (lens : List ℕ) (s : S) (o : Operation) (c : Cell) (e : E) → s ≡ Fold o c e → OneNamedIn lens s → PicksFit e
-fold_fits lens s o c e is h = value-fits lens e (subst (OneNamedIn lens) is h).1
+pub of_fold : (lens : List ℕ) (s : S) (o : Operation) (c : Cell) (e : E) → s ≡ Fold o c e → OneNamedIn lens s → ValueNamedIn lens e
+of_fold lens s o c e is h = (subst (OneNamedIn lens) is h).1
+
+pub of_if : (lens : List ℕ) (s : S) (e : E) (a b : Body) → s ≡ If e a b → OneNamedIn lens s → ValueNamedIn lens e
+of_if lens s e a b is h = (subst (OneNamedIn lens) is h).0
 
 pub section_more : (s : Section) (i : ℕ) (es fs us : List Use) → fs ≡ es ++ map (use_as Reads) (map (cell_at s) (range_with_len 0 i))
     → us ≡ fs ++ use_as Reads (cell_at s i) ∷ [] → us ≡ es ++ map (use_as Reads) (map (cell_at s) (range_with_len 0 (i + 1)))
@@ -81,7 +83,7 @@ tasks_loop t u all left w x more b split so_far is ways_are =
 -- ---- statements with bodies
 
 pub if_first : (es more new : List Event) (own : Declared) (me k n : ℕ) (e : E) (a b : Body) (t u : ℕ) (uses : List Use) (s : S)
-    → s ≡ If e a b → more ≡ es ++ event me k Touches uses ∷ [] → uses ≡ map (use_as Reads) (cells_named e)
+    → s ≡ If e a b → more ≡ es ++ event me k Touches uses ∷ [] → uses ≡ map (use_as Reads) (may_read e)
     → new ≡ more ++ events_on n own me (k + 1) a u → u ≡ t → takes_first (known e) n (ways a) ≡ true → new ≡ es ++ events_on_one n own me k s t
 if_first es more new own me k n e a b t u uses s is put reads ran same first =
     let left = left_for_second (known e) n (ways a) in
@@ -93,7 +95,7 @@ if_first es more new own me k n e a b t u uses s is put reads ran same first =
     ∙ sym (ap (λ s. es ++ events_on_one n own me k s t) is)
 
 pub if_second : (es more new : List Event) (own : Declared) (me k n m place : ℕ) (e : E) (a b : Body) (t u : ℕ) (uses : List Use) (s : S)
-    → s ≡ If e a b → more ≡ es ++ event me k Touches uses ∷ [] → uses ≡ map (use_as Reads) (cells_named e)
+    → s ≡ If e a b → more ≡ es ++ event me k Touches uses ∷ [] → uses ≡ map (use_as Reads) (may_read e)
     → new ≡ more ++ events_on m own me place b u → u ≡ t → place ≡ k + 1 + size a → m ≡ left_for_second (known e) n (ways a)
     → takes_first (known e) n (ways a) ≡ false → new ≡ es ++ events_on_one n own me k s t
 if_second es more new own me k n m place e a b t u uses s is put reads ran same place_is left_is second =

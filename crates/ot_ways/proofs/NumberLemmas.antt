@@ -3,12 +3,12 @@ use Rattle.std.proofs.Common.{◌≡◌, ◌≢◌, ◌+◌, ◌*◌, ◌/◌, �
 use Rattle.std.specs.Prelude.{true, false, Some, unwrap_or}
 use Rattle.std.proofs.lemmas.Bool.{cases_eq}
 use Rattle.std.proofs.lemmas.Nat.{mul-add-lt, mod-mul-add, div-mul-add}
-use Rattle.ot_model.specs.Tree.{E, S, Set, Fold, If, Task, Wait, Group, Body, End, Next, size, size_one, cells_named}
+use Rattle.ot_model.specs.Tree.{E, S, Set, Fold, If, Task, Wait, Group, Body, End, Next, size, size_one}
 use Rattle.ot_model.specs.Serial.{State, bump}
 use Rattle.ot_model.specs.declared.stmt.Mode.TheVariants.{Reads, Writes}
 use Rattle.ot_check.specs.Offences.{use_as, Declared}
 use Rattle.ot_race.specs.Events.{event, Touches, Begins, Leaves, events, events_one, after, after_one}
-use Rattle.ot_ways.specs.Known.{known}
+use Rattle.ot_ways.specs.Known.{known, may_read}
 use Rattle.ot_ways.specs.Ways.{way_by, ways, ways_one}
 use Rattle.ot_ways.specs.Numbered.{events_on, events_on_one, tasks_on, tasks_on_one, takes_first, left_for_second}
 use Rattle.ot_ways.proofs.BranchLemmas.{either_first, either_second, if_met, if_unmet, first_taken, first_below, number_of_second, second_taken, second_left, second_below}
@@ -37,7 +37,7 @@ number_first condition own me k e a b s taken h =
     record {
       n = h.n;
       below = first_below (known e) (condition s e) h.n (ways a) (ways b) taken h.below;
-      events_are = ap (λ es. event me k Touches (map (use_as Reads) (cells_named e)) ∷ es)
+      events_are = ap (λ es. event me k Touches (map (use_as Reads) (may_read e)) ∷ es)
           (either_first number _ _ taken ∙ h.events_are ∙ ap (events_on h.n own me (k + 1) a) (add_none s.tasks)
           ∙ sym (if_met (takes_first (known e) h.n (ways a)) _ _ first));
       tasks_are = ap (λ t. t.tasks) (either_first number (after way a (bump 0 1 s)) _ taken) ∙ h.tasks_are
@@ -55,7 +55,7 @@ number_second condition own me k e a b s taken h =
     record {
       n = n;
       below = second_below (known e) (condition s e) h.n (ways a) (ways b) taken h.below;
-      events_are = ap (λ es. event me k Touches (map (use_as Reads) (cells_named e)) ∷ es)
+      events_are = ap (λ es. event me k Touches (map (use_as Reads) (may_read e)) ∷ es)
           (either_second number _ _ taken ∙ h.events_are ∙ ap (events_on h.n own me (k + 1 + size a) b) (add_none s.tasks)
           ∙ ap (λ m. events_on m own me (k + 1 + size a) b s.tasks) left ∙ sym (if_unmet (takes_first (known e) n (ways a)) _ _ second));
       tasks_are = ap (λ t. t.tasks) (either_second number _ (after way b (bump 0 1 s)) taken) ∙ h.tasks_are

@@ -1,8 +1,8 @@
 -- The way through a straight body does what its run does.
-use Rattle.std.proofs.Common.{◌≡◌, ◌∙◌, ◌+◌, ℕ, true, false, ◌&&◌, List, [], ◌∷◌, ◌++◌, length, map, refl, sym, ap, subst, arith, inl, inr}
-use Rattle.std.specs.Prelude.{Option, Some, None, unwrap_or}
+use Rattle.std.proofs.Common.{◌≡◌, ◌∙◌, ◌+◌, ◌%◌, ◌<◌, ℕ, true, false, ◌&&◌, List, [], ◌∷◌, ◌++◌, length, map, refl, sym, ap, subst, arith, inl, inr}
+use Rattle.std.specs.Prelude.{nat_lt, Option, Some, None, unwrap_or, if◌then◌else◌}
 use Rattle.std.proofs.lemmas.Bool.{cases_eq}
-use Rattle.ot_model.specs.Tree.{E, Literal, CellAt, Apply, PickFrom, S, Set, Fold, If, Task, Wait, Group, Body, End, Next, size, size_one, cells_named, val}
+use Rattle.ot_model.specs.Tree.{E, Literal, CellAt, Apply, PickFrom, S, Set, Fold, If, Task, Wait, Group, Body, End, Next, size, size_one, val, cell_at}
 use Rattle.ot_model.specs.Cells.{cell_of}
 use Rattle.ot_model.specs.Serial.{State, bump, either}
 use Rattle.ot_model.specs.declared.expr.Cell.{Cell}
@@ -12,21 +12,44 @@ use Rattle.ot_race.specs.Events.{event, Touches, Begins, Leaves, fold_as, events
 use Rattle.ot_race.specs.Races.{NothingRaces}
 use Rattle.ot_corder.specs.Orders.{ordered_by}
 use Rattle.ot_corder.specs.declared.order.Order.{Order}
-use Rattle.ot_ways.specs.Known.{names_none, known}
-use Rattle.ot_ways.specs.Straight.{has_no_pick, is_straight, is_straight_one}
+use Rattle.ot_check.proofs.Cited.{eq_apart}
+use Rattle.ot_ways.specs.Known.{names_none, known, choices, may_read}
+use Rattle.ot_ways.specs.Straight.{is_fixed, is_straight, is_straight_one}
 use Rattle.ot_ways.specs.Verdicts.{NoWayRaces}
 use Rattle.ot_ways.specs.Ways.{way_by}
 use Rattle.ot_ways.proofs.BranchLemmas.{either_first, either_second, same_number, picks_none, number_of, known_number, straight_knows, straight_takes}
-use Rattle.ot_ways.proofs.TellLemmas.{left_of, right_of}
+use Rattle.ot_ways.proofs.TellLemmas.{left_of, right_of, less_of}
 
--- a value without picks reads what it names
-reads_named : (look : Cell → Option ℕ) (e : E) → has_no_pick e ≡ true → reads_now look e ≡ cells_named e
+-- a value that names no cell reads none
+none_read : (look : Cell → Option ℕ) (e : E) → names_none e ≡ true → (reads_now look e ≡ []) × (may_read e ≡ [])
+none_read look (Literal n) h = (refl, refl)
+none_read look (CellAt c) h = cc
+none_read look (Apply o a b) h =
+    let one = none_read look a (left_of (names_none a) (names_none b) h) in
+    let two = none_read look b (right_of (names_none a) (names_none b) h) in (
+      ap (λ cs. cs ++ reads_now look b) one.0 ∙ two.0,
+      ap (λ cs. cs ++ may_read b) one.1 ∙ two.1,
+    )
+none_read look (PickFrom s e) h = cc
+
+-- a value that reads the same cells whatever they hold reads what it may
+reads_named : (look : Cell → Option ℕ) (e : E) → is_fixed e ≡ true → reads_now look e ≡ may_read e
 reads_named look (Literal n) h = refl
 reads_named look (CellAt c) h = refl
 reads_named look (Apply o a b) h =
-    ap (λ cs. cs ++ reads_now look b) (reads_named look a (left_of (has_no_pick a) (has_no_pick b) h))
-    ∙ ap (λ cs. cells_named a ++ cs) (reads_named look b (right_of (has_no_pick a) (has_no_pick b) h))
-reads_named look (PickFrom s e) h = cc
+    ap (λ cs. cs ++ reads_now look b) (reads_named look a (left_of (is_fixed a) (is_fixed b) h))
+    ∙ ap (λ cs. may_read a ++ cs) (reads_named look b (right_of (is_fixed a) (is_fixed b) h))
+reads_named look (PickFrom s e) h =
+    let names : names_none e ≡ true = left_of (names_none e) (nat_lt 0 s.len) h in
+    let some : 0 < s.len = less_of 0 s.len (right_of (names_none e) (nat_lt 0 s.len) h) in
+    let none = none_read look e names in
+    let one : reads_now look (PickFrom s e) ≡ cell_at s (number_of e % s.len) ∷ [] =
+    ap (λ cs. cs ++ cell_at s (val look e % s.len) ∷ []) none.0 ∙ ap (λ n. cell_at s (n % s.len) ∷ []) (same_number look (λ c. None) e names) in
+    let other : may_read (PickFrom s e) ≡ cell_at s (number_of e % s.len) ∷ [] =
+    ap (λ b. choices s (if b then Some (number_of e) else None) ++ may_read e) names
+    ∙ ap (λ b. (if b then [] else cell_at s (number_of e % s.len) ∷ []) ++ may_read e) (eq_apart s.len 0 (λ z. absurd (omega (arith, some, z))))
+    ∙ ap (λ cs. cell_at s (number_of e % s.len) ∷ cs) none.1 in
+    one ∙ sym other
 
 -- the run from one state and a way from another one, in which as many tasks were executed
 record IsSameOne (condition : State → E → ℕ) (own : Declared) (me k : ℕ) (x : S) (s t : State) : Type 0 where
@@ -61,7 +84,7 @@ mutual
       let two = events this_way own me (k + 1 + size a) b (bump 0 1 s) in
       let reads = ap (λ cs. event me k Touches (map (use_as Reads) cs) ∷ either (val (cell_of s.cells) e) one two)
       (reads_named (cell_of s.cells) e (picks_none e none)) in
-      let test = event me k Touches (map (use_as Reads) (cells_named e)) in
+      let test = event me k Touches (map (use_as Reads) (may_read e)) in
       elim (cases_eq (number_of e) 0) [
         | inl is ↦
             let i = same condition own me (k + 1 + size a) b (bump 0 1 s) (bump 0 1 t) (sym (either_second (number_of e) _ _ is) ∙ body) (more_tasks s.tasks t.tasks 0 tasks) in

@@ -1,11 +1,11 @@
 -- The ways through a body by their numbers, from 0: the events and the turns of way n, and the tasks that it creates. For this
 -- crate alone.
 use Rattle.std.specs.Prelude.{ℕ, ◌+◌, ◌-◌, ◌/◌, ◌%◌, ◌++◌, ◌==◌, nat_lt, not, Bool, if◌then◌else◌, length, true, false, List, [], ◌∷◌, map, Option, Some, None}
-use Rattle.ot_model.specs.Tree.{S, Set, Fold, If, Task, Wait, Group, Body, End, Next, size, size_one, cells_named}
+use Rattle.ot_model.specs.Tree.{S, Set, Fold, If, Task, Wait, Group, Body, End, Next, size, size_one}
 use Rattle.ot_model.specs.declared.stmt.Mode.TheVariants.{Reads, Writes}
 use Rattle.ot_check.specs.Offences.{use_as, Declared}
 use Rattle.ot_race.specs.Events.{Event, event, Touches, Begins, Awaits, Leaves, fold_as}
-use Rattle.ot_ways.specs.Known.{known}
+use Rattle.ot_ways.specs.Known.{known, may_read}
 use Rattle.ot_ways.specs.Ways.{ways, ways_one, turn}
 use Rattle.ot_ways.specs.declared.verdict.Turn.{Turn}
 
@@ -52,10 +52,10 @@ abbrev mutual
 -- the events in the task `me`, which declares this, before which so many tasks were executed
 abbrev mutual
   pub events_on_one : ℕ → Declared → ℕ → ℕ → S → ℕ → List Event
-  events_on_one n own me k (Set c e) tasks = event me k Touches (map (use_as Reads) (cells_named e) ++ use_as Writes c ∷ []) ∷ []
-  events_on_one n own me k (Fold o c e) tasks = event me k Touches (map (use_as Reads) (cells_named e) ++ use_as (fold_as own o c) c ∷ []) ∷ []
+  events_on_one n own me k (Set c e) tasks = event me k Touches (map (use_as Reads) (may_read e) ++ use_as Writes c ∷ []) ∷ []
+  events_on_one n own me k (Fold o c e) tasks = event me k Touches (map (use_as Reads) (may_read e) ++ use_as (fold_as own o c) c ∷ []) ∷ []
   events_on_one n own me k (If e a b) tasks =
-      event me k Touches (map (use_as Reads) (cells_named e))
+      event me k Touches (map (use_as Reads) (may_read e))
       ∷ (if takes_first (known e) n (ways a) then events_on n own me (k + 1) a tasks else events_on (left_for_second (known e) n (ways a)) own me (k + 1 + size a) b tasks)
   events_on_one n own me k (Task d b) tasks = event (tasks + 1) k (Begins me d) [] ∷ events_on n (Some d) (tasks + 1) (k + 1) b (tasks + 1)
   events_on_one n own me k (Wait w) tasks = event me k (Awaits w) [] ∷ []

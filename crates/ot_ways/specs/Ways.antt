@@ -1,15 +1,15 @@
 -- All ways through a program: on each, an `if` takes either of its bodies, but for one whose condition names no cell.
 use Rattle.std.specs.Prelude.{ℕ, ◌+◌, ◌*◌, ◌++◌, Bool, true, false, List, [], ◌∷◌, Option, Some, None, unwrap_or}
-use Rattle.ot_model.specs.Tree.{E, S, Set, Fold, If, Task, Wait, Group, Body, End, Next, size, size_one, cells_named}
+use Rattle.ot_model.specs.Tree.{E, S, Set, Fold, If, Task, Wait, Group, Body, End, Next, size, size_one}
 use Rattle.ot_model.specs.Serial.{State, bump, either}
 use Rattle.ot_race.specs.Events.{Way, after_one}
-use Rattle.ot_ways.specs.Known.{known}
+use Rattle.ot_ways.specs.Known.{known, may_read}
 use Rattle.ot_ways.specs.declared.verdict.Turn.{Turn}
 
 -- The way on which conditions have these numbers, whatever the cells hold; one that names no cell has its own. A value reads each
--- cell that it names, a pick its whole section.
+-- cell that it may read: a pick whose value names no cell one, and another its whole section.
 abbrev pub way_by : (State → E → ℕ) → Way
-way_by condition = record { condition = λ s e. unwrap_or (known e) (condition s e); reads = λ s e. cells_named e }
+way_by condition = record { condition = λ s e. unwrap_or (known e) (condition s e); reads = λ s e. may_read e }
 
 -- how many ways there are through an `if` with so many through its bodies; one whose condition is known takes the body that it says
 abbrev pub ways_of_if : Option ℕ → ℕ → ℕ → ℕ

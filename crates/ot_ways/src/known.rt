@@ -18,7 +18,7 @@ pub(crate) fn known(expr: &Expr) -> Option<u64>
 }
 
 /// Whether a value names no cell.
-fn names_none(expr: &Expr) -> bool
+pub(crate) fn names_none(expr: &Expr) -> bool
     ensures { result ≡ names_none (expr_of expr.now) }
 {
     match expr {

@@ -1,10 +1,11 @@
 //! How many cells are named.
 ghost use Rattle.std.specs.Prelude.{◌≡◌, min, length, ◌+◌, ◌≤◌};
 ghost use Rattle.ot_model.specs.View.{expr_of, stmt_of, stmts_of};
-ghost use Rattle.ot_model.specs.Tree.{cells_named};
+ghost use Rattle.ot_ways.specs.Known.{choices, may_read};
 ghost use Rattle.ot_ways.specs.Naming.{named_in, named_in_one};
 
-use ot_model::{Expr, Stmt};
+use crate::known::known;
+use ot_model::{Expr, Section, Stmt};
 
 /// One more than the cells that may be named on all ways together. They are counted up to here.
 const MANY_CELLS: u32 = 20_000_001;
@@ -37,13 +38,23 @@ fn named_in_one(stmt: &Stmt) -> u32
 
 /// How many cells a value names.
 fn named_by(expr: &Expr) -> u32
-    ensures { result ≡ min (length (cells_named (expr_of expr.now))) 20000001 }
+    ensures { result ≡ min (length (may_read (expr_of expr.now))) 20000001 }
 {
     match expr {
         Expr::Number(_) => 0,
         Expr::Cell(_) => 1,
         Expr::Op(_, one, two) => both(named_by(one), named_by(two)),
-        Expr::Pick(section, chosen) => both(few(section.len as usize), named_by(chosen)),
+        Expr::Pick(section, chosen) => both(choices(*section, known(chosen)), named_by(chosen)),
+    }
+}
+
+/// How many cells a pick may choose, whose value is known or isn't.
+fn choices(section: Section, chosen: Option<u64>) -> u32
+    ensures { result ≡ min (length (choices section chosen)) 20000001 }
+{
+    match chosen {
+        Some(_) => section.len.min(1),
+        None => few(section.len as usize),
     }
 }
 

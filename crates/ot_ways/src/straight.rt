@@ -1,12 +1,13 @@
 //! Whether a program is straight.
 ghost use Rattle.std.specs.Prelude.{◌≡◌};
 ghost use Rattle.ot_model.specs.View.{expr_of, stmt_of, stmts_of};
-ghost use Rattle.ot_ways.specs.Straight.{has_no_pick, is_straight, is_straight_one};
+ghost use Rattle.ot_ways.specs.Straight.{is_fixed, is_straight, is_straight_one};
 
-use crate::known::{is_straight_if, known};
+use crate::known::{is_straight_if, known, names_none};
 use ot_model::{Expr, Stmt};
 
-/// Whether a body has no picks, and no branches but those whose conditions name no cell: the way through it does what its run does.
+/// Whether a body has no picks and no branches but those whose values and conditions name no cell: the way through it does what its
+/// run does.
 #[cycle(straight)]
 pub fn is_straight(body: &Vec<Stmt>) -> bool
     ensures { result ≡ is_straight (stmts_of body.now.items) }
@@ -24,7 +25,7 @@ fn is_straight_one(stmt: &Stmt) -> bool
     ensures { result ≡ is_straight_one (stmt_of stmt.now) }
 {
     match stmt {
-        Stmt::Set(_, expr) | Stmt::Fold(_, _, expr) => has_no_pick(expr),
+        Stmt::Set(_, expr) | Stmt::Fold(_, _, expr) => is_fixed(expr),
         Stmt::If(expr, one, two) => {
             is_straight_if(known(expr), is_straight(one), is_straight(two))
         }
@@ -33,13 +34,13 @@ fn is_straight_one(stmt: &Stmt) -> bool
     }
 }
 
-/// Whether no pick is in a value.
-fn has_no_pick(expr: &Expr) -> bool
-    ensures { result ≡ has_no_pick (expr_of expr.now) }
+/// Whether a value reads the same cells whatever they hold.
+fn is_fixed(expr: &Expr) -> bool
+    ensures { result ≡ is_fixed (expr_of expr.now) }
 {
     match expr {
         Expr::Number(_) | Expr::Cell(_) => true,
-        Expr::Op(_, one, two) => has_no_pick(one) && has_no_pick(two),
-        Expr::Pick(_, _) => false,
+        Expr::Op(_, one, two) => is_fixed(one) && is_fixed(two),
+        Expr::Pick(section, chosen) => names_none(chosen) && section.len > 0,
     }
 }

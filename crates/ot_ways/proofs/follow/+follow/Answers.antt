@@ -3,21 +3,20 @@ use Rattle.std.specs.Prelude.{Vec, true, false}
 use Rattle.std.specs.Global.{Global}
 use Rattle.std.proofs.lemmas.Result.{on_ok_weaker}
 use Rattle.std.proofs.lemmas.List.{length-map, length-append}
-use Rattle.ot_model.specs.Tree.{If, Task, Group, size, size_one, tasks_in, tasks_in_one, cells_named}
+use Rattle.ot_model.specs.Tree.{If, Task, Group, size, size_one, tasks_in, tasks_in_one}
 use Rattle.ot_model.specs.declared.stmt.Mode.TheVariants.{Reads, Writes}
 use Rattle.ot_check.specs.Offences.{use_as}
 use Rattle.ot_model.specs.View.{expr_of, stmt_of, stmts_of}
 use Rattle.ot_model.specs.Names.{NamedIn, OneNamedIn}
 use Rattle.ot_model.specs.declared.stmt.Stmt.{the_lemmas}
 use Rattle.ot_check.proofs.Cited.{rest_is}
-use Rattle.ot_parts.proofs.MakeLemmas.{condition-fits}
 use Rattle.ot_race.specs.View.{event_of, events_in}
-use Rattle.ot_ways.specs.Known.{known}
+use Rattle.ot_ways.specs.Known.{known, may_read}
 use Rattle.ot_ways.specs.Numbered.{takes_first, left_for_second}
 use Rattle.ot_ways.specs.Ways.{ways, ways_one, ways_of_if, turn}
 use Rattle.ot_ways.specs.declared.verdict.Turn.{Turn}
 use Rattle.ot_ways.proofs.WayLemmas.{some_way_one, few_one, few_rest, few_of_if, counted_takes, counted_left, counted_some, counted_few}
-use Rattle.ot_ways.proofs.FollowLemmas.{set_fits, fold_fits, events_loop, turns_loop, tasks_loop, if_first, if_second, turns_first, turns_second, task_begins, group_ends}
+use Rattle.ot_ways.proofs.FollowLemmas.{of_set, of_fold, of_if, events_loop, turns_loop, tasks_loop, if_first, if_second, turns_first, turns_second, task_begins, group_ends}
 use Rattle.ot_ways.proofs.follow.+follow.Goals as goal
 
 pub follow_all-nonzero_rem-left : goal.follow_all-nonzero_rem-left
@@ -72,16 +71,20 @@ follow_all-loop-stmt-preserved t c =
 
 pub follow_one-note_reads-requires : goal.follow_one-note_reads-requires
 follow_one-note_reads-requires t c =
-    set_fits c.requires.named.0 (stmt_of c.args.stmt.now) c.in-Set.cell (expr_of c.in-Set.expr) (ap stmt_of c.in-Set.is ∙ search (rules, the_lemmas)) c.requires.named.1
+    (c.requires.named.0, of_set c.requires.named.0 (stmt_of c.args.stmt.now) c.in-Set.cell (expr_of c.in-Set.expr) (ap stmt_of c.in-Set.is ∙ search (rules, the_lemmas)) c.requires.named.1)
 
 pub follow_one-note_reads-requires-in-Fold : goal.follow_one-note_reads-requires-in-Fold
-follow_one-note_reads-requires-in-Fold t c =
-    fold_fits c.requires.named.0 (stmt_of c.args.stmt.now) c.in-Fold.op c.in-Fold.cell (expr_of c.in-Fold.expr) (ap stmt_of c.in-Fold.is ∙ search (rules, the_lemmas)) c.requires.named.1
+follow_one-note_reads-requires-in-Fold t c = (
+  c.requires.named.0,
+  of_fold c.requires.named.0 (stmt_of c.args.stmt.now) c.in-Fold.op c.in-Fold.cell (expr_of c.in-Fold.expr) (ap stmt_of c.in-Fold.is ∙ search (rules, the_lemmas)) c.requires.named.1,
+)
 
 pub follow_one-note_reads-requires-in-If : goal.follow_one-note_reads-requires-in-If
-follow_one-note_reads-requires-in-If t c =
-    condition-fits c.requires.named.0 (stmt_of c.args.stmt.now) (expr_of c.in-If.expr) (stmts_of c.in-If.one.items) (stmts_of c.in-If.two.items)
-    (ap stmt_of c.in-If.is ∙ search (rules, the_lemmas)) c.requires.named.1
+follow_one-note_reads-requires-in-If t c = (
+  c.requires.named.0,
+  of_if c.requires.named.0 (stmt_of c.args.stmt.now) (expr_of c.in-If.expr) (stmts_of c.in-If.one.items) (stmts_of c.in-If.two.items)
+      (ap stmt_of c.in-If.is ∙ search (rules, the_lemmas)) c.requires.named.1,
+)
 
 pub follow_one-returns-then-first-clause-events : goal.follow_one-returns-then-first-clause-events
 follow_one-returns-then-first-clause-events t c =
@@ -94,7 +97,7 @@ follow_one-returns-then-first-clause-events t c =
     sym (counted_takes (known (expr_of c.in-If.expr)) c.args.way c.extent_all-extent.result.ways (ways (stmts_of c.in-If.one.items)) (ways (stmts_of c.in-If.two.items))
     c.extent_all-extent.ensures.ways few) ∙ ap (λ o. takes_first o c.args.way c.extent_all-extent.result.ways) (sym c.known-decided.ensures)
     ∙ sym c.takes_first-first.ensures ∙ told in
-    let reads = c.in_ok-note_reads-in-If.ensures ∙ ap (λ l. l ++ map (use_as Reads) (cells_named (expr_of c.in-If.expr))) c.new-uses.ensures.items in
+    let reads = c.in_ok-note_reads-in-If.ensures ∙ ap (λ l. l ++ map (use_as Reads) (may_read (expr_of c.in-If.expr))) c.new-uses.ensures.items in
     on_ok_weaker c.follow_all.result
     (λ ran. if_first _ _ _ _ _ _ c.args.way _ _ _ _ _ _ _ is c.in_ok-put-in-If.ensures.events reads ran c.in_ok-put-in-If.ensures.tasks taken)
     c.follow_all.ensures.events
@@ -128,7 +131,7 @@ follow_one-returns-else-first-clause-events t c =
     c.left_for_second-left.ensures ∙ ap (λ o. left_for_second o c.args.way c.extent_all-extent.result.ways) c.known-decided.ensures
     ∙ counted_left (known (expr_of c.in-If.expr)) c.args.way c.extent_all-extent.result.ways (ways (stmts_of c.in-If.one.items)) (ways (stmts_of c.in-If.two.items))
     c.extent_all-extent.ensures.ways few in
-    let reads = c.in_ok-note_reads-in-If.ensures ∙ ap (λ l. l ++ map (use_as Reads) (cells_named (expr_of c.in-If.expr))) c.new-uses.ensures.items in
+    let reads = c.in_ok-note_reads-in-If.ensures ∙ ap (λ l. l ++ map (use_as Reads) (may_read (expr_of c.in-If.expr))) c.new-uses.ensures.items in
     let place : c.args.place + 1 + c.extent_all-extent.result.statements ≡ c.args.place + 1 + size (stmts_of c.in-If.one.items) = ap (λ n. c.args.place + 1 + n) c.extent_all-extent.ensures.statements in
     on_ok_weaker c.follow_all-else-first.result
     (λ ran. if_second _ _ _ _ _ _ c.args.way _ _ _ _ _ _ _ _ _ is c.in_ok-put-in-If.ensures.events reads ran c.in_ok-put-in-If.ensures.tasks place left taken)
