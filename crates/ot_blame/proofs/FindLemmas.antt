@@ -8,7 +8,7 @@ use Rattle.ot_model.specs.Tree.{S, Set, Fold, If, Task, Wait, Group, Body, End, 
 use Rattle.ot_model.specs.declared.stmt.Mode.TheVariants.{Writes}
 use Rattle.ot_model.specs.declared.stmt.Use.{Use}
 use Rattle.ot_check.specs.Offences.{Mark, Touch, Create, Await, Enter, Leave, touches, use_as, Declared, Openings, awaits, clashes, Offends}
-use Rattle.ot_check.specs.Discipline.{Children, anyone, nobody, nothing_open, through, behind, behind_one, with_group, may_break, marks, ends_with_children, is_offence}
+use Rattle.ot_check.specs.Discipline.{Children, anyone, nobody, nothing_open, through, through_one, behind, behind_one, with_group, may_break, marks, ends_with_children, is_offence}
 use Rattle.ot_check.specs.declared.fault.Offence.{Offence}
 use Rattle.ot_check.specs.declared.fault.Offence.TheVariants.{ConflictsWithChild, EndsWithChildren}
 use Rattle.ot_check.proofs.Cited.{or_true, true_or, or_right, or_false, and_left, and_right, any-map, Meets, MeetsInside, meets-on_path, meets-in_tasks}
@@ -68,6 +68,48 @@ mutual
       stays_on p (carried_one task p k x) (carried task (carried_one task p k x) (k + size_one x) rest)
       (stays-one task p k x (elim out [ inl low ↦ inl low | inr high ↦ inr (omega (arith, high)) ]))
       (stays-all task (carried_one task p k x) (k + size_one x) rest (elim out [ inl low ↦ inl (omega (arith, low)) | inr high ↦ inr (omega (arith, high)) ]))
+
+-- one that stands elsewhere isn't carried
+pub carried_none : (task k : ℕ) (b : Body) → (task < k) ⊎ (k + size b ≤ task) → carried task None k b ≡ None
+carried_none task k b out = elim (stays-all task None k b out) [ inl none ↦ none | inr none ↦ none ]
+
+either_stays : (child : ℕ × List Use) (one two : Bool) →
+    option_or (if two then Some child else None) (if one then Some child else None) ≡ (if one || two then Some child else None)
+either_stays child true true = refl
+either_stays child true false = refl
+either_stays child false true = refl
+either_stays child false false = refl
+
+after_test : (t : Bool) (task : ℕ) (child : ℕ × List Use) (k : ℕ) (rest : Body) → task < k
+    → carried task (Some child) k rest ≡ (if through child.1 rest then Some child else None)
+    → carried task (if t then Some child else None) k rest ≡ (if t && through child.1 rest then Some child else None)
+after_test true task child k rest below so = so
+after_test false task child k rest below so = carried_none task k rest (inl below)
+
+-- behind what comes after it, a child is carried exactly where some path of that doesn't await it
+mutual
+  after-one : (task : ℕ) (child : ℕ × List Use) (k : ℕ) (x : S) → task < k → carried_one task (Some child) k x ≡ (if through_one child.1 x then Some child else None)
+  after-one task child k (Set c e) below = refl
+  after-one task child k (Fold o c e) below = refl
+  after-one task child k (If e a b) below =
+      ap (λ p. option_or p (carried task (Some child) (k + 1) a)) (after-all task child (k + 1 + size a) b (omega (arith, below)))
+      ∙ ap (λ p. option_or (if through child.1 b then Some child else None) p) (after-all task child (k + 1) a (omega (arith, below)))
+      ∙ either_stays child (through child.1 a) (through child.1 b)
+  after-one task child k (Task d b) below =
+      let other : k ≢ task = λ is. omega (arith, below, is) in
+      ap (λ t. if t then Some (k, d) else Some child) (here-not k task other)
+  after-one task child k (Wait w) below = refl
+  after-one task child k (Group o cs b) below = refl
+
+  after-all : (task : ℕ) (child : ℕ × List Use) (k : ℕ) (b : Body) → task < k → carried task (Some child) k b ≡ (if through child.1 b then Some child else None)
+  after-all task child k End below = refl
+  after-all task child k (Next x rest) below =
+      ap (λ p. carried task p (k + size_one x) rest) (after-one task child k x below)
+      ∙ after_test (through_one child.1 x) task child (k + size_one x) rest (omega (arith, below)) (after-all task child (k + size_one x) rest (omega (arith, below)))
+
+pub carried_after : (task : ℕ) (p : Pending) (k : ℕ) (b : Body) → task < k → carried task p k b ≡ only (λ d. through d b) p
+carried_after task None k b below = carried_none task k b (inl below)
+carried_after task (Some child) k b below = after-all task child k b below
 
 -- nothing is met where the place isn't
 mutual
@@ -406,10 +448,6 @@ ends_inside own opened children x h = by_statement x (by_marks (marks x) (ends_w
 -- a walk carries one to the end of a body in which one may be left
 pub carried_some : (k : ℕ) (b : Body) → 0 < k → behind nobody b anyone ≡ true → (task : ℕ) × (child : ℕ × List Use) × (carried task None k b ≡ Some child)
 carried_some k b some h = let f = found_all k b nobody no_walk (cover_nobody k some) anyone h in (f.0, f.1, f.2)
-
--- one that stands elsewhere isn't carried
-pub carried_none : (task k : ℕ) (b : Body) → (task < k) ⊎ (k + size b ≤ task) → carried task None k b ≡ None
-carried_none task k b out = elim (stays-all task None k b out) [ inl none ↦ none | inr none ↦ none ]
 
 -- ---- a statement that conflicts with a child
 

@@ -6,6 +6,7 @@ mod child;
 mod left;
 mod offence;
 mod pending;
+mod places;
 mod race;
 mod through;
 mod touch;

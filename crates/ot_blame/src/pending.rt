@@ -1,10 +1,10 @@
 //! The wanted children that may be unawaited at a statement, all of them by one walk. It tells only for whom to look
 //! first: of each that is told a walk of its own says whether it may be, and so of those that aren't.
+use crate::places::Places;
 use crate::wanted::Wanted;
-use ot_model::{Decl, Mode, Stmt};
+use ot_model::{Cell, Decl, Mode, Stmt};
 use ot_sets::Numbers;
 use std::alloc::{AllocError, Global};
-use std::collections::BTreeMap;
 
 /// Those of the wanted tasks that use a cell.
 #[derive(Drop)]
@@ -25,8 +25,8 @@ struct Look<'a> {
     next: u32,
     /// The places of the wanted tasks to which it came.
     tasks: Vec<u32>,
-    /// Where in `users` a cell stands, by array and index.
-    cells: BTreeMap<(u32, u32), usize>,
+    /// Where in `users` a cell stands.
+    places: Places,
     users: Vec<Users>,
 }
 
@@ -45,7 +45,7 @@ pub(crate) fn tasks_pending(
         goal,
         next: first,
         tasks: Vec::new(alloc),
-        cells: BTreeMap::new(alloc),
+        places: Places::new(alloc),
         users: Vec::new(alloc),
     };
     let mut pending = Numbers::new(alloc);
@@ -145,7 +145,7 @@ impl<'a> Look<'a> {
     /// Notes a task at each cell that it declares.
     fn put_users(&mut self, number: usize, decl: &Decl) -> Result<(), AllocError> {
         for used in decl.uses() {
-            let place = self.place_of((used.cell.array, used.cell.index))?;
+            let place = self.place_of(used.cell)?;
             if let Some(users) = self.users.get_mut(place) {
                 users.all.insert(number)?;
                 if used.mode == Mode::Writes {
@@ -157,12 +157,12 @@ impl<'a> Look<'a> {
     }
 
     /// Where a cell stands, from now on.
-    fn place_of(&mut self, cell: (u32, u32)) -> Result<usize, AllocError> {
-        if let Some(place) = self.cells.get(&cell) {
-            return Ok(*place);
+    fn place_of(&mut self, cell: Cell) -> Result<usize, AllocError> {
+        if let Some(place) = self.places.of(cell) {
+            return Ok(place);
         }
         let place = self.users.len();
-        self.cells.insert(cell, place)?;
+        self.places.set(self.alloc, cell, place)?;
         self.users.push(Users {
             all: Numbers::new(self.alloc),
             writers: Numbers::new(self.alloc),
@@ -173,10 +173,10 @@ impl<'a> Look<'a> {
     /// A wait awaits those with which it shares a cell that one of the two writes.
     fn wait_for(&self, decl: &Decl, pending: &mut Numbers) {
         for used in decl.uses() {
-            let Some(place) = self.cells.get(&(used.cell.array, used.cell.index)) else {
+            let Some(place) = self.places.of(used.cell) else {
                 continue;
             };
-            if let Some(users) = self.users.get(*place) {
+            if let Some(users) = self.users.get(place) {
                 if used.mode == Mode::Writes {
                     pending.take_out(&users.all);
                 } else {

@@ -189,7 +189,7 @@ fn walk_group<'a>(
     match walk(body, search, place + 1, child) {
         Ok(inside) => Ok(Behind {
             next: inside.next,
-            child: kept(body, child),
+            child: kept(body, search, place + 1, child, inside.child),
         }),
         Err(arrived) => Err(arrived),
     }
@@ -205,10 +205,21 @@ fn passed<'a>(wait: &Option<Decl>, child: Option<Child<'a>>) -> Option<Child<'a>
     }
 }
 
-/// The child from before a body, where some path of it has no wait that awaits it.
-fn kept<'a>(body: &Vec<Stmt>, child: Option<Child<'a>>) -> Option<Child<'a>>
+/// The child from before a body whose first statement has this place, where some path of the body has no wait that awaits
+/// it. A walk through the body came to its end with `inside`: where the task stands before the body, that tells already.
+fn kept<'a>(
+    body: &Vec<Stmt>,
+    search: &Search,
+    place: u32,
+    child: Option<Child<'a>>,
+    inside: Option<Child<'a>>,
+) -> Option<Child<'a>>
+    requires { pending_of inside ≡ carried search.now.child (pending_of child) place (stmts_of body.now.items) }
     ensures { pending_of result ≡ only (λ d. through d (stmts_of body.now.items)) (pending_of child.entry) }
 {
+    if search.child < place {
+        return inside;
+    }
     match child {
         Some(one) if through(one.decl, body) => child,
         _ => None,

@@ -237,6 +237,7 @@ fn ordered(start: usize, operation: Operation, sense: Sense) -> Result<(), CFaul
 
 /// The place in a group that combines over an item, which is a part of an array or the cell of a pointer.
 fn with_part<'a>(
+    alloc: Global,
     scope: Scope<'a>,
     pointer: Option<Pointee>,
     item: &'a Item,
@@ -244,7 +245,7 @@ fn with_part<'a>(
     ensures { IfOk result (λ s. s ≡ meant.with_part scope.entry pointer (item_of item.now)) }
 {
     match pointer {
-        None => scope.with_portion(number_of(item.array), &item.place),
+        None => scope.with_portion(alloc, number_of(item.array), &item.place),
         Some(_) => Ok(scope),
     }
 }
@@ -265,7 +266,7 @@ fn combines<'a>(
     heading.clauses.push(section)?;
     let opening = opening(item.array, operation, false, pointer);
     let scope = heading.scope.with_opening(alloc, opening)?;
-    let scope = with_part(scope, pointer, item)?;
+    let scope = with_part(alloc, scope, pointer, item)?;
     Ok(Heading {
         clauses: heading.clauses,
         scope,

@@ -3,6 +3,8 @@ pub mod Forms
 pub mod Results
 pub mod Codes
 pub mod Scopes
+pub mod Kept
+pub mod Layers
 pub mod Constants
 pub mod Sizes
 pub mod Runs

@@ -8,6 +8,7 @@ ghost use Rattle.ot_cread.specs.Tree.{part_of};
 ghost use Rattle.ot_cscope.specs.Scopes.{Around, meaning_of, turn_of, opening_of, portion_of, text_of, extent_of};
 
 use crate::json;
+use crate::layers::{self, Frame, Innermost, Layer, innermost_of, layered, opening_in, portion_in};
 use indexmap::IndexSet;
 use ot_cnames::own_name;
 use ot_cread::{Operation, Place};
@@ -97,24 +98,23 @@ pub struct Scope<'a> {
     names: &'a IndexSet<String>,
     meanings: &'a [Meaning],
     turns: Vec<Turn>,
-    opened: Vec<Opening>,
-    /// The parts of arrays over which they combine.
-    portions: Vec<Portion<'a>>,
+    /// What open groups combine over.
+    layers: Vec<Layer<'a>>,
     /// Whether the place is in a parallel region.
     inside: bool,
 }
 
 impl<'a> Model for Scope<'a> {
-    ghost use Rattle.std.specs.Prelude.{map};
     ghost use Rattle.std.specs.Coded.{codes};
     ghost use Rattle.ot_cscope.specs.Codes.{value_code};
-    ghost use Rattle.ot_cscope.specs.Scopes.{Around, extent_of};
+    ghost use Rattle.ot_cscope.specs.Layers.{opened_in, portions_in};
+    ghost use Rattle.ot_cscope.specs.Scopes.{Around};
 
     ghost Value = { Around };
 
     ghost coded = { Prim.hlevel (codes, value_code) };
 
-    ghost view = { λ s. record { names = s.names.now.keys; meanings = s.meanings.now; turns = s.turns.items; opened = s.opened.items; portions = map extent_of s.portions.items; inside = s.inside } };
+    ghost view = { λ s. record { names = s.names.now.keys; meanings = s.meanings.now; turns = s.turns.items; opened = opened_in s.layers.items; portions = portions_in s.layers.items; inside = s.inside } };
 }
 
 impl<'a> Scope<'a> {
@@ -131,8 +131,7 @@ impl<'a> Scope<'a> {
             names,
             meanings,
             turns: Vec::new(alloc),
-            opened: Vec::new(alloc),
-            portions: Vec::new(alloc),
+            layers: Vec::new(alloc),
             inside,
         }
     }
@@ -147,10 +146,7 @@ impl<'a> Scope<'a> {
     pub fn combines(&self) -> bool
         ensures { result ≡ around.combines self.now.opened }
     {
-        match &self.opened[..] {
-            [] => false,
-            _ => true,
-        }
+        layers::combine(&self.layers)
     }
 
     fn meaning(&self, name: usize) -> Meaning
@@ -173,7 +169,7 @@ impl<'a> Scope<'a> {
     fn opening(&self, name: usize) -> Option<Opening>
         ensures { result ≡ opening_of self.now name }
     {
-        opening_among(&self.opened, name)
+        opening_in(&self.layers, name)
     }
 
     /// The part of this array over which an open group combines.
@@ -182,7 +178,7 @@ impl<'a> Scope<'a> {
     {
         match array {
             Name::Known(_) => None,
-            Name::Other(number) => portion_among(&self.portions, number),
+            Name::Other(number) => portion_in(&self.layers, number),
         }
     }
 
@@ -227,7 +223,7 @@ impl<'a> Scope<'a> {
     {
         match array {
             Name::Known(_) => false,
-            Name::Other(number) => any_points_into(&self.opened, number, cells),
+            Name::Other(number) => layers::point_into(&self.layers, number, cells),
         }
     }
 
@@ -259,8 +255,7 @@ impl<'a> Scope<'a> {
             names: self.names,
             meanings: self.meanings,
             turns: copy_of(alloc, &self.turns)?,
-            opened: copy_of(alloc, &self.opened)?,
-            portions: copy_of(alloc, &self.portions)?,
+            layers: layers::shared(alloc, &self.layers)?,
             inside: self.inside,
         })
     }
@@ -276,31 +271,36 @@ impl<'a> Scope<'a> {
             names: self.names,
             meanings: self.meanings,
             turns,
-            opened: copy_of(alloc, &self.opened)?,
-            portions: copy_of(alloc, &self.portions)?,
+            layers: layers::shared(alloc, &self.layers)?,
             inside: self.inside,
         })
     }
 
     /// The place in a group that combines over an array, or in a task that takes part in it.
-    pub fn with_opening(&self, alloc: Global, opening: Opening) -> Result<Scope<'a>, AllocError>
-        ensures { IfOk result (λ s. s ≡ around.with_opening self.now opening) }
+    pub fn with_opening(self, alloc: Global, opening: Opening) -> Result<Scope<'a>, AllocError>
+        ensures { IfOk result (λ s. s ≡ around.with_opening self.entry opening) }
     {
-        let mut opened = Vec::new(alloc);
-        opened.push(opening)?;
-        opened.extend_from_slice(&self.opened)?;
+        let Innermost { frame, around } = innermost_of(alloc, self.layers)?;
+        let frame = Frame {
+            openings: frame.openings.with(opening)?,
+            portions: frame.portions,
+        };
         Ok(Scope {
             names: self.names,
             meanings: self.meanings,
-            turns: copy_of(alloc, &self.turns)?,
-            opened,
-            portions: copy_of(alloc, &self.portions)?,
+            turns: self.turns,
+            layers: layered(alloc, frame, around)?,
             inside: self.inside,
         })
     }
 
     /// The place in a group that combines over this part of an array.
-    pub fn with_portion(mut self, array: usize, place: &'a Place) -> Result<Scope<'a>, AllocError>
+    pub fn with_portion(
+        self,
+        alloc: Global,
+        array: usize,
+        place: &'a Place,
+    ) -> Result<Scope<'a>, AllocError>
         ensures { IfOk result (λ s. s ≡ around.with_portion self.entry array (part_of place.now)) }
     {
         let portion = Portion {
@@ -308,8 +308,18 @@ impl<'a> Scope<'a> {
             place,
             around: self.turns.len(),
         };
-        self.portions.push(portion)?;
-        Ok(self)
+        let Innermost { frame, around } = innermost_of(alloc, self.layers)?;
+        let frame = Frame {
+            openings: frame.openings,
+            portions: frame.portions.with(portion)?,
+        };
+        Ok(Scope {
+            names: self.names,
+            meanings: self.meanings,
+            turns: self.turns,
+            layers: layered(alloc, frame, around)?,
+            inside: self.inside,
+        })
     }
 
     /// The place in a task, before it takes part in a reduction.
@@ -320,8 +330,7 @@ impl<'a> Scope<'a> {
             names: self.names,
             meanings: self.meanings,
             turns: copy_of(alloc, &self.turns)?,
-            opened: none_own(alloc, &self.opened)?,
-            portions: copy_of(alloc, &self.portions)?,
+            layers: layers::within_task(alloc, &self.layers)?,
             inside: self.inside,
         })
     }
@@ -334,29 +343,6 @@ fn turn_among(turns: &[Turn], name: usize) -> Option<Turn>
     for turn in turns {
         if turn.variable == name {
             return Some(*turn);
-        }
-    }
-    None
-}
-
-/// The innermost group that combines over this array.
-fn opening_among(opened: &[Opening], name: usize) -> Option<Opening>
-    ensures { result ≡ find (λ o. o.array == name) opened.now }
-{
-    for opening in opened {
-        if opening.array == name {
-            return Some(*opening);
-        }
-    }
-    None
-}
-
-fn portion_among<'a>(portions: &[Portion<'a>], array: usize) -> Option<Portion<'a>>
-    ensures { option_map extent_of result ≡ find (λ p. p.array == array) (map extent_of portions.now) }
-{
-    for portion in portions {
-        if portion.array == array {
-            return Some(*portion);
         }
     }
     None
@@ -393,17 +379,6 @@ pub fn points_into(array: usize, cells: Option<(u64, u64)>, pointee: Option<Poin
     }
 }
 
-fn any_points_into(opened: &[Opening], array: usize, cells: Option<(u64, u64)>) -> bool
-    ensures { result ≡ list_any (λ o. around.points_into array cells o.pointee) opened.now }
-{
-    for opening in opened {
-        if points_into(array, cells, opening.pointee) {
-            return true;
-        }
-    }
-    false
-}
-
 fn copy_of<T: Copy>(alloc: Global, items: &[T]) -> Result<Vec<T>, AllocError>
     ensures { IfOk result (λ v. v.items ≡ items.now) }
 {
@@ -412,17 +387,7 @@ fn copy_of<T: Copy>(alloc: Global, items: &[T]) -> Result<Vec<T>, AllocError>
     Ok(copy)
 }
 
-fn none_own(alloc: Global, opened: &[Opening]) -> Result<Vec<Opening>, AllocError>
-    ensures { IfOk result (λ v. v.items ≡ map around.not_own opened.now) }
-{
-    let mut inner = Vec::new(alloc);
-    for opening in opened {
-        inner.push(not_own(*opening))?;
-    }
-    Ok(inner)
-}
-
-fn not_own(opening: Opening) -> Opening
+pub(crate) fn not_own(opening: Opening) -> Opening
     ensures { result ≡ around.not_own opening }
 {
     Opening {

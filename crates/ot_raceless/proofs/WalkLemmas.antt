@@ -21,7 +21,9 @@ use Rattle.ot_race.specs.Order.{IsBy, Does, InTurn, ByCreation, IsBefore, Once}
 use Rattle.ot_race.specs.Races.{IsUsed}
 use Rattle.ot_race.specs.Standings.{IsKnownTo}
 use Rattle.ot_corder.specs.declared.order.Order.TheVariants.{OfLanguage}
+use Rattle.ot_ways.specs.Known.{may_read}
 use Rattle.ot_ways.specs.Ways.{way_by}
+use Rattle.ot_ways.proofs.RunLemmas.{may_be_used}
 use Rattle.ot_ways.specs.Verdicts.{NoWayRaces}
 use Rattle.ot_race.proofs.OrderLemmas.{some_is, is_by, before_trans}
 use Rattle.ot_check.proofs.Cited.{or_false_left, or_false_right, not_false, any-map, true_or, or_right, is_offence-ChildBeyond, is_offence-ReductionMisuse, is_offence-Group}
@@ -194,16 +196,23 @@ only : {A : Type 0} (x y : A) → Contains (x ∷ []) y → x ≡ y
 only x y (zero, l, e) = e
 only x y (suc k, l, e) = absurd (omega (arith, l))
 
+-- what a set uses, and what it touches by what it names
+touched_by_set : (c : Cell) (e : E) (u : Use) → Contains (map (use_as Reads) (may_read e) ++ use_as Writes c ∷ []) u → Contains (touches (Set c e)) u
+touched_by_set c e u there = elim (Contains-append_cases (map (use_as Reads) (may_read e)) (use_as Writes c ∷ []) u there) [
+  | inl read ↦ Contains-append_left (map (use_as Reads) (cells_named e)) (use_as Writes c ∷ []) u (may_be_used e u read)
+  | inr written ↦ Contains-append_right (map (use_as Reads) (cells_named e)) (use_as Writes c ∷ []) u written
+]
+
 -- what a fold uses, as it is held
 may_fold : (own : Declared) (opened : Openings) (children : Children) (o : Operation) (c : Cell) (e : E) → IsClean own opened children (Fold o c e) → (u : Use)
-    → Contains (map (use_as Reads) (cells_named e) ++ use_as (fold_as own o c) c ∷ []) u → MayUse own opened children u
+    → Contains (map (use_as Reads) (may_read e) ++ use_as (fold_as own o c) c ∷ []) u → MayUse own opened children u
 may_fold own opened children o c e clean u there =
     let reads = map (use_as Reads) (cells_named e) in
     let each : (v : Use) → Contains (touches (Fold o c e)) v → IsHarmless own opened children v = λ v in_it.
     harmless own opened children (touches (Fold o c e)) v
     (λ offence. or_false_left (is_marked own opened children (Fold o c e) offence) (ends_with_children (Fold o c e) offence) (clean offence)) in_it in
-    elim (Contains-append_cases reads (use_as (fold_as own o c) c ∷ []) u there) [
-      | inl read ↦ may_use own opened children u (each u (Contains-append_left reads (use_as (Folds o) c ∷ []) u read))
+    elim (Contains-append_cases (map (use_as Reads) (may_read e)) (use_as (fold_as own o c) c ∷ []) u there) [
+      | inl read ↦ may_use own opened children u (each u (Contains-append_left reads (use_as (Folds o) c ∷ []) u (may_be_used e u read)))
       | inr folded ↦
           let fold = each (use_as (Folds o) c) (Contains-append_right reads (use_as (Folds o) c ∷ []) (use_as (Folds o) c) (itself (use_as (Folds o) c))) in
           subst (MayUse own opened children) (only (use_as (fold_as own o c) c) u folded)
@@ -273,7 +282,7 @@ mutual
       let it = event me k Touches (uses_by (way_by condition) own s (Set c e)) in
       goes_using es me own opened children from n it gathered (stands_first es n it [] stands) refl
       (λ u there. may_use own opened children u
-      (harmless own opened children (touches (Set c e)) u (λ offence. or_false_left (is_marked own opened children (Set c e) offence) (ends_with_children (Set c e) offence) (clean offence)) there))
+      (harmless own opened children (touches (Set c e)) u (λ offence. or_false_left (is_marked own opened children (Set c e) offence) (ends_with_children (Set c e) offence) (clean offence)) (touched_by_set c e u there)))
   goes_one es condition own me k (Fold o c e) s opened children from n setting clean fine stands gathered =
       let it = event me k Touches (uses_by (way_by condition) own s (Fold o c e)) in
       goes_using es me own opened children from n it gathered (stands_first es n it [] stands) refl (may_fold own opened children o c e clean)
@@ -285,7 +294,7 @@ mutual
       let part = either (way.condition s e) one two in
       let test = goes_using es me own opened children from n it gathered (stands_first es n it part stands) refl
       (λ u there. may_use own opened children u
-      (harmless own opened children (touches (If e a b)) u (λ offence. or_false_left (is_marked own opened children (If e a b) offence) (ends_with_children (If e a b) offence) (clean offence)) there)) in
+      (harmless own opened children (touches (If e a b)) u (λ offence. or_false_left (is_marked own opened children (If e a b) offence) (ends_with_children (If e a b) offence) (clean offence)) (may_be_used e u there))) in
       let branch = either_of (λ part. StandsAt es (n + 1) part → Goes es me own opened (behind_one children (If e a b)) from (n + 1) (n + 1 + length part))
       (way.condition s e) one two
       (λ at. goes_with_more es me own opened (behind children a) (behind_one children (If e a b)) from (n + 1) (n + 1 + length one)

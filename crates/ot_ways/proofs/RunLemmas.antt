@@ -1,10 +1,11 @@
 -- A run and the way with its values have the same events, but for what picks read.
 use Rattle.std.proofs.Common.{◌≡◌, ◌+◌, ◌%◌, ◌<◌, ℕ, zero, suc, List, [], ◌∷◌, ◌++◌, length, map, refl, sym, ap, subst, ◌∙◌, inl, inr, arith}
-use Rattle.std.specs.Prelude.{◌==◌, Option, Some, None, Contains, unwrap_or}
+use Rattle.std.specs.Prelude.{◌==◌, if◌then◌else◌, Option, Some, None, Contains, unwrap_or}
+use Rattle.std.proofs.lemmas.Bool.{cases_eq}
 use Rattle.std.proofs.lemmas.Nat.{mod_below}
 use Rattle.std.proofs.lemmas.List.Elements.{Contains-append_left, Contains-append_right, Contains-append_cases}
 use Rattle.std.proofs.lemmas.List.FromFn.{length-map-range_with_len, get_or-map-range_with_len}
-use Rattle.ot_model.specs.Tree.{E, Literal, CellAt, Apply, PickFrom, S, Set, Fold, If, Task, Wait, Group, Body, End, Next, size, size_one, val, cell_at, cells_of}
+use Rattle.ot_model.specs.Tree.{E, Literal, CellAt, Apply, PickFrom, S, Set, Fold, If, Task, Wait, Group, Body, End, Next, size, size_one, val, cell_at, cells_of, cells_named}
 use Rattle.ot_model.specs.Cells.{cell_of}
 use Rattle.ot_model.specs.Names.{NamedIn, OneNamedIn, ValueNamedIn}
 use Rattle.ot_model.specs.Serial.{State, bump, either}
@@ -13,6 +14,7 @@ use Rattle.ot_model.specs.declared.expr.Section.{Section}
 use Rattle.ot_model.specs.declared.stmt.Mode.TheVariants.{Reads}
 use Rattle.ot_model.specs.declared.stmt.Use.{Use}
 use Rattle.ot_check.specs.Offences.{use_as, Declared}
+use Rattle.ot_check.proofs.Cited.{eq_apart}
 use Rattle.ot_race.specs.Events.{Way, event, Begins, Leaves, events, events_one, after, after_one, reads_now, this_way}
 use Rattle.ot_ways.specs.Known.{known, choices, may_read}
 use Rattle.ot_ways.specs.Ways.{way_by}
@@ -54,7 +56,10 @@ cell_in_section s k l =
 -- a pick whose value is this in the run may choose the cell at it
 chosen : (s : Section) (o : Option ℕ) (n : ℕ) → 0 < s.len → unwrap_or o n ≡ n → Contains (choices s o) (cell_at s (n % s.len))
 chosen s None n some is = cell_in_section s (n % s.len) (mod_below n s.len some)
-chosen s (Some m) n some is = subst (λ k. Contains (cell_at s (m % s.len) ∷ []) (cell_at s (k % s.len))) is (first_of_list (cell_at s (m % s.len)) [])
+chosen s (Some m) n some is =
+    subst (λ k. Contains (choices s (Some m)) (cell_at s (k % s.len))) is
+    (subst (λ b. Contains (if b then [] else cell_at s (m % s.len) ∷ []) (cell_at s (m % s.len))) (sym (eq_apart s.len 0 (λ z. absurd (omega (arith, some, z)))))
+    (first_of_list (cell_at s (m % s.len)) []))
 
 reads_named : (lens : List ℕ) (look : Cell → Option ℕ) (e : E) → ValueNamedIn lens e → (c : Cell) → Contains (reads_now look e) c → Contains (may_read e) c
 reads_named lens look (Literal n) h c r = r
@@ -84,6 +89,37 @@ test_within : (lens : List ℕ) (look : Cell → Option ℕ) (e : E) → ValueNa
 test_within lens look e h u r =
     let c = comes_from (use_as Reads) (reads_now look e) u r in
     subst (Contains (map (use_as Reads) (may_read e))) c.same (is_in_map (use_as Reads) (may_read e) c.from (reads_named lens look e h c.from c.there))
+
+-- ---- what may be read is named
+
+none_there : {A : Type 0} (x : A) → Contains [] x → ⊥
+none_there x (k, l, e) = omega (arith, l)
+
+choice_named : (s : Section) (o : Option ℕ) (c : Cell) → Contains (choices s o) c → Contains (cells_of s) c
+choice_named s None c r = r
+choice_named s (Some n) c r = elim (cases_eq s.len 0) [
+  | inl is ↦ absurd (none_there c (subst (λ k. Contains (if k == 0 then [] else cell_at s (n % s.len) ∷ []) c) is r))
+  | inr apart ↦ subst (Contains (cells_of s)) (only (cell_at s (n % s.len)) c (subst (λ b. Contains (if b then [] else cell_at s (n % s.len) ∷ []) c) (eq_apart s.len 0 apart) r))
+      (cell_in_section s (n % s.len) (mod_below n s.len (omega (arith, apart))))
+]
+
+may_named : (e : E) (c : Cell) → Contains (may_read e) c → Contains (cells_named e) c
+may_named (Literal n) c r = r
+may_named (CellAt d) c r = r
+may_named (Apply o a b) c r = elim (Contains-append_cases (may_read a) (may_read b) c r) [
+  | inl one ↦ Contains-append_left (cells_named a) (cells_named b) c (may_named a c one)
+  | inr two ↦ Contains-append_right (cells_named a) (cells_named b) c (may_named b c two)
+]
+may_named (PickFrom s e) c r = elim (Contains-append_cases (choices s (known e)) (may_read e) c r) [
+  | inl one ↦ Contains-append_left (cells_of s) (cells_named e) c (choice_named s (known e) c one)
+  | inr two ↦ Contains-append_right (cells_of s) (cells_named e) c (may_named e c two)
+]
+
+-- so it is used where it is named
+pub may_be_used : (e : E) (u : Use) → Contains (map (use_as Reads) (may_read e)) u → Contains (map (use_as Reads) (cells_named e)) u
+may_be_used e u r =
+    let c = comes_from (use_as Reads) (may_read e) u r in
+    subst (Contains (map (use_as Reads) (cells_named e))) c.same (is_in_map (use_as Reads) (cells_named e) c.from (may_named e c.from c.there))
 
 -- ---- events
 

@@ -1,6 +1,6 @@
 -- The way through a straight body does what its run does.
-use Rattle.std.proofs.Common.{◌≡◌, ◌∙◌, ◌+◌, ◌%◌, ℕ, true, false, ◌&&◌, List, [], ◌∷◌, ◌++◌, length, map, refl, sym, ap, subst, arith, inl, inr}
-use Rattle.std.specs.Prelude.{Option, Some, None, unwrap_or, if◌then◌else◌}
+use Rattle.std.proofs.Common.{◌≡◌, ◌∙◌, ◌+◌, ◌%◌, ◌<◌, ℕ, true, false, ◌&&◌, List, [], ◌∷◌, ◌++◌, length, map, refl, sym, ap, subst, arith, inl, inr}
+use Rattle.std.specs.Prelude.{nat_lt, Option, Some, None, unwrap_or, if◌then◌else◌}
 use Rattle.std.proofs.lemmas.Bool.{cases_eq}
 use Rattle.ot_model.specs.Tree.{E, Literal, CellAt, Apply, PickFrom, S, Set, Fold, If, Task, Wait, Group, Body, End, Next, size, size_one, val, cell_at}
 use Rattle.ot_model.specs.Cells.{cell_of}
@@ -12,12 +12,13 @@ use Rattle.ot_race.specs.Events.{event, Touches, Begins, Leaves, fold_as, events
 use Rattle.ot_race.specs.Races.{NothingRaces}
 use Rattle.ot_corder.specs.Orders.{ordered_by}
 use Rattle.ot_corder.specs.declared.order.Order.{Order}
+use Rattle.ot_check.proofs.Cited.{eq_apart}
 use Rattle.ot_ways.specs.Known.{names_none, known, choices, may_read}
 use Rattle.ot_ways.specs.Straight.{is_fixed, is_straight, is_straight_one}
 use Rattle.ot_ways.specs.Verdicts.{NoWayRaces}
 use Rattle.ot_ways.specs.Ways.{way_by}
 use Rattle.ot_ways.proofs.BranchLemmas.{either_first, either_second, same_number, picks_none, number_of, known_number, straight_knows, straight_takes}
-use Rattle.ot_ways.proofs.TellLemmas.{left_of, right_of}
+use Rattle.ot_ways.proofs.TellLemmas.{left_of, right_of, less_of}
 
 -- a value that names no cell reads none
 none_read : (look : Cell → Option ℕ) (e : E) → names_none e ≡ true → (reads_now look e ≡ []) × (may_read e ≡ [])
@@ -39,11 +40,15 @@ reads_named look (Apply o a b) h =
     ap (λ cs. cs ++ reads_now look b) (reads_named look a (left_of (is_fixed a) (is_fixed b) h))
     ∙ ap (λ cs. may_read a ++ cs) (reads_named look b (right_of (is_fixed a) (is_fixed b) h))
 reads_named look (PickFrom s e) h =
-    let none = none_read look e h in
+    let names : names_none e ≡ true = left_of (names_none e) (nat_lt 0 s.len) h in
+    let some : 0 < s.len = less_of 0 s.len (right_of (names_none e) (nat_lt 0 s.len) h) in
+    let none = none_read look e names in
     let one : reads_now look (PickFrom s e) ≡ cell_at s (number_of e % s.len) ∷ [] =
-    ap (λ cs. cs ++ cell_at s (val look e % s.len) ∷ []) none.0 ∙ ap (λ n. cell_at s (n % s.len) ∷ []) (same_number look (λ c. None) e h) in
+    ap (λ cs. cs ++ cell_at s (val look e % s.len) ∷ []) none.0 ∙ ap (λ n. cell_at s (n % s.len) ∷ []) (same_number look (λ c. None) e names) in
     let other : may_read (PickFrom s e) ≡ cell_at s (number_of e % s.len) ∷ [] =
-    ap (λ b. choices s (if b then Some (number_of e) else None) ++ may_read e) h ∙ ap (λ cs. cell_at s (number_of e % s.len) ∷ cs) none.1 in
+    ap (λ b. choices s (if b then Some (number_of e) else None) ++ may_read e) names
+    ∙ ap (λ b. (if b then [] else cell_at s (number_of e % s.len) ∷ []) ++ may_read e) (eq_apart s.len 0 (λ z. absurd (omega (arith, some, z))))
+    ∙ ap (λ cs. cell_at s (number_of e % s.len) ∷ cs) none.1 in
     one ∙ sym other
 
 -- the run from one state and a way from another one, in which as many tasks were executed

@@ -50,7 +50,7 @@ both_of : (a b : Bool) → a ≡ true → b ≡ true → (a && b) ≡ true
 both_of true b h k = k
 both_of false b h k = cc
 
-less_of : (x y : ℕ) → nat_lt x y ≡ true → x < y
+pub less_of : (x y : ℕ) → nat_lt x y ≡ true → x < y
 less_of x y h = grind (arith, nat_tests)
 
 less_to : (x y : ℕ) → x < y → nat_lt x y ≡ true

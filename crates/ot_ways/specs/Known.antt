@@ -1,5 +1,5 @@
 -- What is known of values whatever the cells hold: the number of one that names no cell, and which cells a value may read.
-use Rattle.std.specs.Prelude.{ℕ, ◌%◌, ◌++◌, List, [], ◌∷◌, Bool, true, false, ◌&&◌, if◌then◌else◌, Option, Some, None}
+use Rattle.std.specs.Prelude.{ℕ, ◌%◌, ◌==◌, ◌++◌, List, [], ◌∷◌, Bool, true, false, ◌&&◌, if◌then◌else◌, Option, Some, None}
 use Rattle.ot_model.specs.Tree.{E, Literal, CellAt, Apply, PickFrom, val, cell_at, cells_of}
 use Rattle.ot_model.specs.declared.expr.Cell.{Cell}
 use Rattle.ot_model.specs.declared.expr.Section.{Section}
@@ -18,7 +18,7 @@ known e = if names_none e then Some (val (λ c. None) e) else None
 -- the cells that a pick may choose: the one at its value where that is known, or else each of its section
 abbrev pub choices : Section → Option ℕ → List Cell
 choices s None = cells_of s
-choices s (Some n) = cell_at s (n % s.len) ∷ []
+choices s (Some n) = if s.len == 0 then [] else cell_at s (n % s.len) ∷ []
 
 -- the cells that a value may read, in the order in which they are named
 abbrev pub may_read : E → List Cell

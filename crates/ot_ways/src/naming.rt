@@ -53,7 +53,7 @@ fn choices(section: Section, chosen: Option<u64>) -> u32
     ensures { result ≡ min (length (choices section chosen)) 20000001 }
 {
     match chosen {
-        Some(_) => 1,
+        Some(_) => section.len.min(1),
         None => few(section.len as usize),
     }
 }

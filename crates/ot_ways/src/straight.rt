@@ -41,6 +41,6 @@ fn is_fixed(expr: &Expr) -> bool
     match expr {
         Expr::Number(_) | Expr::Cell(_) => true,
         Expr::Op(_, one, two) => is_fixed(one) && is_fixed(two),
-        Expr::Pick(_, chosen) => names_none(chosen),
+        Expr::Pick(section, chosen) => names_none(chosen) && section.len > 0,
     }
 }

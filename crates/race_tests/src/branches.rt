@@ -55,6 +55,7 @@ fn branches(rt: HostRuntime) -> Result<(), Fail> {
 /// Branches whose conditions name no cell, in this order: a task in the body that isn't taken; in the one that is, by a sum, with a
 /// write behind; the other body, by a difference; a write in the first turn alone, and in each but the first; a wait from the second
 /// turn on; 5,000 of them; 10 others among 40; 11 others in a body that isn't taken, and in one that is; one in a body of another.
+/// Then picks whose values name none: of the cell that no task writes; of the one that it writes; of the former in each turn.
 const KNOWN: &str =
     r#"none|[["if",0,[["task",[["out",["a",0,1]]],[["set",["c","a",0],7]]]],[]],["set",["c","a",0],5]]
 4 3.0 1+|[["if",["+",1,1],[["task",[["out",["a",0,1]]],[["set",["c","a",0],7]]]],[]],["set",["c","a",0],5]]
@@ -67,12 +68,15 @@ none|[["for","i",0,40,[["if",["<","i",30],[["set",["c","a",1],"i"]],[["if",["c",
 none|[["if",0,[["for","i",0,11,[["if",["c","a",0],[["set",["c","a",1],"i"]],[]]]]],[]]]
 many|[["if",1,[["for","i",0,11,[["if",["c","a",0],[["set",["c","a",1],"i"]],[]]]]],[]]]
 6 4.0 1+ 2+|[["if",["c","a",2],[["if",["min",3,4],[["task",[["out",["a",0,1]]],[["set",["c","a",0],7]]]],[["wait"]]]],[]],["set",["c","a",0],5]]
+none|[["task",[],[["set",["c","a",0],1]]],["set",["c","a",2],["pick",["a",0,2],3]]]
+3 2.0|[["task",[],[["set",["c","a",0],1]]],["set",["c","a",2],["pick",["a",0,2],["-",4,2]]]]
+none|[["task",[],[["set",["c","a",0],1]]],["for","i",0,2,[["set",["c","a",2],["pick",["a",0,2],["+",["*","i",2],1]]]]]]
 "#;
 
 #[test]
 fn known_branches(rt: HostRuntime) -> Result<(), Fail> {
     let (passed, wrong) = told_rows(rt.alloc(), 3, KNOWN)?;
-    assert!(rt; passed == 11, "{wrong}");
+    assert!(rt; passed == 14, "{wrong}");
     Ok(())
 }
 
