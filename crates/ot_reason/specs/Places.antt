@@ -1,6 +1,7 @@
 -- Where something stands in a line, in words.
 use Rattle.std.specs.Prelude.{◌≡◌, ℕ, List, [], ◌∷◌, ◌++◌, flat_map, map, codes, slice_get, String, string_bytes, Option, Some, None, option_map, option_and_then}
 use Rattle.std.specs.Fmt.{decimal}
+use Rattle.std.specs.declared.alloc.Global.{Global}
 use Rattle.serde_json.specs.Data.{Data}
 use Rattle.ot_model.specs.Programs.{Arrays}
 use Rattle.ot_program.specs.Meanings.{Bindings}
@@ -68,5 +69,5 @@ BeginsAt telling refusal None reasons = Unit {0}
 BeginsAt telling refusal (Some (why, place)) reasons =
     refusal_of why ≡ refusal → (shown : List ℕ) × (others : List (List ℕ)) × (reasons ≡ (entry_words telling place ++ shown) ∷ others)
 
-abbrev pub texts_of : List String → List (List ℕ)
+abbrev pub texts_of : List (String Global) → List (List ℕ)
 texts_of reasons = map string_bytes reasons

@@ -1,6 +1,6 @@
 -- The program that a request runs.
 use Rattle.std.specs.Prelude.{codes, if◌then◌else◌, Option, Some, None, Result, Ok, Err}
-use Rattle.serde_json.specs.Data.{Data, array, Items, no_items, item}
+use Rattle.serde_json.specs.Data.{Data, array, no_items, item}
 use Rattle.ot_model.specs.Programs.{Expanded, Arrays}
 use Rattle.ot_program.specs.Meanings.{is_word}
 use Rattle.ot_program.specs.Programs.{program_of}

@@ -166,7 +166,7 @@ fn before_turn(outer: &[Turn<'_>]) -> &'static str
 }
 
 fn put_turn(alloc: Global, said: &mut String, turn: Turn<'_>) -> Result<(), AllocError>
-    ensures { OnOk result (string_bytes said.new ≡ string_bytes said.old ++ turn_words (turn_by turn)) }
+    ensures { OnOk result (string_bytes said.new ≡ string_bytes said.old ++ turn_words (turn_by turn.entry)) }
 {
     let (name, number) = (turn.name, turn.number);
     said.push_str(format!(in alloc; "{name} = {number}")?.as_str())

@@ -34,7 +34,7 @@ returns-then-is_full-clause-next c = λ all goes. (
 
 pub returns-then-not-is_taken-clause-next : goal.returns-then-not-is_taken-clause-next
 returns-then-not-is_taken-clause-next c = λ all goes.
-    at_refused c.in-Some.piece c.in_ok-verdict.verdict c.judge_line.new.book (option_map view c.in_ok-request.field-0) (c.loop-piece.invariant.goes all goes) c.in-Some.ensures.piece
+    at_refused c.in-Some.piece c.in_ok-verdict.verdict c.judge_line.new.book (option_map view c.in_ok-request.request) (c.loop-piece.invariant.goes all goes) c.in-Some.ensures.piece
     (omega (arith, c.in-Some.ensures.within.0, c.in-Some.ensures.within.1)) c.in-Some.ensures.within.2
     (c.as_slice-line.ensures.value ∙ c.in_ok-bytes.ensures)
     (sym c.is_goodbye.ensures ∙ c.if-is_goodbye.false) (sym c.is_long.ensures ∙ c.if-is_long.false)
