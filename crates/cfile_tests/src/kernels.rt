@@ -1,7 +1,4 @@
-//! Kernels that people know, in C: each is read whole, but for one with a dependence that isn't read.
-use crate::telling::{Told, told_file};
-use std::alloc::Global;
-use std::test::Fail;
+//! Kernels that people know, in C.
 
 pub const DEPEND_MISSING: &str = "#include <stdio.h>
 int main(void)
@@ -30,27 +27,6 @@ int main(void)
         #pragma omp task depend(out: i)
         i = 1;
         #pragma omp task depend(in: i)
-        i = 2;
-    }
-    printf(\"i=%d\\n\", i);
-    return 0;
-}
-";
-
-pub const OUT_AFTER_OUT: &str = "#include <stdio.h>
-#include <unistd.h>
-int main(void)
-{
-    int i = 0;
-    #pragma omp parallel
-    #pragma omp single
-    {
-        #pragma omp task depend(out: i)
-        {
-            sleep(1);
-            i = 1;
-        }
-        #pragma omp task depend(out: i)
         i = 2;
     }
     printf(\"i=%d\\n\", i);
@@ -142,24 +118,6 @@ int main(void)
 }
 ";
 
-const MUTEX: &str = "#include <stdint.h>
-#include <stdio.h>
-int main(void)
-{
-    uint64_t a, c;
-    #pragma omp parallel
-    #pragma omp single
-    {
-        #pragma omp task depend(out: a)
-        a = 2;
-        #pragma omp task depend(in: a) depend(mutexinoutset: c)
-        c += a;
-    }
-    printf(\"%lu\\n\", c);
-    return 0;
-}
-";
-
 pub const IN_REDUCTION: &str = "#include <stdint.h>
 #include <stdio.h>
 #define N 8
@@ -229,50 +187,3 @@ int main(void)
     return 0;
 }
 ";
-
-pub const SHARED_LOOP_VARIABLE: &str = "#include <stdint.h>
-#include <stdio.h>
-int main(void)
-{
-    static uint64_t a[4];
-    #pragma omp parallel
-    #pragma omp single
-    for (int i = 0; i < 4; i++) {
-        #pragma omp task shared(i)
-        a[i] = 1;
-    }
-    printf(\"%lu\\n\", a[0]);
-    return 0;
-}
-";
-
-/// Each with where its first fault stands, if it has one.
-const KERNELS: [(&str, Told); 12] = [
-    (DEPEND_MISSING, Told::Read),
-    (DEPEND_IN_WRITES, Told::Read),
-    (OUT_AFTER_OUT, Told::Read),
-    (TWO_READERS, Told::Read),
-    (WAIT_ONLY_CHILD, Told::Read),
-    (WAIT_FOR_ONE_MISSING, Told::Read),
-    (CHAIN_OF_TWO, Told::Read),
-    (MUTEX, Told::Refused("clause", 11, 47)),
-    (IN_REDUCTION, Told::Read),
-    (BLOCKED_WAVEFRONT, Told::Read),
-    (PHASES, Told::Read),
-    (SHARED_LOOP_VARIABLE, Told::Read),
-];
-
-fn first_other(alloc: Global) -> Option<&'static str> {
-    for (text, wanted) in &KERNELS {
-        if told_file(alloc, text) != *wanted {
-            return Some(*text);
-        }
-    }
-    None
-}
-
-#[test]
-fn kernels_are_read(rt: HostRuntime) -> Result<(), Fail> {
-    assert_eq!(rt; first_other(rt.alloc()), None);
-    Ok(())
-}

@@ -1,29 +1,18 @@
-//! Tests of C that is read: statements and files, and where what isn't read is refused. It has nothing but tests.
+//! Tests of C that is read: files as programs, with the lines of their statements. It has nothing but tests. What is refused, and what
+//! statements become, stands in `tests/outside_c` and `tests/lowered_c_forms`.
 #![tactic(auto)]
 
 #[cfg(test)]
 mod calls;
 #[cfg(test)]
-mod files;
-#[cfg(test)]
-mod forms;
-#[cfg(test)]
-mod integers;
-#[cfg(test)]
 mod kernels;
 #[cfg(test)]
 mod lowered;
-#[cfg(test)]
-mod pointers;
 #[cfg(test)]
 mod printed;
 #[cfg(test)]
 mod programs;
 #[cfg(test)]
-mod statements;
-#[cfg(test)]
-mod telling;
-#[cfg(test)]
-mod values;
+mod takings;
 #[cfg(test)]
 mod wholes;

@@ -1,6 +1,6 @@
-//! Files as programs of the language, or where they stand outside of it.
+//! Files as programs of the language.
 use ot_cfile::read_file;
-use ot_clower::{CFault, Reason, Reductions, lower};
+use ot_clower::{CFault, Reductions, lower};
 use ot_words::{Words, position_of, words_of};
 use serde_json::Value;
 use std::alloc::Global;
@@ -10,9 +10,8 @@ use std::alloc::Global;
 pub enum Outcome {
     /// A program, the cells of its arrays, and the line of each statement.
     Program(String, Vec<Vec<u64>>, Vec<usize>),
-    /// Why, and the line and the column where what the language doesn't have stands.
-    Outside(Reason, usize, usize),
-    NotRead,
+    /// It isn't read, or has what the language doesn't have.
+    Outside,
     Memory,
 }
 
@@ -33,7 +32,7 @@ fn text_of(alloc: Global, program: &Value) -> Option<String> {
 
 fn lowered(alloc: Global, text: &str, words: &Words) -> Option<Outcome> {
     let Ok(file) = read_file(alloc, &words.words) else {
-        return Some(Outcome::NotRead);
+        return Some(Outcome::Outside);
     };
     match lower(alloc, words, &file) {
         Ok(made) => {
@@ -44,13 +43,7 @@ fn lowered(alloc: Global, text: &str, words: &Words) -> Option<Outcome> {
             }
             Some(Outcome::Program(text_of(alloc, &made.program)?, cells, lines))
         }
-        Err(CFault::Outside(start, reason)) => {
-            if start > text.len() {
-                return None;
-            }
-            let place = position_of(text.as_bytes(), start);
-            Some(Outcome::Outside(reason, place.line, place.column))
-        }
+        Err(CFault::Outside(_, _)) => Some(Outcome::Outside),
         Err(CFault::Memory) => Some(Outcome::Memory),
     }
 }
@@ -63,22 +56,10 @@ pub fn reductions_of(alloc: Global, text: &str) -> Option<Reductions> {
     Some(made.reductions)
 }
 
-/// The line and the column at which the first task begins that takes part otherwise than the first one.
-pub fn other_taking(alloc: Global, text: &str) -> Option<(usize, usize)> {
-    let Some(Reductions::Mixed(start)) = reductions_of(alloc, text) else {
-        return None;
-    };
-    if start > text.len() {
-        return None;
-    }
-    let place = position_of(text.as_bytes(), start);
-    Some((place.line, place.column))
-}
-
 /// What becomes of a text.
 pub fn became(alloc: Global, text: &str) -> Outcome {
     let Ok(words) = words_of(alloc, text.as_bytes()) else {
-        return Outcome::NotRead;
+        return Outcome::Outside;
     };
     match lowered(alloc, text, &words) {
         Some(became) => became,

@@ -1,11 +1,9 @@
-//! Kernels, each as the program that it is: its text, its cells and the lines of its statements; and those that stand
-//! outside of the language.
+//! Kernels, each as the program that it is: its text, its cells and the lines of its statements.
 use crate::kernels::{
-    BLOCKED_WAVEFRONT, CHAIN_OF_TWO, DEPEND_IN_WRITES, DEPEND_MISSING, IN_REDUCTION, OUT_AFTER_OUT,
-    PHASES, SHARED_LOOP_VARIABLE, TWO_READERS, WAIT_FOR_ONE_MISSING, WAIT_ONLY_CHILD,
+    BLOCKED_WAVEFRONT, CHAIN_OF_TWO, DEPEND_IN_WRITES, DEPEND_MISSING, IN_REDUCTION, PHASES,
+    TWO_READERS, WAIT_FOR_ONE_MISSING, WAIT_ONLY_CHILD,
 };
 use crate::lowered::{Outcome, became};
-use ot_clower::Reason;
 use std::alloc::{AllocError, Global};
 use std::test::Fail;
 
@@ -67,11 +65,6 @@ const PROGRAMS: [(&str, &str, &str, &str); 9] = [
     ),
 ];
 
-const OUTSIDE: [(&str, Reason, usize, usize); 2] = [
-    (OUT_AFTER_OUT, Reason::Function, 11, 13),
-    (SHARED_LOOP_VARIABLE, Reason::LoopVariable, 9, 9),
-];
-
 /// Whether a text becomes this program, with these cells, at these lines.
 pub fn becomes(
     alloc: Global,
@@ -98,24 +91,8 @@ fn other_program(alloc: Global) -> Option<&'static str> {
     None
 }
 
-fn other_refusal(alloc: Global) -> Option<&'static str> {
-    for (text, reason, line, column) in &OUTSIDE {
-        match became(alloc, text) {
-            Outcome::Outside(why, l, c) if why == *reason && l == *line && c == *column => {}
-            _ => return Some(*text),
-        }
-    }
-    None
-}
-
 #[test]
 fn kernels_become_programs(rt: HostRuntime) -> Result<(), Fail> {
     assert_eq!(rt; other_program(rt.alloc()), None);
-    Ok(())
-}
-
-#[test]
-fn kernels_outside_are_refused(rt: HostRuntime) -> Result<(), Fail> {
-    assert_eq!(rt; other_refusal(rt.alloc()), None);
     Ok(())
 }
