@@ -1,15 +1,11 @@
-//! Tests of the pool, with workers and clients in threads of their own. It has nothing but tests, and one
-//! that measures. Whatever a test waits for, it waits a bounded number of turns.
+//! Tests of the pool, with workers and clients in threads of their own. It has nothing but tests.
+//! Whatever a test waits for, it waits a bounded number of turns.
 #![tactic(auto)]
 
-#[cfg(test)]
-mod bench;
 #[cfg(test)]
 mod crowd;
 #[cfg(test)]
 mod door;
-#[cfg(test)]
-mod job_bench;
 #[cfg(test)]
 mod play;
 #[cfg(test)]
@@ -22,7 +18,5 @@ mod refused;
 mod scene;
 #[cfg(test)]
 mod scenes;
-#[cfg(test)]
-mod shapes;
 #[cfg(test)]
 mod turns;
