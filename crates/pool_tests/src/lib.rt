@@ -3,8 +3,6 @@
 #![tactic(auto)]
 
 #[cfg(test)]
-mod crowd;
-#[cfg(test)]
 mod door;
 #[cfg(test)]
 mod play;

@@ -1,8 +1,7 @@
-//! A pool with its workers, and a scene that is played on it, or a crowd that asks.
+//! A pool with its workers, and a scene that is played on it.
 ghost use Rattle.std.specs.Prelude.{◌≡◌, ◌≤◌, vec_len, IfOk};
 ghost use Rattle.std.specs.List.{All, sum_by};
 
-use super::crowd::Crowd;
 use super::door::Door;
 use super::scene::Scene;
 use ot_pool::{Pool, Staffed, Usage, staffed, totals};
@@ -27,29 +26,6 @@ impl Told {
     }
 }
 
-/// Whose clients ask.
-#[derive(Clone, Copy)]
-enum Cast<'a> {
-    Scene(&'a Scene),
-    Crowd(&'a Crowd),
-}
-
-impl Cast<'_> {
-    /// What the clients are told, one after the other, with a line feed behind each.
-    fn played<L: Ledger + Send + Sync, R: Threads + Wait + Sync>(
-        self,
-        rt: &R,
-        alloc: Global,
-        pool: &Pool<L>,
-        door: &Door,
-    ) -> Result<String, AllocError> {
-        match self {
-            Cast::Scene(scene) => scene.played(rt, alloc, pool, door),
-            Cast::Crowd(crowd) => crowd.played(rt, alloc, pool),
-        }
-    }
-}
-
 /// Plays a scene on a pool of so many tenants and workers.
 pub(crate) fn play<R: Threads + Wait + Sync>(
     rt: &R,
@@ -62,30 +38,7 @@ pub(crate) fn play<R: Threads + Wait + Sync>(
     requires { (1 ≤ workers) × (workers ≤ 16) × (tenants ≤ 64) }
 {
     let blank = Blank::new(u64::from(workers));
-    on_pool::<Brand, R>(rt, alloc, blank, tenants, workers, door, Cast::Scene(scene))
-}
-
-/// Has a crowd ask a pool of so many tenants and workers.
-pub(crate) fn play_crowd<R: Threads + Wait + Sync>(
-    rt: &R,
-    alloc: Global,
-    tenants: u32,
-    workers: u32,
-    crowd: &Crowd,
-) -> Result<Told, AllocError>
-    requires { (1 ≤ workers) × (workers ≤ 16) × (tenants ≤ 64) }
-{
-    let blank = Blank::new(u64::from(workers));
-    let door = Door::none();
-    on_pool::<Brand, R>(
-        rt,
-        alloc,
-        blank,
-        tenants,
-        workers,
-        &door,
-        Cast::Crowd(crowd),
-    )
+    on_pool::<Brand, R>(rt, alloc, blank, tenants, workers, door, scene)
 }
 
 fn on_pool<L: Ledger + Send + Sync, R: Threads + Wait + Sync>(
@@ -95,14 +48,14 @@ fn on_pool<L: Ledger + Send + Sync, R: Threads + Wait + Sync>(
     tenants: u32,
     workers: u32,
     door: &Door,
-    cast: Cast<'_>,
+    scene: &Scene,
 ) -> Result<Told, AllocError>
     requires name { blank.name ≡ L.name }
     requires parts { (blank.parts ≡ L.parts) × (blank.parts ≡ workers) }
     requires few { (1 ≤ workers) × (workers ≤ 16) × (tenants ≤ 64) }
 {
     let (pool, shares) = Pool::<L>::new(alloc, tenants, workers, blank)?;
-    let (said, shares) = played_by(rt, alloc, &pool, door, cast, shares);
+    let (said, shares) = played_by(rt, alloc, &pool, door, scene, shares);
     let Ok(said) = said else {
         return Err(AllocError);
     };
@@ -121,13 +74,13 @@ fn played_by<L: Ledger + Send + Sync, R: Threads + Wait + Sync>(
     alloc: Global,
     pool: &Pool<L>,
     door: &Door,
-    cast: Cast<'_>,
+    scene: &Scene,
     shares: Vec<Share<L>>,
 ) -> Staffed<L, Result<String, AllocError>>
     requires few { vec_len shares ≤ 16 }
     requires one { All (λ s. s.parts ≡ 1) shares.items }
     ensures { IfOk result.1 (λ shares. sum_by (λ s. s.parts) shares.items ≡ vec_len shares) }
 {
-    let play = || cast.played(rt, alloc, pool, door);
+    let play = || scene.played(rt, alloc, pool, door);
     staffed(rt, alloc, pool, door, shares, play)
 }
