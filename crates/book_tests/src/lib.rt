@@ -21,8 +21,6 @@ mod limits;
 #[cfg(test)]
 mod modes;
 #[cfg(test)]
-mod names;
-#[cfg(test)]
 mod programs;
 #[cfg(test)]
 mod reading;

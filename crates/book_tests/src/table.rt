@@ -1,10 +1,8 @@
 //! Tables of texts and of what is told of them, and the first row that is told something else.
 use super::awaiting::awaited;
-use super::checks::outcome;
 use super::children::finished;
 use super::declarations::met;
 use super::limits::{counted, grown};
-use super::names::is_name_text;
 use super::programs::{printed, printed_copy};
 use super::reading::two_arrays;
 use super::rights::lent;
@@ -16,8 +14,6 @@ use std::process::Abort;
 /// What a table asks of its texts.
 #[derive(Clone, Copy)]
 pub(crate) enum Asked {
-    /// Whether it is a name.
-    Name,
     /// Its program, printed.
     Program,
     /// A copy of its program, printed.
@@ -28,8 +24,6 @@ pub(crate) enum Asked {
     Grown,
     /// What its two tasks are to each other.
     Pair,
-    /// What its program comes to.
-    Outcome,
     /// Which children are ready once so many have finished.
     Finished,
     /// Whether a wait has to wait, and for how many of its children at most.
@@ -83,13 +77,11 @@ fn is_right(alloc: Global, asked: Asked, shape: &Shape, row: &str) -> bool {
 
 fn told(alloc: Global, asked: Asked, text: &str, shape: &Shape) -> Result<String, AllocError> {
     match asked {
-        Asked::Name => is_name_text(alloc, text),
         Asked::Program => printed(alloc, text, shape),
         Asked::Copy => printed_copy(alloc, text, shape),
         Asked::Counts => counted(alloc, text, shape),
         Asked::Grown => grown(alloc, text, shape),
         Asked::Pair => met(alloc, text, shape),
-        Asked::Outcome => outcome(alloc, text),
         Asked::Finished => finished(alloc, text),
         Asked::Awaiting => awaited(alloc, text, shape),
         Asked::Lent => lent(alloc, text),

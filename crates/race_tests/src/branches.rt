@@ -1,5 +1,6 @@
 //! Programs with branches, of which all ways are judged.
 use crate::telling::told_of_ways;
+use ot_corder::Order;
 use std::alloc::{AllocError, Global};
 use std::test::Fail;
 
@@ -30,12 +31,18 @@ many|[["if",["c","a",0],[["task",[["out",["a",2,1]]],[]]],[]],["for","i",0,5000,
 7 2.0 3-|[["task",[["out",["a",1,1]]],[["set",["c","a",0],1]]],["if",["c","a",2],[["task",[["in",["a",1,1]],["out",["a",2,1]]],[]]],[["wait",[["in",["a",2,1]]]]]],["task",[["in",["a",2,1]]],[["set",["c","a",0],2]]]]
 "#;
 
-/// The rows of a text, each of which is told as it says of an array of so many cells, or the first that isn't, with what is told.
-fn told_rows(alloc: Global, cells: u32, rows: &'static str) -> Result<(u32, String), AllocError> {
+/// The rows of a text, each of which is told as it says of an array of so many cells, where this orders tasks, or the first that isn't,
+/// with what is told.
+fn told_rows(
+    alloc: Global,
+    order: Order,
+    cells: u32,
+    rows: &'static str,
+) -> Result<(u32, String), AllocError> {
     let mut passed = 0u32;
     for line in rows.lines() {
         if let Some((row, body)) = line.split_once("|") {
-            let told = told_of_ways(alloc, cells, body)?;
+            let told = told_of_ways(alloc, order, cells, body)?;
             if told.as_str() != row {
                 return Ok((passed, format!(in alloc; "{line} {told}")?));
             }
@@ -47,7 +54,7 @@ fn told_rows(alloc: Global, cells: u32, rows: &'static str) -> Result<(u32, Stri
 
 #[test]
 fn branches(rt: HostRuntime) -> Result<(), Fail> {
-    let (passed, wrong) = told_rows(rt.alloc(), 3, BRANCHES)?;
+    let (passed, wrong) = told_rows(rt.alloc(), Order::OfLanguage, 3, BRANCHES)?;
     assert!(rt; passed == 17, "{wrong}");
     Ok(())
 }
@@ -75,7 +82,7 @@ none|[["task",[],[["set",["c","a",0],1]]],["for","i",0,2,[["set",["c","a",2],["p
 
 #[test]
 fn known_branches(rt: HostRuntime) -> Result<(), Fail> {
-    let (passed, wrong) = told_rows(rt.alloc(), 3, KNOWN)?;
+    let (passed, wrong) = told_rows(rt.alloc(), Order::OfLanguage, 3, KNOWN)?;
     assert!(rt; passed == 14, "{wrong}");
     Ok(())
 }
@@ -88,7 +95,21 @@ none|[["if",["c","a",0],[],[]],["task",[["out",["a",0,65535]]],[]]]
 
 #[test]
 fn wide_branches(rt: HostRuntime) -> Result<(), Fail> {
-    let (passed, wrong) = told_rows(rt.alloc(), 65536, WIDE_BRANCHES)?;
+    let (passed, wrong) = told_rows(rt.alloc(), Order::OfLanguage, 65536, WIDE_BRANCHES)?;
+    assert!(rt; passed == 2, "{wrong}");
+    Ok(())
+}
+
+/// What is ordered by `red` alone in C, where no text in C says it, since a task may only fold into its own copy: a sibling behind, in
+/// the group that declares the cell, and a wait for the cell.
+const REDUCTIONS: &str =
+    r#"6 4.0|[["group","+",[["a",2,1]],[["task",[["red","+",["a",2,1]],["out",["a",0,1]]],[["fold","+",["c","a",2],1],["set",["c","a",0],1]]],["task",[["out",["a",2,1]]],[["set",["c","a",1],["c","a",0]]]]]]]
+6 4.0|[["group","+",[["a",2,1]],[["task",[["red","+",["a",2,1]],["out",["a",0,1]]],[["fold","+",["c","a",2],1],["set",["c","a",0],1]]],["wait",[["out",["a",2,1]]]],["set",["c","a",1],["c","a",0]]]]]
+"#;
+
+#[test]
+fn reductions_in_c(rt: HostRuntime) -> Result<(), Fail> {
+    let (passed, wrong) = told_rows(rt.alloc(), Order::OfC, 3, REDUCTIONS)?;
     assert!(rt; passed == 2, "{wrong}");
     Ok(())
 }

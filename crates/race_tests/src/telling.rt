@@ -37,15 +37,20 @@ fn told_of(alloc: Global, text: &str, cells: u32, shape: &Shape) -> Result<Strin
     }
 }
 
-/// The same of all ways: behind the race the turns of its way, each `if` by its place, with `+` where the way takes the first
+/// The same of all ways, where this orders tasks: behind the race the turns of its way, each `if` by its place, with `+` where the way takes the first
 /// body and else `-`; or that there are too many ways.
-pub(crate) fn told_of_ways(alloc: Global, cells: u32, body: &str) -> Result<String, AllocError> {
+pub(crate) fn told_of_ways(
+    alloc: Global,
+    order: Order,
+    cells: u32,
+    body: &str,
+) -> Result<String, AllocError> {
     let shape = one_array(alloc, cells, 20_000)?;
     let text = format!(in alloc; "program2 [],{body}")?;
     let Ok(program) = read(alloc, text.as_str(), &shape) else {
         return String::from_str(alloc, "unread");
     };
-    match any_way(alloc, Order::OfLanguage, &program)? {
+    match any_way(alloc, order, &program)? {
         Verdict::RacesOnNoWay => String::from_str(alloc, "none"),
         Verdict::TooManyWays => String::from_str(alloc, "many"),
         Verdict::RacesOnWay(turns, race) => {

@@ -5,8 +5,6 @@
 #[cfg(test)]
 mod agreeing;
 #[cfg(test)]
-mod checkpoints;
-#[cfg(test)]
 mod counts;
 #[cfg(test)]
 mod drains;

@@ -102,7 +102,7 @@ fn does(
 }
 
 /// Whether a row is a remark, or its event does what it says.
-pub(crate) fn holds(alloc: Global, world: &mut World, row: &str) -> Result<bool, AllocError> {
+fn holds(alloc: Global, world: &mut World, row: &str) -> Result<bool, AllocError> {
     let (said, line) = row.split_once(' ').unwrap_or(("", row));
     match event_of(line) {
         Some(event) => does(alloc, world, event, said),

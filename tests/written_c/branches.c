@@ -1,0 +1,28 @@
+/* The last run of a session, as C with OpenMP: it prints what the run shows. */
+#include <inttypes.h>
+#include <stdint.h>
+#include <stdio.h>
+
+int main(void)
+{
+    static uint64_t a[3] = {1, 2};
+
+    #pragma omp parallel
+    #pragma omp single
+    {
+        if (a[0] | 1) {
+            #pragma omp taskwait
+        } else {
+            #pragma omp taskgroup
+            {
+            }
+        }
+        if (1) {
+            a[0] = 1;
+        }
+    }
+
+    printf("[");
+    printf("]\n");
+    return 0;
+}

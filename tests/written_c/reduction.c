@@ -1,0 +1,29 @@
+/* The last run of a session, as C with OpenMP: it prints what the run shows. */
+#include <inttypes.h>
+#include <stdint.h>
+#include <stdio.h>
+
+int main(void)
+{
+    static uint64_t a[3] = {1, 2};
+
+    #pragma omp parallel
+    #pragma omp single
+    {
+        {
+            uint64_t *Sum_a_0 = &a[0];
+            #pragma omp taskgroup task_reduction(+: Sum_a_0[0:1])
+            {
+                #pragma omp task depend(out: a[1]) depend(in: a[0]) in_reduction(+: Sum_a_0[0:1])
+                {
+                    Sum_a_0[0] += 5;
+                    a[1] += 6;
+                }
+            }
+        }
+    }
+
+    printf("[");
+    printf("]\n");
+    return 0;
+}

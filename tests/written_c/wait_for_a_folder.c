@@ -1,0 +1,31 @@
+/* The last run of a session, as C with OpenMP: it prints what the run shows. */
+#include <inttypes.h>
+#include <stdint.h>
+#include <stdio.h>
+
+int main(void)
+{
+    static uint64_t a[3] = {1, 2};
+
+    #pragma omp parallel
+    #pragma omp single
+    {
+        {
+            uint64_t *Sum_a_0 = &a[0];
+            #pragma omp taskgroup task_reduction(+: Sum_a_0[0:1])
+            {
+                #pragma omp task depend(out: a[1]) depend(in: a[0]) in_reduction(+: Sum_a_0[0:1])
+                {
+                    Sum_a_0[0] += 9;
+                    a[1] = 4;
+                }
+                #pragma omp taskwait depend(out: a[0])
+                a[2] = a[1];
+            }
+        }
+    }
+
+    printf("[");
+    printf("]\n");
+    return 0;
+}
