@@ -8,3 +8,4 @@ pub mod ListenLemmas
 pub mod QuietLemmas
 pub mod ChunkLemmas
 pub mod SayingLemmas
+pub mod ReasonLemmas

@@ -14,11 +14,13 @@ use Rattle.ot_reason.specs.declared.place.Telling.TheVariants.{Line}
 abbrev pub behind_ends : List (List ℕ) → List ℕ
 behind_ends lines = flat_map (λ line. 10 ∷ line) lines
 
--- Reasons why a line was refused by this code over a book's arrays, one at least, each behind an LF. Of a program the first begins with
--- the place of its first fault.
-pub record AreReasons (book : Register) (line : List ℕ) (code : Code) (text : List ℕ) : Type 0 where
-  pub reasons : List (List ℕ)
+-- Reasons why a line was refused by this code over a book's arrays, one at least. Of a program the first begins with the place of
+-- its first fault.
+pub record AreReasons (book : Register) (line : List ℕ) (code : Code) (reasons : List (List ℕ)) : Type 0 where
   pub some : 0 < length reasons
   pub place : (d : Data) (refusal : Refusal) → value_of line ≡ Some d → code ≡ Program refusal →
       BeginsAt Line refusal (placed_fault (shape_in book.limits book.store) d) reasons
-  pub is : text ≡ behind_ends reasons
+
+-- the same as a text, each behind an LF
+abbrev pub SaysWhy : Register → List ℕ → Code → List ℕ → Type 0
+SaysWhy book line code text = (reasons : List (List ℕ)) × AreReasons book line code reasons × (text ≡ behind_ends reasons)

@@ -3,7 +3,8 @@ ghost use Rattle.std.specs.Prelude.{◌≡◌, ℕ, List, IfOk, MatchOption, Non
 ghost use Rattle.ot_book.specs.Codes.{code_number};
 ghost use Rattle.ot_check.specs.Offences.{code_of};
 ghost use Rattle.ot_explain.specs.Explaining.{last_code, with_code};
-ghost use Rattle.ot_explain.specs.Remarks.{AreReasons};
+ghost use Rattle.ot_reason.specs.Places.{texts_of};
+ghost use Rattle.ot_explain.specs.Remarks.{AreReasons, SaysWhy, behind_ends};
 
 use ot_blame::{Blame, Blamed, find_blame};
 use ot_book::{Book, Code, Entry, Told, read_line};
@@ -49,16 +50,27 @@ fn refused(alloc: Global, book: &Book, entry: &Entry, code: Code) -> Result<Stri
     Ok(said)
 }
 
-/// The reasons of the refusal, each behind an LF. No array has changed since.
+/// The reasons of the refusal, each behind an LF.
 fn behind(alloc: Global, book: &Book, entry: &Entry, code: Code) -> Result<String, AllocError>
-    ensures { IfOk result (λ text. AreReasons book.now entry.now.line.items code (string_bytes text)) }
+    ensures { IfOk result (λ text. SaysWhy book.now entry.now.line.items code (string_bytes text)) }
 {
-    let line = entry.line.as_slice();
-    let mut said = String::new(alloc);
+    let told = reasons_of(alloc, book, entry.line.as_slice(), code)?;
+    behind_ends(alloc, told.as_slice())
+}
+
+/// The reasons of the refusal. No array has changed since.
+fn reasons_of(
+    alloc: Global,
+    book: &Book,
+    line: &[u8],
+    code: Code,
+) -> Result<Vec<String>, AllocError>
+    ensures { IfOk result (λ told. AreReasons book.now line.now code (texts_of told.items)) }
+{
     let limits = book.limits();
     let shape = book.store().shape(alloc, &limits)?;
     let request = read_line(alloc, line)?;
-    let told = reasons(
+    reasons(
         alloc,
         line,
         &request,
@@ -66,10 +78,17 @@ fn behind(alloc: Global, book: &Book, entry: &Entry, code: Code) -> Result<Strin
         &limits,
         code,
         Telling::Line,
-    )?;
-    for reason in &told {
+    )
+}
+
+/// Lines, each behind an LF.
+fn behind_ends(alloc: Global, lines: &[String]) -> Result<String, AllocError>
+    ensures { IfOk result (λ text. string_bytes text ≡ behind_ends (texts_of lines.now)) }
+{
+    let mut said = String::new(alloc);
+    for line in lines {
         said.push_str("\n")?;
-        said.push_str(reason.as_str())?;
+        said.push_str(line.as_str())?;
     }
     Ok(said)
 }

@@ -1,10 +1,16 @@
-use Rattle.std.proofs.Common.{◌∙◌, ◌^◌, ◌<◌, sym, ap, subst}
-use Rattle.ot_model.specs.Programs.{Arrays}
-use Rattle.ot_reason.specs.Faults.{cells_of}
-use Rattle.ot_reason.proofs.DueLemmas.{same_cells}
+use Rattle.std.proofs.Common.{◌∙◌, ap, subst}
+use Rattle.ot_check.proofs.Cited.{if_ok}
+use Rattle.ot_reason.specs.Places.{texts_of}
+use Rattle.ot_explain.specs.Remarks.{AreReasons, behind_ends}
 use Rattle.ot_explain.proofs.remarks.behind.Goals as goal
 
-pub reasons-requires : goal.reasons-requires
-reasons-requires c =
-    subst (λ arrays. cells_of arrays < 2 ^ 32) (sym (c.arrays.ensures.arrays ∙ ap (λ (s : Arrays). s.arrays) c.in_ok-shape.ensures.shape))
-    (subst (λ n. n < 2 ^ 32) (sym (same_cells c.store.result.now)) c.in_ok-shape.ensures.sound.few)
+pub returns : goal.returns
+returns c =
+    let told = texts_of c.in_ok-told.told.items in
+    if_ok c.behind_ends.result _ _
+    (λ text h. (
+      told,
+      subst (λ line. AreReasons c.args.book.now line c.args.code told) c.as_slice.ensures.value c.in_ok-told.ensures,
+      h ∙ ap (λ lines. behind_ends (texts_of lines)) c.as_slice-2.ensures.value,
+    ))
+    c.behind_ends.ensures
