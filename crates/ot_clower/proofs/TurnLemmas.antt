@@ -1,19 +1,20 @@
 -- Loops that are written out: their turns by number, and statements one after another.
-use Rattle.std.proofs.Common.{◌≡◌, ℕ, ◌+◌, ◌-◌, ◌<◌, ◌≤◌, Bool, true, false, ◌||◌, List, [], ◌∷◌, length, drop, get_or, Result, Ok, Err, refl, sym, ap, ◌∙◌, arith}
+use Rattle.std.proofs.Common.{◌≡◌, ℕ, suc, ◌+◌, ◌-◌, ◌<◌, ◌≤◌, Bool, true, false, ◌||◌, List, [], ◌∷◌, length, drop, get_or, Some, Result, Ok, Err, refl, sym, ap, ◌∙◌, arith}
 use Rattle.std.specs.List.{range_with_len}
 use Rattle.std.proofs.lemmas.List.{drop_all}
 use Rattle.ot_program.specs.Meanings.{Bindings}
 use Rattle.ot_cstatement.specs.declared.tree.Stmt.{Stmt}
-use Rattle.ot_cstatement.specs.Tree.{S, Body, End, Next, stmt_of, list_of, body_of}
+use Rattle.ot_cstatement.specs.Tree.{S, For, Course, Body, End, Next, stmt_of, list_of, body_of}
 use Rattle.ot_cscope.specs.declared.fault.CFault.{CFault}
 use Rattle.ot_cscope.specs.declared.fault.CFault.TheVariants as errors
 use Rattle.ot_cscope.specs.Results.{Refusal, Fails}
-use Rattle.ot_cscope.specs.Scopes.{Around}
+use Rattle.ot_cscope.specs.Scopes.{Around, text_of, with_turn}
 use Rattle.ot_cdeclare.specs.Each.{each}
 use Rattle.ot_cdeclare.proofs.EachLemmas.{front}
-use Rattle.ot_clower.specs.Lines.{L, Lowered}
-use Rattle.ot_clower.specs.Statements.{Origin, behind}
-use Rattle.ot_clower.specs.Turns.{has_branch, has_branch_one, turned, turned_from}
+use Rattle.ot_cdeclare.specs.Places.{byte_of}
+use Rattle.ot_clower.specs.Lines.{L, Lowered, none}
+use Rattle.ot_clower.specs.Statements.{Origin, Range, behind, bounds, turn}
+use Rattle.ot_clower.specs.Turns.{has_branch, has_branch_one, turn_step, turned, turned_from, turns_of}
 
 -- ---- whether an `if` stands in a body
 
@@ -52,8 +53,7 @@ branch_none ss i past so_far = sym branch_none_left ∙ sym (ap (λ xs. has_bran
 turns_front : (k end : ℕ) → k < end → range_with_len k (end - k) ≡ k ∷ range_with_len (k + 1) (end - (k + 1))
 turns_front k end below =
     let more : end - k ≡ suc (end - (k + 1)) = omega (arith, below) in
-    let next : suc k ≡ k + 1 = omega arith in
-    ap (range_with_len k) more ∙ ap (λ n. k ∷ range_with_len n (end - (k + 1))) next
+    ap (range_with_len k) more
 
 module _ {A : Type 0} (step : A → ℕ → Result A Refusal) where
   one_more : (a b : A) (k : ℕ) (ks : List ℕ) → step a k ≡ Ok b → each step a (k ∷ ks) ≡ each step b ks
@@ -80,6 +80,13 @@ module _ {A : Type 0} (step : A → ℕ → Result A Refusal) where
   turn_last k end a whole past is =
       let none : end - k ≡ 0 = omega (arith, past) in
       sym is ∙ ap (λ n. each step a (range_with_len k n)) none ∙ none_more a
+
+-- a loop whose first turn and end are known is its turns
+pub for_turns : (o : Origin) (v : Bindings) (a around : Around) (s : S) (left at : ℕ) (c : Course) (b : Body) (r : Range) (range : ℕ × ℕ) (name : List ℕ)
+    → s ≡ For left c b → at ≡ byte_of o.starts left → around ≡ with_turn a (turn c true) → name ≡ text_of a.names c.variable → bounds a at c ≡ Ok r → turns_of (has_branch b) v r ≡ Some range
+    → turned o v a s ≡ each (turn_step (length o.starts) at r (λ k. turned_from o ((name, k) ∷ v) around none b)) none (range_with_len range.0 (range.1 - range.0))
+unfolding turned
+for_turns o v a around s left at c b r range name is at_is around_is name_is bounded known = rw (is, at_is, around_is, name_is, sym at_is, bounded, known) refl
 
 -- ---- statements one after another
 

@@ -1,19 +1,17 @@
 -- Loops that are written out turn by turn. Each turn is a loop of that one turn; in it an `if` whose condition names no cell has only
 -- the body that it takes, so that what stands in the other one is named nowhere.
-use Rattle.std.specs.Prelude.{ℕ, ◌+◌, ◌-◌, ◌/◌, ◌^◌, max, nat_lt, Bool, true, false, ◌&&◌, ◌||◌, List, [], ◌∷◌, length, Option, Some, None, Result, Ok, Err, if◌then◌else◌}
+use Rattle.std.specs.Prelude.{ℕ, ◌+◌, ◌-◌, ◌/◌, ◌^◌, ◌==◌, max, nat_lt, not, Bool, true, false, ◌&&◌, ◌||◌, [], ◌∷◌, length, Option, Some, None, Ok, Err, if◌then◌else◌}
 use Rattle.std.specs.List.{range_with_len}
 use Rattle.serde_json.specs.Data.{Data, number, string, array, no_items, item}
-use Rattle.ot_model.specs.Serial.{either}
 use Rattle.ot_model.specs.Signs.{op_with}
 use Rattle.ot_model.specs.Tree.{applied}
 use Rattle.ot_model.specs.declared.expr.Op.{Op}
 use Rattle.ot_program.specs.Meanings.{Bindings, bound, whole_number}
-use Rattle.ot_cread.specs.declared.sign.Sign.{Sign}
-use Rattle.ot_cread.specs.Tree.{E, Claim}
-use Rattle.ot_cstatement.specs.Tree.{Aim, Course, S, Block, Assign, If, For, Task, Wait, Group, Yield, Call, Print, Show, Point, Body, End, Next}
+use Rattle.ot_cread.specs.Tree.{E}
+use Rattle.ot_cstatement.specs.Tree.{S, Block, Assign, If, For, Task, Wait, Group, Yield, Call, Print, Show, Point, Body, End, Next}
 use Rattle.ot_cscope.specs.declared.reason.Reason.TheVariants as why
 use Rattle.ot_cscope.specs.Forms.{nat}
-use Rattle.ot_cscope.specs.Results.{Refusal, ◌>>=◌}
+use Rattle.ot_cscope.specs.Results.{◌>>=◌}
 use Rattle.ot_cscope.specs.Scopes.{Around, text_of, with_turn}
 use Rattle.ot_cmeaning.specs.Values.{value}
 use Rattle.ot_cdeclare.specs.Each.{each}
@@ -94,14 +92,26 @@ abbrev pub looped : ℕ → ℕ → Range → Lowered → (ℕ → Lowered) → 
 looped words at r whole inner None = whole >>= λ x. Ok (repeated at r x)
 looped words at r whole inner (Some t) = each (turn_step words at r inner) none (range_with_len t.0 (t.1 - t.0))
 
--- an `if` whose condition has this number, if it is known: of that only the body that it takes
-abbrev pub parted_by : ℕ → Data → Lowered → Lowered → Option ℕ → Lowered
-parted_by at test b c None = b >>= λ x. c >>= λ y. Ok (branch at test x y)
-parted_by at test b c (Some n) = either n (b >>= λ x. Ok (branch at test x none)) (c >>= λ y. Ok (branch at test none y))
+-- whether an `if` leaves out its first body, its second one, where its condition has this number, if it is known
+abbrev pub leaves_first : Option ℕ → Bool
+leaves_first None = false
+leaves_first (Some n) = n == 0
 
+abbrev pub leaves_second : Option ℕ → Bool
+leaves_second None = false
+leaves_second (Some n) = not (n == 0)
+
+-- nothing in place of a body that is left out
+abbrev pub unless_left : Bool → Lowered → Lowered
+unless_left left b = if left then Ok none else b
+
+abbrev pub parted_by : ℕ → Data → Option ℕ → Lowered → Lowered → Lowered
+parted_by at test n b c = unless_left (leaves_first n) b >>= λ x. unless_left (leaves_second n) c >>= λ y. Ok (branch at test x y)
+
+-- an `if`, of which only the body that it takes is there, where its condition is known
 abbrev pub parted : Bindings → Around → ℕ → E → Option Kept → Lowered → Lowered → Lowered
 parted v a at test (Some k) b c = kept a at k
-parted v a at test None b c = value a at test >>= λ x. parted_by at x.text b c (known v x.text)
+parted v a at test None b c = value a at test >>= λ x. parted_by at x.text (known v x.text) b c
 
 unfoldable mutual
   -- a statement where variables have these numbers

@@ -1,7 +1,6 @@
 //! Loops that are written out turn by turn.
 ghost use Rattle.std.specs.Prelude.{◌≡◌, [], ◌∷◌, ◌+◌, ◌-◌, ◌<◌, ◌^◌, ℕ, IfOk, IfSome, length};
 ghost use Rattle.std.specs.List.{range_with_len};
-ghost use Rattle.serde_json.specs.View.{view};
 ghost use Rattle.ot_cstatement.specs.Tree.{stmt_of, list_of, body_of};
 ghost use Rattle.ot_cscope.specs.Results.{Gives};
 ghost use Rattle.ot_cdeclare.specs.Each.{each};
@@ -114,6 +113,26 @@ fn one_turn(bounds: &Bounds, number: u64) -> Result<Bounds, AllocError>
     })
 }
 
+/// Whether an `if` leaves out its first body, where its condition has this number, if it is known.
+fn leaves_first(number: Option<u64>) -> bool
+    ensures { result ≡ meant.leaves_first number }
+{
+    match number {
+        Some(number) => number == 0,
+        None => false,
+    }
+}
+
+/// The same of its second body.
+fn leaves_second(number: Option<u64>) -> bool
+    ensures { result ≡ meant.leaves_second number }
+{
+    match number {
+        Some(number) => number != 0,
+        None => false,
+    }
+}
+
 /// A statement.
 #[cycle(turned)]
 #[tactic(auto, unfolding(crate::specs::Turns::turned))]
@@ -133,8 +152,11 @@ fn turned<'a>(
             if let Some(extreme) = kept_if(scope, test, one, two) {
                 return kept(alloc, scope, start, &extreme);
             }
-            let test = value(alloc, scope, start, test)?;
-            parted(alloc, course, scope, start, test.value, one, two)
+            let test = value(alloc, scope, start, test)?.value;
+            let number = known(&test, &course.numbers);
+            let one = unless_left(alloc, course, scope, leaves_first(number), one)?;
+            let two = unless_left(alloc, course, scope, leaves_second(number), two)?;
+            branch(alloc, start, test, one, two)
         }
         Stmt::For(left, turns, inner) => {
             let start = byte_of(source.starts, *left);
@@ -175,36 +197,21 @@ fn turned<'a>(
     }
 }
 
-/// An `if`: where its condition is known, only the body that it takes.
+/// Statements, or nothing where they are left out.
 #[cycle(turned)]
-fn parted<'a>(
+fn unless_left<'a>(
     alloc: Global,
     course: &Course<'_>,
     scope: &Scope<'a>,
-    start: usize,
-    test: Value,
-    one: &'a [Stmt],
-    two: &'a [Stmt],
+    left: bool,
+    stmts: &'a [Stmt],
 ) -> Result<Lines, CFault>
-    ensures { Gives lines_of result (meant.parted_by start (view test)
-        (meant.turned_from (source_of course.now.source) (bindings_of course.now.numbers) scope.now none (body_of (list_of one.now)))
-        (meant.turned_from (source_of course.now.source) (bindings_of course.now.numbers) scope.now none (body_of (list_of two.now)))
-        (meant.known (bindings_of course.now.numbers) (view test))) }
+    ensures { Gives lines_of result (meant.unless_left left (meant.turned_from (source_of course.now.source) (bindings_of course.now.numbers) scope.now none (body_of (list_of stmts.now)))) }
 {
-    match known(&test, &course.numbers) {
-        None => {
-            let one = turned_body(alloc, course, scope, one)?;
-            let two = turned_body(alloc, course, scope, two)?;
-            branch(alloc, start, test, one, two)
-        }
-        Some(0) => {
-            let two = turned_body(alloc, course, scope, two)?;
-            branch(alloc, start, test, no_lines(alloc), two)
-        }
-        Some(_) => {
-            let one = turned_body(alloc, course, scope, one)?;
-            branch(alloc, start, test, one, no_lines(alloc))
-        }
+    if left {
+        Ok(no_lines(alloc))
+    } else {
+        turned_body(alloc, course, scope, stmts)
     }
 }
 
@@ -227,8 +234,8 @@ fn looped<'a>(
     stmts: &'a [Stmt],
 ) -> Result<Lines, CFault>
     requires { range.1 < 2 ^ 32 }
-    ensures { Gives lines_of result (each (meant.turn_step (length course.now.source.starts.now) whole.start (bounds_of whole.bounds.now)
-        (λ k. meant.turned_from (source_of course.now.source) ((whole.name.now, k) ∷ bindings_of course.now.numbers) around.now none (body_of (list_of stmts.now))))
+    ensures { Gives lines_of result (each (meant.turn_step (length course.now.source.starts.now) whole.entry.start (bounds_of whole.entry.bounds.now)
+        (λ k. meant.turned_from (source_of course.now.source) ((whole.entry.name.now, k) ∷ bindings_of course.now.numbers) around.now none (body_of (list_of stmts.now))))
         none (range_with_len range.0 (range.1 - range.0))) }
 {
     let mut lines = no_lines(alloc);
@@ -250,8 +257,8 @@ fn turn_step<'a>(
     stmts: &'a [Stmt],
 ) -> Result<Lines, CFault>
     requires { number + 1 < 2 ^ 32 }
-    ensures { Gives lines_of result (meant.turn_step (length course.now.source.starts.now) whole.start (bounds_of whole.bounds.now)
-        (λ k. meant.turned_from (source_of course.now.source) ((whole.name.now, k) ∷ bindings_of course.now.numbers) around.now none (body_of (list_of stmts.now)))
+    ensures { Gives lines_of result (meant.turn_step (length course.now.source.starts.now) whole.entry.start (bounds_of whole.entry.bounds.now)
+        (λ k. meant.turned_from (source_of course.now.source) ((whole.entry.name.now, k) ∷ bindings_of course.now.numbers) around.now none (body_of (list_of stmts.now)))
         (lines_of lines) number) }
 {
     let name = whole.name;
