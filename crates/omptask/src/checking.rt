@@ -1,17 +1,15 @@
 //! Files that are judged, or written as lines.
 ghost use Rattle.std.specs.Prelude.{◌≡◌};
-ghost use Rattle.omptask.specs.Faults.{ended_by, weight_of, worse_of};
+ghost use Rattle.omptask.specs.Faults.{weight_of, worse_of};
 ghost use Rattle.omptask.specs.Asked.{is_c};
 
 use crate::asked::Check;
 use crate::ended::Ended;
 use crate::fault::{Fault, want_for};
-use ot_cjudge::Verdict;
-use ot_ctext::{Session, judge_text, session_of};
-use ot_front::{Writing, write_whole};
-use ot_judge::{JudgeFault, lines_of};
+use crate::judging::{judge_c, judge_requests, write_lines, write_session};
+use ot_ctext::{Session, session_of};
+use ot_front::Writing;
 use ot_model::ArrayShape;
-use ot_report::report_on;
 use std::alloc::Global;
 use std::fs::File;
 use std::io;
@@ -32,12 +30,7 @@ pub(crate) fn check_files<R: Input + Print + Eprint + Files>(
     for (place, path) in check.files.iter().enumerate() {
         let text = text_of(rt, alloc, path.as_str(), place)?;
         let name = name_of(path.as_str(), check.name.as_str());
-        let one = match (check.lines, is_c(name)) {
-            (true, true) => write_session(rt, alloc, name, text.as_slice())?,
-            (true, false) => write_lines(rt, alloc, text.as_slice())?,
-            (false, true) => judge_c(rt, alloc, name, text.as_slice())?,
-            (false, false) => judge_requests(rt, alloc, name, text.as_slice(), &arrays)?,
-        };
+        let one = check_text(rt, alloc, check, name, text.as_slice(), arrays.as_slice())?;
         ended = worse_of(ended, one);
     }
     Ok(ended)
@@ -85,84 +78,36 @@ fn weight_of(ended: Ended) -> u8
     }
 }
 
-/// Writes the requests of a file, one a line.
-fn write_lines<R: Print>(rt: &R, alloc: Global, text: &[u8]) -> Result<Ended, Fault> {
-    let Ok(lines) = lines_of(alloc, text) else {
-        return Err(Fault::Memory);
-    };
-    write(rt, lines.as_slice())?;
-    Ok(Ended::Well)
-}
-
-/// Writes the session that runs a text in C; why there is none, goes to standard error.
-fn write_session<R: Print + Eprint>(
+/// Judges the text of a file, or writes it as lines, on standard output. Why a text in C has no lines goes to standard error.
+fn check_text<R: Print + Eprint>(
     rt: &R,
     alloc: Global,
+    check: &Check,
     name: &str,
     text: &[u8],
+    arrays: &[ArrayShape],
 ) -> Result<Ended, Fault> {
-    match session_of(alloc, name, text) {
-        Ok(Session::Lines(lines)) => {
-            write(rt, lines.as_slice())?;
-            Ok(Ended::Well)
+    let mut to = Writing::new(io::writer(rt));
+    match (check.lines, is_c(name)) {
+        (true, true) => {
+            let Ok(session) = session_of(alloc, name, text) else {
+                return Err(Fault::Memory);
+            };
+            tell_outside(rt, &session);
+            write_session(&session, &mut to)
         }
-        Ok(Session::Outside(line)) => {
-            if let Ok(line) = str::from_utf8(line.as_slice()) {
-                let _ = eprint!(rt; "{line}");
-            }
-            Ok(Ended::Outside)
-        }
-        Err(_) => Err(Fault::Memory),
+        (true, false) => write_lines(alloc, text, &mut to),
+        (false, true) => judge_c(alloc, name, text, &mut to),
+        (false, false) => judge_requests(alloc, name, text, arrays, &mut to),
     }
 }
 
-/// Judges a text in C, and writes what is found.
-fn judge_c<R: Print>(rt: &R, alloc: Global, name: &str, text: &[u8]) -> Result<Ended, Fault> {
-    let Ok(report) = judge_text(alloc, name, text) else {
-        return Err(Fault::Memory);
-    };
-    write(rt, report.text.as_slice())?;
-    Ok(ended_by(report.verdict))
-}
-
-/// How the program ends by a verdict.
-fn ended_by(verdict: Verdict) -> Ended
-    ensures { result ≡ ended_by verdict }
-{
-    match verdict {
-        Verdict::Clean => Ended::Well,
-        Verdict::OnlyRun => Ended::OnlyRun,
-        Verdict::Races => Ended::Refused,
-        Verdict::Outside => Ended::Outside,
-    }
-}
-
-/// Judges a file of requests, and writes what is refused.
-fn judge_requests<R: Print>(
-    rt: &R,
-    alloc: Global,
-    name: &str,
-    text: &[u8],
-    arrays: &Vec<ArrayShape>,
-) -> Result<Ended, Fault> {
-    match report_on(alloc, name, text, arrays.as_slice()) {
-        Ok(report) => {
-            write(rt, report.text.as_slice())?;
-            Ok(if report.refused > 0 {
-                Ended::Refused
-            } else {
-                Ended::Well
-            })
+/// Tells why there is no session, where standard error takes it.
+fn tell_outside(rt: &impl Eprint, session: &Session) {
+    if let Session::Outside(line) = session {
+        if let Ok(line) = str::from_utf8(line.as_slice()) {
+            let _ = eprint!(rt; "{line}");
         }
-        Err(JudgeFault::Array(place)) => Err(Fault::BadDefinition(place)),
-        Err(JudgeFault::Memory) => Err(Fault::Memory),
-    }
-}
-
-fn write<R: Print>(rt: &R, text: &[u8]) -> Result<(), Fault> {
-    match write_whole(&mut Writing::new(io::writer(rt)), text) {
-        Ok(()) => Ok(()),
-        Err(_) => Err(Fault::WriteFailed),
     }
 }
 

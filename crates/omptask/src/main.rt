@@ -14,6 +14,7 @@ mod commands;
 pub mod ended;
 mod explaining;
 pub mod fault;
+mod judging;
 mod prompt;
 pub mod reaching;
 

@@ -3,11 +3,13 @@ ghost use Rattle.std.specs.Prelude.{◌≡◌, ℕ, List, IfOk, MatchOption, Non
 ghost use Rattle.ot_book.specs.Codes.{code_number};
 ghost use Rattle.ot_check.specs.Offences.{code_of};
 ghost use Rattle.ot_explain.specs.Explaining.{last_code, with_code};
+ghost use Rattle.ot_explain.specs.Remarks.{AreReasons};
 
 use ot_blame::{Blame, Blamed, find_blame};
-use ot_book::{Book, Code, Entry, Told};
+use ot_book::{Book, Code, Entry, Told, read_line};
 use ot_check::Offence;
-use ot_reason::{Telling, has_operations, place_in_line, program_in_line, reasons, sentence_of};
+use ot_reason::{Telling, has_operations, place_in, program_in, reasons, sentence_of};
+use serde_json::Value;
 use std::alloc::{AllocError, Global};
 
 /// What is said of the last request of a book, where it was refused: lines with an LF between them, of which the first
@@ -48,12 +50,23 @@ fn refused(alloc: Global, book: &Book, entry: &Entry, code: Code) -> Result<Stri
 }
 
 /// The reasons of the refusal, each behind an LF. No array has changed since.
-fn behind(alloc: Global, book: &Book, entry: &Entry, code: Code) -> Result<String, AllocError> {
+fn behind(alloc: Global, book: &Book, entry: &Entry, code: Code) -> Result<String, AllocError>
+    ensures { IfOk result (λ text. AreReasons book.now entry.now.line.items code (string_bytes text)) }
+{
     let line = entry.line.as_slice();
     let mut said = String::new(alloc);
     let limits = book.limits();
     let shape = book.store().shape(alloc, &limits)?;
-    let told = reasons(alloc, line, shape.arrays(), &limits, code, Telling::Line)?;
+    let request = read_line(alloc, line)?;
+    let told = reasons(
+        alloc,
+        line,
+        &request,
+        shape.arrays(),
+        &limits,
+        code,
+        Telling::Line,
+    )?;
     for reason in &told {
         said.push_str("\n")?;
         said.push_str(reason.as_str())?;
@@ -85,37 +98,45 @@ fn blamed(
     offence: Offence,
     place: u32,
 ) -> Result<String, AllocError> {
+    let Some(request) = read_line(alloc, line)? else {
+        return Ok(String::new(alloc));
+    };
     let shape = book.store().shape(alloc, &book.limits())?;
-    let Some(program) = program_in_line(alloc, line, &shape)? else {
+    let Some(program) = program_in(alloc, &request, &shape)? else {
         return Ok(String::new(alloc));
     };
     let blamed = Blamed {
         program: &program,
         arrays: shape.arrays(),
-        has_operations: has_operations(alloc, line),
+        has_operations: has_operations(&request),
     };
     match find_blame(alloc, blamed, place, offence)? {
-        Some(blame) => shown(alloc, line, place, &blame),
+        Some(blame) => shown(alloc, &request, place, &blame),
         None => Ok(String::new(alloc)),
     }
 }
 
-fn shown(alloc: Global, line: &[u8], place: u32, blame: &Blame) -> Result<String, AllocError> {
+fn shown(alloc: Global, request: &Value, place: u32, blame: &Blame) -> Result<String, AllocError> {
     let mut said = String::from_str(alloc, "\n")?;
-    put_place(alloc, line, place, &mut said)?;
+    put_place(alloc, request, place, &mut said)?;
     said.push_str(": ")?;
     said.push_str(blame.statement.as_str())?;
     said.push_str("\n")?;
     said.push_str(blame.before.as_str())?;
     if let Some(other) = blame.other {
-        put_place(alloc, line, other, &mut said)?;
+        put_place(alloc, request, other, &mut said)?;
         said.push_str(blame.behind.as_str())?;
     }
     Ok(said)
 }
 
 /// `statement 5 at [1][2][0], where i = 31`
-fn put_place(alloc: Global, line: &[u8], place: u32, said: &mut String) -> Result<(), AllocError> {
-    let at = place_in_line(alloc, line, place, Telling::Line)?;
+fn put_place(
+    alloc: Global,
+    request: &Value,
+    place: u32,
+    said: &mut String,
+) -> Result<(), AllocError> {
+    let at = place_in(alloc, request, place, Telling::Line)?;
     said.push_str(format!(in alloc; "statement {place}{}", at.as_str())?.as_str())
 }

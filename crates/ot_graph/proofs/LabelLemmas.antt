@@ -1,87 +1,219 @@
 -- At which cells a child waits for an earlier one by itself.
-use Rattle.std.proofs.Common.{◌≡◌, ◌↔◌, ℕ, suc, ◌+◌, ◌-◌, ◌<◌, ◌≤◌, ◌&&◌, ◌||◌, Bool, true, false, not, cond, leb, List, [], ◌∷◌, ◌++◌, length, get_or, take, drop, map, refl, sym, ap, subst, ◌∙◌, inl, inr, arith, append-nil}
-use Rattle.std.specs.Prelude.{Option, Some, None, nat_lt, nat_eq, unwrap_or}
+use Rattle.std.proofs.Common.{◌≡◌, ◌≢◌, ◌↔◌, ℕ, zero, suc, ◌+◌, ◌<◌, ◌≤◌, ◌&&◌, ◌||◌, Bool, true, false, not, cond, List, [], ◌∷◌, ◌++◌, length, get_or, take, drop, map, refl, sym, ap, subst, ◌∙◌, inl, inr, arith, append-nil, append_assoc, le_refl}
+use Rattle.std.specs.Prelude.{◌⊎◌, ◌==◌, Some, slice_get, replicate}
 use Rattle.std.specs.List.{list_any, filter}
-use Rattle.std.specs.Ordering.{is_eq, nat_cmp, ordering_then}
-use Rattle.std.specs.Cmp.{nat_cmp_is}
-use Rattle.std.specs.BTreeMap.{is_at}
-use Rattle.std.specs.declared.cmp.Ordering.{Ordering}
-use Rattle.std.specs.declared.cmp.Ordering.TheVariants.{Less, Equal, Greater}
+use Rattle.std.specs.Option.{option_to_list}
+use Rattle.std.specs.declared.collections.BTreeMap.{BTreeMap}
+use Rattle.std.specs.declared.vec.Vec.{Vec}
+use Rattle.std.specs.declared.alloc.Global.{Global}
 use Rattle.std.proofs.Math.Bool.{or-false, and-true}
-use Rattle.std.proofs.lemmas.Bool.{cases_lt}
-use Rattle.std.proofs.lemmas.Bool.Decides.{nat_tests, eqb_tells}
-use Rattle.std.proofs.lemmas.List.{drop-append-le, drop_all, map-append, get_or_push, get_or_append_left, get_or-map, take_more, length-append, length-take-le, length-map}
+use Rattle.std.proofs.lemmas.Bool.{cases_eq, cases_lt}
+use Rattle.std.proofs.lemmas.List.{drop-append-le, drop_all, map-append, get_or_push, get_or_append_left, get_or_past, take_more, length-append, replicate-append-replicate}
 use Rattle.std.proofs.lemmas.List.Elements.{filter_more}
 use Rattle.std.proofs.lemmas.List.Folds.{list_any-append, list_any_more}
-use Rattle.ot_model.specs.Cells.{same_cell, AreInOrder, mode_in, one_writes}
+use Rattle.std.proofs.lemmas.List.Sums.{sum_by-append, sum_by-cons}
+use Rattle.ot_model.specs.Cells.{same_cell, AreInOrder}
 use Rattle.ot_model.specs.declared.expr.Cell.{Cell}
 use Rattle.ot_model.specs.declared.stmt.Mode.{Mode}
-use Rattle.ot_model.specs.declared.stmt.Mode.TheVariants.{Reads, Writes, Folds}
+use Rattle.ot_model.specs.declared.stmt.Mode.TheVariants.{Reads}
 use Rattle.ot_model.specs.declared.stmt.Use.{Use}
-use Rattle.ot_model.proofs.DeclaredLemmas.{by_mode, any-by_mode}
-use Rattle.ot_depend.specs.Siblings.{is_direct, is_write, uses_cell, writes_cell}
+use Rattle.ot_model.proofs.EqualLemmas.{cell-decides}
+use Rattle.ot_model.proofs.OrderLemmas.{each_precedes, precedes_apart}
+use Rattle.ot_depend.proofs.HeartLemmas.{writes-uses}
+use Rattle.ot_depend.proofs.ListLemmas.{slice_get-push_place}
+use Rattle.ot_depend.specs.Siblings.{is_direct, is_write, times, uses_cell, writes_cell}
 use Rattle.ot_graph.specs.Links.{cells_at, siblings_with}
-use Rattle.ot_graph.specs.Written.{IsWrittenUpTo, IsRow, AreRows, cell_order}
-
--- ---- what one use asks
-
-uses-tested : (c : Cell) (us : List Use) → uses_cell c us ≡ list_any (λ d. same_cell d.cell c && true) us
-uses-tested c [] = refl
-uses-tested c (u ∷ us) =
-    ap (λ b. b || uses_cell c us) (sym (and-true (same_cell u.cell c))) ∙ ap (λ r. (same_cell u.cell c && true) || r) (uses-tested c us)
-
-any-siblings : (c : Cell) (xs : List (List Use)) → list_any (λ s. writes_cell c s.uses) (siblings_with xs) ≡ list_any (writes_cell c) xs
-any-siblings c [] = refl
-any-siblings c (x ∷ xs) = ap (λ r. writes_cell c x || r) (any-siblings c xs)
-
-either_writes : (m w : Mode) → (is_write m || is_write w) ≡ one_writes m w
-either_writes Reads Reads = refl
-either_writes Reads Writes = refl
-either_writes Reads (Folds o) = refl
-either_writes Writes w = refl
-either_writes (Folds o) Reads = refl
-either_writes (Folds o) Writes = refl
-either_writes (Folds o) (Folds p) = refl
-
-chosen : (u x any y z : Bool) → u ≡ true → x ≡ y → any ≡ z → (((u && x) && not any) || false) ≡ (y && not z)
-chosen u x any y z p q r =
-    or-false ((u && x) && not any) ∙ ap (λ b. (b && x) && not any) p ∙ ap (λ b. b && not any) q ∙ ap (λ b. y && not b) r
-
-unused : (u x any : Bool) → u ≡ false → (((u && x) && not any) || false) ≡ false
-unused u x any p = ap (λ b. ((b && x) && not any) || false) p
-
--- where the earlier child doesn't declare the cell
-pub direct-none : (earlier : List Use) (v : Use) (between : List (List Use)) → AreInOrder earlier → None ≡ mode_in earlier v.cell
-    → is_direct earlier (siblings_with between) (v ∷ []) ≡ false
-direct-none earlier v between order none =
-    unused (uses_cell v.cell earlier) (writes_cell v.cell earlier || is_write v.mode) (list_any (λ s. writes_cell v.cell s.uses) (siblings_with between))
-    (uses-tested v.cell earlier ∙ any-by_mode (λ m. true) earlier v.cell order ∙ ap (by_mode (λ m. true)) (sym none))
-
--- and where it declares it in this mode
-pub direct-some : (earlier : List Use) (v : Use) (between : List (List Use)) (m : Mode) → AreInOrder earlier → Some m ≡ mode_in earlier v.cell
-    → is_direct earlier (siblings_with between) (v ∷ []) ≡ (one_writes m v.mode && not (list_any (writes_cell v.cell) between))
-direct-some earlier v between m order some =
-    chosen (uses_cell v.cell earlier) (writes_cell v.cell earlier || is_write v.mode) (list_any (λ s. writes_cell v.cell s.uses) (siblings_with between))
-    (one_writes m v.mode) (list_any (writes_cell v.cell) between)
-    (uses-tested v.cell earlier ∙ any-by_mode (λ m. true) earlier v.cell order ∙ ap (by_mode (λ m. true)) (sym some))
-    (ap (λ b. b || is_write v.mode) (any-by_mode is_write earlier v.cell order ∙ ap (by_mode is_write) (sym some)) ∙ either_writes m v.mode)
-    (any-siblings v.cell between)
-
-within : (written place : ℕ) → not (nat_lt (suc place) written) ≡ leb (written - 1) place
-within written place = grind (arith, nat_tests)
-
--- none of those behind the place writes the cell
-pub direct-by : (earlier : List Use) (v : Use) (before : List (List Use)) (written place : ℕ) (m : Mode) → AreInOrder earlier → Some m ≡ mode_in earlier v.cell
-    → IsWrittenUpTo v.cell before written → is_direct earlier (siblings_with (drop (suc place) before)) (v ∷ []) ≡ (one_writes m v.mode && leb (written - 1) place)
-direct-by earlier v before written place m order some upto =
-    direct-some earlier v (drop (suc place) before) m order some
-    ∙ ap (λ b. one_writes m v.mode && not b) (upto (suc place)) ∙ ap (λ b. one_writes m v.mode && b) (within written place)
+use Rattle.ot_graph.proofs.LinkLemmas.{bit, same_number, other_number}
+use Rattle.ot_graph.specs.Written.{Entry, nobody, Tells, AreMet, AreLabels, is_met, found, entered, entered_by, cells_with}
 
 -- what a list of uses reads past its end
 abbrev pub nowhere : Use
 nowhere = record { cell = record { array = 0; index = 0 }; mode = Reads }
 
--- ---- one use more
+-- ---- who uses a cell
+
+any-siblings : (c : Cell) (xs : List (List Use)) → list_any (λ s. writes_cell c s.uses) (siblings_with xs) ≡ list_any (writes_cell c) xs
+any-siblings c [] = refl
+any-siblings c (x ∷ xs) = ap (λ r. writes_cell c x || r) (any-siblings c xs)
+
+-- where none uses a cell, none writes it
+unused-unwritten : (c : Cell) (us : List Use) → uses_cell c us ≡ false → writes_cell c us ≡ false
+unused-unwritten c us none = by (writes_cell c us) refl
+  where
+    by : (b : Bool) → writes_cell c us ≡ b → writes_cell c us ≡ false
+    by true wrote = absurd (let both : true ≡ false = sym (writes-uses c us wrote) ∙ none in cc)
+    by false not_wrote = not_wrote
+
+same_apart : (a b : Cell) → a ≢ b → same_cell a b ≡ false
+same_apart a b other = by (same_cell a b) refl
+  where
+    by : (t : Bool) → same_cell a b ≡ t → same_cell a b ≡ false
+    by true same = absurd (other ((cell-decides a b).0 same))
+    by false differs = differs
+
+-- what is used later is used by none of the uses before
+unused-first : (us : List Use) (i : ℕ) (d : Use) (c : Cell) (n : ℕ) → AreInOrder us → i < length us → (get_or us i d).cell ≡ c → n ≤ i → uses_cell c (take n us) ≡ false
+unused-first us i d c zero order l is early = refl
+unused-first us i d c (suc n) order l is early =
+    let here : (get_or us n d).cell ≢ c =
+    λ same. precedes_apart (get_or us n d).cell (get_or us i d).cell (each_precedes us order n i d (omega (arith, early)) l) (same ∙ sym is) in
+    let next : suc n ≡ n + 1 = omega arith in
+    ap (λ m. uses_cell c (take m us)) next
+    ∙ list_any_more (λ v. same_cell v.cell c) us n d (omega (arith, early, l))
+    ∙ ap (λ b. b || same_cell (get_or us n d).cell c) (unused-first us i d c n order l is (omega (arith, early)))
+    ∙ same_apart (get_or us n d).cell c here
+
+-- ---- one use more of a child
+
+-- by whether the use more is one of the cell
+entered_more : (child : ℕ) (mode : Mode) (used wrote same : Bool) (start old new : Entry) → (same ≡ true → (used ≡ false) × (wrote ≡ false))
+    → old ≡ entered child used wrote start → new ≡ cond same (entered_by child mode old) old
+    → new ≡ entered child (used || same) (wrote || (same && is_write mode)) start
+entered_more child mode true wrote true start old new first so is = let none : true ≡ false = (first refl).0 in cc
+entered_more child mode false true true start old new first so is = let none : true ≡ false = (first refl).1 in cc
+entered_more child mode false false true start old new first so is = is ∙ ap (entered_by child mode) so
+entered_more child mode used wrote false start old new first so is =
+    is ∙ so ∙ ap (λ b. entered child b wrote start) (sym (or-false used)) ∙ ap (λ b. entered child (used || false) b start) (sym (or-false wrote))
+
+pub enter_more : (child : ℕ) (uses : List Use) (i : ℕ) (d : Use) (start old new : Cell → Entry) → AreInOrder uses → i < length uses
+    → ((c : Cell) → old c ≡ entered child (uses_cell c (take i uses)) (writes_cell c (take i uses)) (start c))
+    → new (get_or uses i d).cell ≡ entered_by child (get_or uses i d).mode (old (get_or uses i d).cell)
+    → ((c : Cell) → c ≢ (get_or uses i d).cell → new c ≡ old c)
+    → (c : Cell) → new c ≡ entered child (uses_cell c (take (i + 1) uses)) (writes_cell c (take (i + 1) uses)) (start c)
+enter_more child uses i d start old new order l so there others c =
+    let one = get_or uses i d in
+    let first : same_cell one.cell c ≡ true → (uses_cell c (take i uses) ≡ false) × (writes_cell c (take i uses) ≡ false) =
+    λ same.
+    let none = unused-first uses i d c i order l ((cell-decides one.cell c).0 same) (le_refl i) in
+    (none, unused-unwritten c (take i uses) none) in
+    entered_more child one.mode (uses_cell c (take i uses)) (writes_cell c (take i uses)) (same_cell one.cell c) (start c) (old c) (new c) first (so c)
+    (by one.cell one.mode (same_cell one.cell c) refl there others)
+    ∙ ap (λ b. entered child b (writes_cell c (take i uses) || (same_cell one.cell c && is_write one.mode)) (start c)) (sym (list_any_more (λ v. same_cell v.cell c) uses i d l))
+    ∙ ap (λ b. entered child (uses_cell c (take (i + 1) uses)) b (start c)) (sym (list_any_more (λ v. same_cell v.cell c && is_write v.mode) uses i d l))
+  where
+    by : (at : Cell) (mode : Mode) (b : Bool) → same_cell at c ≡ b → new at ≡ entered_by child mode (old at) → ((c : Cell) → c ≢ at → new c ≡ old c)
+        → new c ≡ cond b (entered_by child mode (old c)) (old c)
+    by at mode true same there others = subst (λ q. new q ≡ entered_by child mode (old q)) ((cell-decides at c).0 same) there
+    by at mode false apart there others = others c (λ is. let met : same_cell at c ≡ true = (cell-decides at c).1 (sym is) in let no : true ≡ false = sym met ∙ apart in cc)
+
+-- ---- one child more
+
+times-append : (n : ℕ) (xs ys : List ℕ) → times n (xs ++ ys) ≡ times n xs + times n ys
+times-append n xs ys = sum_by-append (λ x. bit (x == n)) xs ys
+
+times-one : (n m : ℕ) → times n (m ∷ []) ≡ bit (m == n)
+times-one n m = omega (arith, sum_by-cons (λ x. bit (x == n)) m [])
+
+found-entered : (child n : ℕ) (used wrote : Bool) (e : Entry) (m : Mode)
+    → times n (found (entered child used wrote e) m) ≡ cond used (cond wrote (bit (child == n)) (times n (found e m) + cond (is_write m) (bit (child == n)) 0)) (times n (found e m))
+found-entered child n false wrote e m = refl
+found-entered child n true true e m = by (is_write m)
+  where
+    by : (w : Bool) → times n (option_to_list (Some child) ++ cond w [] []) ≡ bit (child == n)
+    by true = times-one n child
+    by false = times-one n child
+found-entered child n true false e m = by (is_write m)
+  where
+    by : (w : Bool) → times n (option_to_list e.writer ++ cond w (e.users ++ child ∷ []) []) ≡ times n (option_to_list e.writer ++ cond w e.users []) + cond w (bit (child == n)) 0
+    by true =
+        let all = times-append n (option_to_list e.writer) (e.users ++ child ∷ []) in
+        let before = times-append n (option_to_list e.writer) e.users in
+        let last = times-append n e.users (child ∷ []) in
+        omega (arith, all, before, last, times-one n child)
+    by false = omega arith
+
+-- whether a use of the cell is met, by whether it writes
+abbrev met_at : List (List Use) → ℕ → Cell → Bool → Bool
+met_at before earlier c write =
+    (uses_cell c (get_or before earlier []) && (writes_cell c (get_or before earlier []) || write)) && not (list_any (writes_cell c) (drop (suc earlier) before))
+
+met-is : (before : List (List Use)) (earlier : ℕ) (u : Use) → is_met before earlier u ≡ met_at before earlier u.cell (is_write u.mode)
+met-is before earlier u =
+    or-false _ ∙ ap (λ b. (uses_cell u.cell (get_or before earlier []) && (writes_cell u.cell (get_or before earlier []) || is_write u.mode)) && not b) (any-siblings u.cell (drop (suc earlier) before))
+
+met_both : (f a w : Bool) → (f && not (a || (w || false))) ≡ ((f && not a) && not w)
+met_both false a w = refl
+met_both true true w = refl
+met_both true false true = refl
+met_both true false false = refl
+
+-- at a child before the last
+met-before : (before : List (List Use)) (d : List Use) (earlier : ℕ) (c : Cell) (write : Bool) → earlier < length before
+    → met_at (before ++ d ∷ []) earlier c write ≡ (met_at before earlier c write && not (writes_cell c d))
+met-before before d earlier c write l =
+    let first = uses_cell c (get_or before earlier []) && (writes_cell c (get_or before earlier []) || write) in
+    ap (λ (x : List Use). (uses_cell c x && (writes_cell c x || write)) && not (list_any (writes_cell c) (drop (suc earlier) (before ++ d ∷ [])))) (get_or_append_left before (d ∷ []) [] earlier l)
+    ∙ ap (λ b. first && not b) (ap (list_any (writes_cell c)) (drop-append-le (suc earlier) before (d ∷ []) (omega (arith, l))) ∙ list_any-append (writes_cell c) (drop (suc earlier) before) (d ∷ []))
+    ∙ met_both first (list_any (writes_cell c) (drop (suc earlier) before)) (writes_cell c d)
+
+-- at the last, and past it
+met-last : (before : List (List Use)) (d : List Use) (c : Cell) (write : Bool) → met_at (before ++ d ∷ []) (length before) c write ≡ (uses_cell c d && (writes_cell c d || write))
+met-last before d c write =
+    ap (λ (x : List Use). (uses_cell c x && (writes_cell c x || write)) && not (list_any (writes_cell c) (drop (suc (length before)) (before ++ d ∷ [])))) (get_or_push before d [] (length before) refl)
+    ∙ ap (λ (xs : List (List Use)). (uses_cell c d && (writes_cell c d || write)) && not (list_any (writes_cell c) xs))
+    (drop_all (suc (length before)) (before ++ d ∷ []) (omega (arith, length-append before (d ∷ []))))
+    ∙ and-true (uses_cell c d && (writes_cell c d || write))
+
+met-past : (before : List (List Use)) (earlier : ℕ) (c : Cell) (write : Bool) → length before ≤ earlier → met_at before earlier c write ≡ false
+met-past before earlier c write past =
+    ap (λ (x : List Use). (uses_cell c x && (writes_cell c x || write)) && not (list_any (writes_cell c) (drop (suc earlier) before))) (get_or_past before earlier [] past)
+
+step_before : (used wrote w b m : Bool) (t : ℕ) → (wrote ≡ true → used ≡ true) → b ≡ false → t ≡ bit m
+    → cond used (cond wrote (bit b) (t + cond w (bit b) 0)) t ≡ bit (m && not wrote)
+step_before used wrote w true m t both other was = cc
+step_before true true w false true t both other was = refl
+step_before true true w false false t both other was = refl
+step_before false true w false m t both other was = let both_is : false ≡ true = both refl in cc
+step_before true false true false true t both other was = omega (arith, was)
+step_before true false true false false t both other was = omega (arith, was)
+step_before true false false false true t both other was = omega (arith, was)
+step_before true false false false false t both other was = omega (arith, was)
+step_before false false w false true t both other was = was
+step_before false false w false false t both other was = was
+
+step_last : (used wrote w b : Bool) (t : ℕ) → (wrote ≡ true → used ≡ true) → b ≡ true → t ≡ 0
+    → cond used (cond wrote (bit b) (t + cond w (bit b) 0)) t ≡ bit (used && (wrote || w))
+step_last used wrote w false t both same none = cc
+step_last false true w true t both same none = none
+step_last false false w true t both same none = none
+step_last true true w true t both same none = refl
+step_last true false true true t both same none = omega (arith, none)
+step_last true false false true t both same none = omega (arith, none)
+
+pub tells_more : (before : List (List Use)) (d : List Use) (child : ℕ) (old new : Cell → Entry) → child ≡ length before → Tells before old
+    → ((c : Cell) → new c ≡ entered child (uses_cell c d) (writes_cell c d) (old c)) → Tells (before ++ d ∷ []) new
+tells_more before d child old new at tells is = λ u earlier.
+    let c = u.cell in
+    let w = is_write u.mode in
+    let was : times earlier (found (old c) u.mode) ≡ bit (met_at before earlier c w) = tells u earlier ∙ ap bit (met-is before earlier u) in
+    let now : times earlier (found (new c) u.mode)
+    ≡ cond (uses_cell c d) (cond (writes_cell c d) (bit (child == earlier)) (times earlier (found (old c) u.mode) + cond w (bit (child == earlier)) 0)) (times earlier (found (old c) u.mode)) =
+    ap (λ x. times earlier (found x u.mode)) (is c) ∙ found-entered child earlier (uses_cell c d) (writes_cell c d) (old c) u.mode in
+    now ∙ by earlier c w (times earlier (found (old c) u.mode)) was (cases_lt earlier child) ∙ ap bit (sym (met-is (before ++ d ∷ []) earlier u))
+  where
+    by : (earlier : ℕ) (c : Cell) (w : Bool) (t : ℕ) → t ≡ bit (met_at before earlier c w) → (earlier < child) ⊎ (child ≤ earlier)
+        → cond (uses_cell c d) (cond (writes_cell c d) (bit (child == earlier)) (t + cond w (bit (child == earlier)) 0)) t ≡ bit (met_at (before ++ d ∷ []) earlier c w)
+    by earlier c w t was (inl ahead) =
+        step_before (uses_cell c d) (writes_cell c d) w (child == earlier) (met_at before earlier c w) t (writes-uses c d)
+        (other_number child earlier (λ same. omega (arith, same, ahead))) was
+        ∙ ap bit (sym (met-before before d earlier c w (omega (arith, ahead, at))))
+    by earlier c w t was (inr behind) =
+        let none : t ≡ 0 = was ∙ ap bit (met-past before earlier c w (omega (arith, behind, at))) in
+        elim (cases_eq earlier child) [
+          | inl same ↦
+              step_last (uses_cell c d) (writes_cell c d) w (child == earlier) t (writes-uses c d) (ap (λ n. child == n) same ∙ same_number child) none
+              ∙ ap bit (sym (ap (λ n. met_at (before ++ d ∷ []) n c w) (same ∙ at) ∙ met-last before d c w))
+          | inr apart ↦
+              step_before (uses_cell c d) (writes_cell c d) w (child == earlier) false t (writes-uses c d)
+              (other_number child earlier (λ same. apart (sym same))) none
+              ∙ ap bit (sym (met-past (before ++ d ∷ []) earlier c w (omega (arith, behind, apart, at, length-append before (d ∷ [])))))
+        ]
+
+none-found : (earlier : ℕ) (w : Bool) → times earlier ([] ++ cond w [] []) ≡ 0
+none-found earlier true = refl
+none-found earlier false = refl
+
+-- ---- the cells of a child
 
 pub cells-more : (earlier : List Use) (between : List (List Use)) (uses : List Use) (i : ℕ) (u : Use) → i < length uses
     → cells_at earlier between (take (i + 1) uses)
@@ -95,136 +227,58 @@ cells-more earlier between uses i u l =
     ap (map cell) (filter_more test uses i u l) ∙ map-append cell (filter test (take i uses)) (cond (test at) (at ∷ []) [])
     ∙ ap (λ xs. cells_at earlier between (take i uses) ++ xs) (one (test at))
 
-cells_push : (earlier : List Use) (between : List (List Use)) (uses : List Use) (i : ℕ) (u : Use) (cells new : List Cell) (b : Bool) → i < length uses
-    → cells ≡ cells_at earlier between (take i uses) → b ≡ is_direct earlier (siblings_with between) (get_or uses i u ∷ [])
-    → new ≡ cells ++ cond b ((get_or uses i u).cell ∷ []) [] → new ≡ cells_at earlier between (take (i + 1) uses)
-cells_push earlier between uses i u cells new b l so met is =
-    is ∙ ap (λ xs. xs ++ cond b ((get_or uses i u).cell ∷ []) []) so
-    ∙ ap (λ b. cells_at earlier between (take i uses) ++ cond b ((get_or uses i u).cell ∷ []) []) met
-    ∙ sym (cells-more earlier between uses i u l)
+replicate_bit : (b : Bool) (c : Cell) → replicate (bit b) c ≡ cond b (c ∷ []) []
+replicate_bit true c = refl
+replicate_bit false c = refl
 
-pub cells_met : (earlier : List Use) (between : List (List Use)) (uses : List Use) (i : ℕ) (u : Use) (cells new : List Cell) (b : Bool) → i < length uses
-    → cells ≡ cells_at earlier between (take i uses) → b ≡ is_direct earlier (siblings_with between) (get_or uses i u ∷ [])
-    → b ≡ true → new ≡ cells ++ (get_or uses i u).cell ∷ [] → new ≡ cells_at earlier between (take (i + 1) uses)
-cells_met earlier between uses i u cells new b l so met here is =
-    cells_push earlier between uses i u cells new b l so met (is ∙ ap (λ b. cells ++ cond b ((get_or uses i u).cell ∷ []) []) (sym here))
+pub met_more : (before : List (List Use)) (rows : Cell → Entry) (uses : List Use) (i : ℕ) (d : Use) (old new : BTreeMap ℕ (Vec Cell Global) Global) → Tells before rows → i < length uses
+    → AreMet before (take i uses) old
+    → ((e : ℕ) → cells_with new e ≡ cells_with old e ++ replicate (times e (found (rows (get_or uses i d).cell) (get_or uses i d).mode)) (get_or uses i d).cell)
+    → AreMet before (take (i + 1) uses) new
+met_more before rows uses i d old new tells l so is = λ e.
+    let one = get_or uses i d in
+    is e ∙ ap (λ xs. xs ++ replicate (times e (found (rows one.cell) one.mode)) one.cell) (so e)
+    ∙ ap (λ n. cells_at (get_or before e []) (drop (suc e) before) (take i uses) ++ replicate n one.cell) (tells one e)
+    ∙ ap (λ xs. cells_at (get_or before e []) (drop (suc e) before) (take i uses) ++ xs) (replicate_bit (is_met before e one) one.cell)
+    ∙ sym (cells-more (get_or before e []) (drop (suc e) before) uses i d l)
 
-pub cells_unmet : (earlier : List Use) (between : List (List Use)) (uses : List Use) (i : ℕ) (u : Use) (cells new : List Cell) (b : Bool) → i < length uses
-    → cells ≡ cells_at earlier between (take i uses) → b ≡ is_direct earlier (siblings_with between) (get_or uses i u ∷ [])
-    → b ≡ false → new ≡ cells → new ≡ cells_at earlier between (take (i + 1) uses)
-cells_unmet earlier between uses i u cells new b l so met none is =
-    cells_push earlier between uses i u cells new b l so met
-    (is ∙ sym (append-nil cells) ∙ ap (λ b. cells ++ cond b ((get_or uses i u).cell ∷ []) []) (sym none))
+-- a cell is put to the children of one list, and of another
+pub put_both : (c : Cell) (xs ys : List ℕ) (e : ℕ) (start mid new : List Cell) → mid ≡ start ++ replicate (times e xs) c → new ≡ mid ++ replicate (times e ys) c
+    → new ≡ start ++ replicate (times e (xs ++ ys)) c
+put_both c xs ys e start mid new first second =
+    second ∙ ap (λ zs. zs ++ replicate (times e ys) c) first
+    ∙ append_assoc start (replicate (times e xs) c) (replicate (times e ys) c)
+    ∙ ap (λ zs. start ++ zs) (replicate-append-replicate (times e xs) (times e ys) c ∙ ap (λ n. replicate n c) (sym (times-append e xs ys)))
 
-pub row_more : (f : Use → ℕ) (uses : List Use) (i : ℕ) (u : Use) (row new : List ℕ) (n : ℕ) → i < length uses
-    → row ≡ map f (take i uses) → new ≡ row ++ n ∷ [] → n ≡ f (get_or uses i u) → new ≡ map f (take (i + 1) uses)
-row_more f uses i u row new n l so is at =
-    is ∙ ap (λ xs. xs ++ n ∷ []) so ∙ ap (λ n. map f (take i uses) ++ n ∷ []) at
-    ∙ sym (ap (map f) (take_more uses i u l) ∙ map-append f (take i uses) (get_or uses i u ∷ []))
+-- nobody is found
+pub put_none : (e : ℕ) (mode : Mode) (c : Cell) (row : Entry) (cells : List Cell) → row ≡ nobody → cells ≡ cells ++ replicate (times e (found row mode)) c
+put_none e mode c row cells is =
+    sym (append-nil cells) ∙ ap (λ n. cells ++ replicate n c) (sym (ap (λ x. times e (found x mode)) is ∙ none-found e (is_write mode)))
 
--- ---- what is kept of a cell
+-- one more of the children to which a cell is put
+pub put_more : (c : Cell) (children : List ℕ) (i d e : ℕ) (start old new : List Cell) → i < length children
+    → old ≡ start ++ replicate (times e (take i children)) c → new ≡ old ++ cond (get_or children i d == e) (c ∷ []) []
+    → new ≡ start ++ replicate (times e (take (i + 1) children)) c
+put_more c children i d e start old new l so is =
+    is ∙ ap (λ xs. xs ++ cond (get_or children i d == e) (c ∷ []) []) so
+    ∙ append_assoc start (replicate (times e (take i children)) c) (cond (get_or children i d == e) (c ∷ []) [])
+    ∙ ap (λ xs. start ++ xs)
+    (ap (λ xs. replicate (times e (take i children)) c ++ xs) (sym (replicate_bit (get_or children i d == e) c))
+    ∙ replicate-append-replicate (times e (take i children)) (bit (get_or children i d == e)) c
+    ∙ ap (λ n. replicate n c) (sym (ap (times e) (take_more children i d l) ∙ times-append e (take i children) (get_or children i d ∷ [])
+    ∙ ap (λ n. times e (take i children) + n) (times-one e (get_or children i d)))))
 
-either_kept : (a b : Bool) (number start : ℕ) → cond b number (cond a number start) ≡ cond (a || b) number start
-either_kept true true number start = refl
-either_kept true false number start = refl
-either_kept false b number start = refl
+-- ---- the labels of one child more
 
-pub write_more : (c : Cell) (uses : List Use) (i : ℕ) (u : Use) (number start old new : ℕ) → i < length uses
-    → old ≡ cond (writes_cell c (take i uses)) number start
-    → new ≡ cond (same_cell (get_or uses i u).cell c && is_write (get_or uses i u).mode) number old
-    → new ≡ cond (writes_cell c (take (i + 1) uses)) number start
-write_more c uses i u number start old new l so is =
-    let here = same_cell (get_or uses i u).cell c && is_write (get_or uses i u).mode in
-    is ∙ ap (cond here number) so ∙ either_kept (writes_cell c (take i uses)) here number start
-    ∙ ap (λ b. cond b number start) (sym (list_any_more (λ v. same_cell v.cell c && is_write v.mode) uses i u l))
-
--- ---- cells as keys
-
-eq_is : (a b : ℕ) → is_eq (nat_cmp a b) ≡ nat_eq a b
-eq_is a b =
-    elim (eqb_tells a b) [
-      | inl h ↦ ap is_eq (sym (nat_cmp_is a b Equal h.1)) ∙ sym h.0
-      | inr h ↦ elim (cases_lt a b) [
-        | inl lt ↦ ap is_eq (sym (nat_cmp_is a b Less lt)) ∙ sym h.0
-        | inr ge ↦ elim (cases_lt b a) [
-          | inl gt ↦ ap is_eq (sym (nat_cmp_is a b Greater gt)) ∙ sym h.0
-          | inr le ↦ absurd (h.1 (omega arith))
-        ]
-      ]
+pub labels_more : (decls : List (List Use)) (labels new : List (BTreeMap ℕ (Vec Cell Global) Global)) (met : BTreeMap ℕ (Vec Cell Global) Global) (i : ℕ) → length labels ≡ i
+    → AreLabels decls labels → AreMet (take i decls) (get_or decls i []) met → new ≡ labels ++ met ∷ [] → AreLabels decls new
+labels_more decls labels new met i long so one is = λ later m there.
+    elim (slice_get-push_place labels met later m (ap (λ xs. slice_get xs later) (sym is) ∙ there)) [
+      | inl before ↦ so later m before
+      | inr (last, same) ↦
+          subst (AreMet (take later decls) (get_or decls later [])) (sym same)
+          (subst (λ k. AreMet (take k decls) (get_or decls k []) met) (sym (last ∙ long)) one)
     ]
-
-then_is : (o p : Ordering) → is_eq (ordering_then o p) ≡ is_eq o && is_eq p
-then_is Less p = refl
-then_is Equal p = refl
-then_is Greater p = refl
-
-key_is : (c d : Cell) → is_at (cell_order (c.array, c.index)) (d.array, d.index) ≡ same_cell c d
-key_is c d =
-    then_is (nat_cmp c.array d.array) (nat_cmp c.index d.index)
-    ∙ ap (λ (b : Bool). b && is_eq (nat_cmp c.index d.index)) (eq_is c.array d.array)
-    ∙ ap (λ (b : Bool). nat_eq c.array d.array && b) (eq_is c.index d.index)
-
-or_zero : (b : Bool) (n : ℕ) (o : Option ℕ) → unwrap_or (cond b (Some n) o) 0 ≡ cond b n (unwrap_or o 0)
-or_zero true n o = refl
-or_zero false n o = refl
-
--- one number more
-pub kept_more : (c d : Cell) (n : ℕ) (old new : Option ℕ) → new ≡ cond (is_at (cell_order (c.array, c.index)) (d.array, d.index)) (Some n) old
-    → unwrap_or new 0 ≡ cond (same_cell c d) n (unwrap_or old 0)
-kept_more c d n old new is =
-    ap (λ o. unwrap_or o 0) is ∙ ap (λ b. unwrap_or (cond b (Some n) old) 0) (key_is c d) ∙ or_zero (same_cell c d) n old
-
-pub and_is : (a b : Bool) → b ≡ true → a ≡ (a && b)
-and_is a b is = sym (and-true a) ∙ ap (λ b. a && b) (sym is)
-
--- ---- one child more
-
-upto_here : (w : Bool) (m i n : ℕ) → m ≤ i → (nat_lt m n || (w || false)) ≡ nat_lt m (cond w (i + 1) n)
-upto_here true m i n l = grind (arith, nat_tests)
-upto_here false m i n l = or-false (nat_lt m n)
-
-upto_past : (w : Bool) (m i n : ℕ) → i < m → nat_lt i n ≡ false → false ≡ nat_lt m (cond w (i + 1) n)
-upto_past true m i n l none = grind (arith, nat_tests)
-upto_past false m i n l none = grind (arith, nat_tests)
-
-pub upto_more : (c : Cell) (decls : List (List Use)) (i n new : ℕ) → i < length decls → IsWrittenUpTo c (take i decls) n
-    → new ≡ cond (writes_cell c (get_or decls i [])) (i + 1) n → IsWrittenUpTo c (take (i + 1) decls) new
-upto_more c decls i n new l so is = λ m.
-    let xs = take i decls in
-    let d = get_or decls i [] in
-    let w = writes_cell c d in
-    let long : length xs ≡ i = length-take-le i decls (omega (arith, l)) in
-    let whole : list_any (writes_cell c) (drop m (take (i + 1) decls)) ≡ list_any (writes_cell c) (drop m (xs ++ d ∷ [])) =
-    ap (λ ys. list_any (writes_cell c) (drop m ys)) (take_more decls i [] l) in
-    let result : nat_lt m (cond w (i + 1) n) ≡ nat_lt m new = ap (nat_lt m) (sym is) in
-    elim (cases_lt i m) [
-      | inl past ↦
-          let none : nat_lt i n ≡ false = sym (so i) ∙ ap (list_any (writes_cell c)) (drop_all i xs (omega (arith, long))) in
-          whole ∙ ap (list_any (writes_cell c)) (drop_all m (xs ++ d ∷ []) (omega (arith, past, long, length-append xs (d ∷ []))))
-          ∙ upto_past w m i n past none ∙ result
-      | inr here ↦
-          whole ∙ ap (list_any (writes_cell c)) (drop-append-le m xs (d ∷ []) (omega (arith, here, long)))
-          ∙ list_any-append (writes_cell c) (drop m xs) (d ∷ []) ∙ ap (λ b. b || (w || false)) (so m) ∙ upto_here w m i n here ∙ result
-    ]
-
-pub row_is : (before : List (List Use)) (uses : List Use) (f : Cell → ℕ) → ((c : Cell) → IsWrittenUpTo c before (f c)) → IsRow before uses (map (λ u. f u.cell) uses)
-row_is before uses f so = (
-  length-map uses (λ (u : Use). f u.cell),
-  λ i u l. subst (IsWrittenUpTo (get_or uses i u).cell before) (sym (get_or-map (λ (u : Use). f u.cell) uses i u 0 l)) (so (get_or uses i u).cell),
-)
-
-pub rows_more : (decls : List (List Use)) (rows new : List (List ℕ)) (row : List ℕ) (i : ℕ) → AreRows decls rows → length rows ≡ i → new ≡ rows ++ row ∷ []
-    → IsRow (take i decls) (get_or decls i []) row → AreRows decls new
-rows_more decls rows new row i so long is one = λ l below.
-    let longer : length new ≡ i + 1 = ap length is ∙ omega (arith, length-append rows (row ∷ []), long) in
-    subst (λ r. IsRow (take l decls) (get_or decls l []) (get_or r l [])) (sym is)
-    (elim (cases_lt l i) [
-      | inl less ↦ subst (IsRow (take l decls) (get_or decls l [])) (sym (get_or_append_left rows (row ∷ []) [] l (omega (arith, less, long)))) (so l (omega (arith, less, long)))
-      | inr more ↦
-          let same : i ≡ l = omega (arith, more, below, longer) in
-          subst (λ l. IsRow (take l decls) (get_or decls l []) (get_or (rows ++ row ∷ []) l [])) same
-          (subst (IsRow (take i decls) (get_or decls i [])) (sym (get_or_push rows row [] i long)) one)
-    ])
 
 -- ---- whether there is a cell
 

@@ -66,7 +66,7 @@ unfinished decls n within =
 abbrev waits_at : List Sibling → Option Sibling → ℕ
 waits_at before o = unwrap_or (option_map (λ s. count_direct before s.uses) o) 0
 
-abbrev bit : Bool → ℕ
+abbrev pub bit : Bool → ℕ
 bit b = cond b 1 0
 
 first_of : (x : Sibling) (between : List Sibling) (o : Option Sibling) → x.finished ≡ false →

@@ -3,16 +3,18 @@ ghost use Rattle.std.specs.Prelude.{◌≡◌, ◌+◌, ◌++◌, ◌<◌, ◌^�
 ghost use Rattle.ot_print.specs.Shown.{names_of};
 ghost use Rattle.ot_graph.specs.Children.{created_of, all_of, decls_of};
 ghost use Rattle.ot_graph.specs.Graphs.{marks_of, passed_of};
-ghost use Rattle.ot_graph.specs.Written.{AreRows};
+ghost use Rattle.ot_graph.specs.Links.{AreLinks};
+ghost use Rattle.ot_graph.specs.Written.{AreLabels, cells_with};
 ghost use Rattle.ot_print.specs.Shown as shown;
 ghost use Rattle.ot_graph.specs.Dot as dot;
 
 use crate::child::Child;
 use crate::family::Family;
 use crate::graph::Graph;
-use crate::label::{cells_of, rows_of};
+use crate::label::labels_of;
 use crate::link::Link;
 use crate::mark::Mark;
+use crate::met::Met;
 use ot_model::{ArrayShape, Cell, Decl, Fold};
 use ot_print::Printer;
 use std::alloc::{AllocError, Global};
@@ -199,26 +201,27 @@ fn edges(
     children: &[Child<'_>],
     links: &[Link],
 ) -> Result<(), AllocError>
+    requires { AreLinks (decls_of children.now) links.now }
     ensures text { OnOk result (out.new.text ≡ out.old.text ++ dot.edges out.old.names children.now links.now) }
     ensures names { out.new.names ≡ out.old.names }
 {
-    let rows = rows_of(alloc, children)?;
+    let labels = labels_of(alloc, children)?;
     for link in links {
-        edge(alloc, out, children, &rows, *link)?;
+        edge(out, children, &labels, *link)?;
     }
     Ok(())
 }
 
-/// The edge of a link between two of these children.
+/// The edge of a link between two of these children, each of which has its labels.
 fn edge(
-    alloc: Global,
     out: &mut Printer<'_>,
     children: &[Child<'_>],
-    rows: &[Vec<usize>],
+    labels: &[Met],
     link: Link,
 ) -> Result<(), AllocError>
-    requires rows { AreRows (decls_of children.now) (map (λ r. r.items) rows.now) }
-    requires len { length rows.now ≡ length children.now }
+    requires labels { AreLabels (decls_of children.now) labels.now }
+    requires len { length labels.now ≡ length children.now }
+    requires order { link.earlier < link.later }
     ensures text { OnOk result (out.new.text ≡ out.old.text ++ dot.edge out.old.names children.now link) }
     ensures names { out.new.names ≡ out.old.names }
 {
@@ -227,11 +230,20 @@ fn edge(
     }
     let earlier = children[link.earlier];
     let later = children[link.later];
-    let row = rows[link.later].as_slice();
-    let cells = cells_of(alloc, earlier.decl, link.earlier, later.decl, row)?;
     numbered(out, "  t", u64::from(earlier.number))?;
     numbered(out, " -> t", u64::from(later.number))?;
     out.words(" [label=\"")?;
-    out.cells(&cells)?;
+    put_label(out, &labels[link.later], link.earlier)?;
     out.words("\"];\n")
+}
+
+/// The cells at which a child waits by itself for the earlier one at a place.
+fn put_label(out: &mut Printer<'_>, met: &Met, earlier: usize) -> Result<(), AllocError>
+    ensures text { OnOk result (out.new.text ≡ out.old.text ++ shown.sections out.old.names (shown.sections_of (cells_with met.now earlier))) }
+    ensures names { out.new.names ≡ out.old.names }
+{
+    match met.get(&earlier) {
+        Some(cells) => out.cells(cells),
+        None => Ok(()),
+    }
 }

@@ -10,7 +10,9 @@ mod label;
 mod laws;
 mod link;
 mod mark;
+mod met;
 mod place;
+mod rows;
 mod run;
 
 pub use child::Child;

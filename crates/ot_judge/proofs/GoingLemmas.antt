@@ -1,10 +1,12 @@
 -- A file from piece to piece.
 use Rattle.std.proofs.Common.{◌≡◌, ℕ, zero, suc, ◌+◌, ◌<◌, ◌≤◌, List, [], ◌∷◌, ◌++◌, length, refl, sym, ap, ◌∙◌, arith, Bool, true, false, append_assoc}
-use Rattle.std.specs.Prelude.{Some, None, slice_range, if◌then◌else◌, flat_map}
+use Rattle.std.specs.Prelude.{Option, Some, None, slice_range, if◌then◌else◌, flat_map}
 use Rattle.ot_file.specs.Cuts.{piece_from}
 use Rattle.ot_file.specs.declared.request.Piece.{Piece}
+use Rattle.serde_json.specs.Data.{Data}
+use Rattle.ot_book.specs.Answers.{value_of}
 use Rattle.ot_book.specs.Books.{Register}
-use Rattle.ot_judge.specs.Judging.{line_of, is_goodbye, lines_by, lines_from, with_end, is_long, Refusal, refusal, too_long, verdict_of, passed, refusals_by, refusals_at, refusals_with, refusals_from, Goes, standing}
+use Rattle.ot_judge.specs.Judging.{line_of, is_goodbye, lines_by, lines_from, with_end, is_long, Refusal, refusal, no_room, too_long, verdict_of, passed, refusals_by, refusals_at, refusals_with, refusals_from, Goes, standing}
 use Rattle.ot_judge.specs.Found.{is_full, is_taken}
 use Rattle.ot_judge.specs.declared.verdict.Verdict.{Verdict}
 use Rattle.ot_judge.specs.declared.verdict.Verdict.TheVariants.{Taken, Refused, Full}
@@ -52,7 +54,7 @@ pub at_goodbye : {all : List Refusal} {blank line : List ℕ} {from : ℕ} {book
 at_goodbye {all} {blank} {line} {from} {book} p g is past within line_is bye =
     let a = at_piece p g is past within in
     sym a.is
-    ∙ ap (λ t. if t then [] else unless_long (is_long (piece_line blank p)) p (refusals_by (verdict_of book (piece_line blank p)) p (passed book (piece_line blank p)) (refusals_from a.rest blank p.end (passed book (piece_line blank p)))))
+    ∙ ap (λ t. if t then [] else unless_long (is_long (piece_line blank p)) p (refusals_by (verdict_of book (piece_line blank p)) p (piece_line blank p) (passed book (piece_line blank p)) (refusals_from a.rest blank p.end (passed book (piece_line blank p)))))
     (ap is_goodbye (sym line_is) ∙ bye)
 
 -- the line is too long
@@ -60,7 +62,7 @@ pub at_long : {all : List Refusal} {blank line : List ℕ} {from : ℕ} {book : 
     line ≡ piece_line blank p → is_goodbye line ≡ false → is_long line ≡ true → all ≡ too_long p ∷ []
 at_long {all} {blank} {line} {from} {book} p g is past within line_is bye long =
     let a = at_piece p g is past within in
-    let behind = λ (l : List ℕ). refusals_by (verdict_of book l) p (passed book l) (refusals_from a.rest blank p.end (passed book l)) in
+    let behind = λ (l : List ℕ). refusals_by (verdict_of book l) p l (passed book l) (refusals_from a.rest blank p.end (passed book l)) in
     sym a.is
     ∙ ap (λ l. if is_goodbye l then [] else unless_long (is_long l) p (behind l)) (sym line_is)
     ∙ ap (λ t. if t then [] else unless_long (is_long line) p (behind line)) bye
@@ -68,49 +70,51 @@ at_long {all} {blank} {line} {from} {book} p g is past within line_is bye long =
 
 judged : (blank line : List ℕ) (book : Register) (p : Piece) (v : Verdict) (rest : ℕ) →
     line ≡ piece_line blank p → is_goodbye line ≡ false → is_long line ≡ false → v ≡ verdict_of book line →
-    refusals_at book (piece_line blank p) p (λ b. refusals_from rest blank p.end b) ≡ refusals_by v p (passed book line) (refusals_from rest blank p.end (passed book line))
+    refusals_at book (piece_line blank p) p (λ b. refusals_from rest blank p.end b) ≡ refusals_by v p line (passed book line) (refusals_from rest blank p.end (passed book line))
 judged blank line book p v rest line_is bye short v_is =
-    let behind = refusals_by (verdict_of book line) p (passed book line) (refusals_from rest blank p.end (passed book line)) in
+    let behind = refusals_by (verdict_of book line) p line (passed book line) (refusals_from rest blank p.end (passed book line)) in
     ap (λ l. refusals_at book l p (λ b. refusals_from rest blank p.end b)) (sym line_is)
     ∙ ap (λ t. if t then [] else unless_long (is_long line) p behind) bye
     ∙ ap (λ t. unless_long t p behind) short
-    ∙ ap (λ w. refusals_by w p (passed book line) (refusals_from rest blank p.end (passed book line))) (sym v_is)
+    ∙ ap (λ w. refusals_by w p line (passed book line) (refusals_from rest blank p.end (passed book line))) (sym v_is)
 
-full_ends : (v : Verdict) (p : Piece) (behind : List Refusal) (book : Register) → is_full v ≡ true → refusals_by v p book behind ≡ refusal p None ∷ []
-full_ends Taken p behind book h = absurd (cc)
-full_ends Refused p behind book h = absurd (cc)
-full_ends Full p behind book h = refl
+full_ends : (v : Verdict) (p : Piece) (line : List ℕ) (behind : List Refusal) (book : Register) → is_full v ≡ true → refusals_by v p line book behind ≡ no_room p ∷ []
+full_ends Taken p line behind book h = absurd (cc)
+full_ends Refused p line behind book h = absurd (cc)
+full_ends Full p line behind book h = refl
 
-refused_tells : (v : Verdict) (p : Piece) (behind : List Refusal) (book : Register) → is_full v ≡ false → is_taken v ≡ false → refusals_by v p book behind ≡ refusal p (Some book) ∷ behind
-refused_tells Taken p behind book h k = absurd (cc)
-refused_tells Refused p behind book h k = refl
-refused_tells Full p behind book h k = absurd (cc)
+refused_tells : (v : Verdict) (p : Piece) (line : List ℕ) (behind : List Refusal) (book : Register) → is_full v ≡ false → is_taken v ≡ false →
+    refusals_by v p line book behind ≡ refusal p line book ∷ behind
+refused_tells Taken p line behind book h k = absurd (cc)
+refused_tells Refused p line behind book h k = refl
+refused_tells Full p line behind book h k = absurd (cc)
 
-taken_goes : (v : Verdict) (p : Piece) (behind : List Refusal) (book : Register) → is_taken v ≡ true → refusals_by v p book behind ≡ behind
-taken_goes Taken p behind book k = refl
-taken_goes Refused p behind book k = absurd (cc)
-taken_goes Full p behind book k = absurd (cc)
+taken_goes : (v : Verdict) (p : Piece) (line : List ℕ) (behind : List Refusal) (book : Register) → is_taken v ≡ true → refusals_by v p line book behind ≡ behind
+taken_goes Taken p line behind book k = refl
+taken_goes Refused p line behind book k = absurd (cc)
+taken_goes Full p line behind book k = absurd (cc)
 
 -- the log is full
 pub at_full : {all : List Refusal} {blank line : List ℕ} {from : ℕ} {book : Register} → (p : Piece) (v : Verdict) → Goes all (standing blank from book) → Some p ≡ piece_from blank from → from < p.end → p.end ≤ length blank →
-    line ≡ piece_line blank p → is_goodbye line ≡ false → is_long line ≡ false → v ≡ verdict_of book line → is_full v ≡ true → all ≡ refusal p None ∷ []
+    line ≡ piece_line blank p → is_goodbye line ≡ false → is_long line ≡ false → v ≡ verdict_of book line → is_full v ≡ true → all ≡ no_room p ∷ []
 at_full {all} {blank} {line} {from} {book} p v g is past within line_is bye short v_is full =
     let a = at_piece p g is past within in
-    sym a.is ∙ judged blank line book p v a.rest line_is bye short v_is ∙ full_ends v p _ (passed book line) full
+    sym a.is ∙ judged blank line book p v a.rest line_is bye short v_is ∙ full_ends v p line _ (passed book line) full
 
 -- behind a full log nothing is judged
 pub at_last : (blank : List ℕ) (book : Register) (from : ℕ) → length blank ≤ from → Goes [] (standing blank from book)
 at_last blank book from past = record { most = 0; enough = omega (arith, past); is = refl }
 
--- a request is refused
-pub at_refused : {all : List Refusal} {blank line : List ℕ} {from : ℕ} {book : Register} → (p : Piece) (v : Verdict) (new : Register) → Goes all (standing blank from book) → Some p ≡ piece_from blank from → from < p.end → p.end ≤ length blank →
-    line ≡ piece_line blank p → is_goodbye line ≡ false → is_long line ≡ false → v ≡ verdict_of book line → is_full v ≡ false → is_taken v ≡ false → new ≡ passed book line →
-    (behind : List Refusal) × (all ≡ refusal p (Some new) ∷ behind) × Goes behind (standing blank p.end new)
-at_refused {all} {blank} {line} {from} {book} p v new g is past within line_is bye short v_is full taken new_is =
+-- a request is refused, whose line has this value
+pub at_refused : {all : List Refusal} {blank line : List ℕ} {from : ℕ} {book : Register} → (p : Piece) (v : Verdict) (new : Register) (request : Option Data) → Goes all (standing blank from book) → Some p ≡ piece_from blank from → from < p.end → p.end ≤ length blank →
+    line ≡ piece_line blank p → is_goodbye line ≡ false → is_long line ≡ false → v ≡ verdict_of book line → is_full v ≡ false → is_taken v ≡ false → new ≡ passed book line → request ≡ value_of line →
+    (behind : List Refusal) × (all ≡ record { start = p.start; end = p.end; request = request; book = Some new; is_long = false } ∷ behind) × Goes behind (standing blank p.end new)
+at_refused {all} {blank} {line} {from} {book} p v new request g is past within line_is bye short v_is full taken new_is value_is =
     let a = at_piece p g is past within in
-    let one = sym a.is ∙ judged blank line book p v a.rest line_is bye short v_is ∙ refused_tells v p _ (passed book line) full taken in (
+    let one = sym a.is ∙ judged blank line book p v a.rest line_is bye short v_is ∙ refused_tells v p line _ (passed book line) full taken in (
       refusals_from a.rest blank p.end (passed book line),
-      one ∙ ap (λ b. refusal p (Some b) ∷ refusals_from a.rest blank p.end (passed book line)) (sym new_is),
+      one ∙ ap (λ b. refusal p line b ∷ refusals_from a.rest blank p.end (passed book line)) (sym new_is)
+          ∙ ap (λ (d : Option Data). record { start = p.start; end = p.end; request = d; book = Some new; is_long = false } ∷ refusals_from a.rest blank p.end (passed book line)) (sym value_is),
       record { most = a.rest; enough = a.enough; is = ap (λ b. refusals_from a.rest blank p.end b) new_is },
     )
 
@@ -119,7 +123,7 @@ pub at_taken : {all : List Refusal} {blank line : List ℕ} {from : ℕ} {book :
     line ≡ piece_line blank p → is_goodbye line ≡ false → is_long line ≡ false → v ≡ verdict_of book line → is_taken v ≡ true → new ≡ passed book line → Goes all (standing blank p.end new)
 at_taken {all} {blank} {line} {from} {book} p v new g is past within line_is bye short v_is taken new_is =
     let a = at_piece p g is past within in
-    let one = sym (judged blank line book p v a.rest line_is bye short v_is ∙ taken_goes v p _ (passed book line) taken) ∙ a.is in
+    let one = sym (judged blank line book p v a.rest line_is bye short v_is ∙ taken_goes v p line _ (passed book line) taken) ∙ a.is in
     record { most = a.rest; enough = a.enough; is = ap (λ b. refusals_from a.rest blank p.end b) new_is ∙ one }
 
 -- ---- lines

@@ -12,7 +12,7 @@ use Rattle.ot_book.specs.Answers as r
 use Rattle.ot_book.specs.Answers.{Step, Now, Runs, answer_or_lost, finished, is_checkpoint, is_run}
 use Rattle.ot_book.specs.Books.{Register, state_in, next_step, appended, cleared, logged, opened, open_step, refused, IsFullFor, OpensLine, last_told}
 use Rattle.ot_book.specs.declared.book.Opened.{Opened}
-use Rattle.ot_book.specs.declared.book.Opened.TheVariants.{Full, Answered, ToRun}
+use Rattle.ot_book.specs.declared.book.Opened.TheVariants.{Answered, ToRun}
 use Rattle.ot_book.proofs.BookLemmas.{logged-by, state-cleared}
 use Rattle.ot_book.proofs.RoomLemmas.{free-takes}
 use Rattle.ot_judge.specs.Judging.{verdict_on, verdict_by, verdict_of, passed}

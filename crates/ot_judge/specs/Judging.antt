@@ -1,5 +1,5 @@
 -- The requests of a file as lines.
-use Rattle.std.specs.Prelude.{ℕ, [], zero, suc, ◌-◌, List, ◌∷◌, length, slice_get, slice_range, codes, Bool, true, false, if◌then◌else◌, Option, Some, None, option_and_then, Result, Ok, Err, ◌≡◌, ◌≤◌, ◌+◌, drop, unwrap_or, ◌⊎◌, ◌||◌, ◌++◌, bytes_eq, nat_eq, nat_lt}
+use Rattle.std.specs.Prelude.{ℕ, [], zero, suc, ◌-◌, List, ◌∷◌, length, slice_get, slice_range, codes, Bool, true, false, if◌then◌else◌, Option, Some, None, option_map, option_and_then, Result, Ok, Err, ◌≡◌, ◌≤◌, ◌+◌, drop, unwrap_or, ◌⊎◌, ◌||◌, ◌++◌, bytes_eq, nat_eq, nat_lt}
 use Rattle.ot_file.specs.Cuts.{piece_from}
 use Rattle.ot_file.specs.declared.request.Piece.{Piece}
 use Rattle.ot_store.specs.Arrays.{Named, created, shape_in}
@@ -19,6 +19,7 @@ use Rattle.ot_fault.specs.Whys.{first_fault}
 use Rattle.ot_model.specs.Programs.{Arrays}
 use Rattle.ot_program.specs.Meanings.{is_word}
 use Rattle.serde_json.specs.Data.{Data, array, no_items, item}
+use Rattle.serde_json.specs.View.{view}
 use Rattle.ot_judge.specs.declared.findings.Finding.{Finding}
 use Rattle.std.specs.List.{starts_with}
 use Rattle.ot_file.specs.Comments.{blanked}
@@ -96,34 +97,39 @@ passed book line = logged book line (is_run (next_step book line))
 
 -- ---- one after another
 
--- a request that is refused: the bytes of its piece, and the book behind it; none where the log is full, or the line too long
+-- a request that is refused: the bytes of its piece, the value of its line where that is JSON, and the book behind it; neither
+-- where the log is full, or the line too long
 pub record Refusal : Type 0 where
   pub start : ℕ
   pub end : ℕ
+  pub request : Option Data
   pub book : Option Register
   pub is_long : Bool
 
-abbrev pub refusal : Piece → Option Register → Refusal
-refusal p book = record { start = p.start; end = p.end; book = book; is_long = false }
+abbrev pub refusal : Piece → List ℕ → Register → Refusal
+refusal p line book = record { start = p.start; end = p.end; request = value_of line; book = Some book; is_long = false }
+
+abbrev pub no_room : Piece → Refusal
+no_room p = record { start = p.start; end = p.end; request = None; book = None; is_long = false }
 
 abbrev pub too_long : Piece → Refusal
-too_long p = record { start = p.start; end = p.end; book = None; is_long = true }
+too_long p = record { start = p.start; end = p.end; request = None; book = None; is_long = true }
 
 -- what it is told
 abbrev pub told_in : Refusal → Option r.Told
 told_in one = option_and_then last_told one.book
 
 -- the refusals from a piece on: behind one that finds the log full there are no more
-abbrev pub refusals_by : Verdict → Piece → Register → List Refusal → List Refusal
-refusals_by Taken p book behind = behind
-refusals_by Refused p book behind = refusal p (Some book) ∷ behind
-refusals_by Full p book behind = refusal p None ∷ []
+abbrev pub refusals_by : Verdict → Piece → List ℕ → Register → List Refusal → List Refusal
+refusals_by Taken p line book behind = behind
+refusals_by Refused p line book behind = refusal p line book ∷ behind
+refusals_by Full p line book behind = no_room p ∷ []
 
 -- the same from a line on: behind a goodbye there is none, and behind a line that is too long
 abbrev pub refusals_at : Register → List ℕ → Piece → (Register → List Refusal) → List Refusal
 refusals_at book line p behind =
     if is_goodbye line then []
-    else (if is_long line then too_long p ∷ [] else refusals_by (verdict_of book line) p (passed book line) (behind (passed book line)))
+    else (if is_long line then too_long p ∷ [] else refusals_by (verdict_of book line) p line (passed book line) (behind (passed book line)))
 
 abbrev pub refusals_with : Register → List ℕ → Option Piece → (ℕ → Register → List Refusal) → List Refusal
 refusals_with book blank None behind = []
@@ -164,15 +170,14 @@ path_in false path = path
 abbrev pub spot_offset : List ℕ → Spot → Option ℕ
 spot_offset piece s = offset_of piece (path_in (is_program piece) s.path)
 
--- the same of the statement that has this number in replies
-abbrev pub statement_offset : List ℕ → ℕ → Option ℕ
-statement_offset piece number =
-    option_and_then (λ request. option_and_then (spot_offset piece) (numbered number (statements_of request))) (value_of (line_of piece))
+-- the same of the statement of its request that has this number in replies
+abbrev pub statement_offset : Option Data → List ℕ → ℕ → Option ℕ
+statement_offset request piece number = option_and_then (λ d. option_and_then (spot_offset piece) (numbered number (statements_of d))) request
 
 -- where in a file without comments that statement of a piece stands, or the piece, where it has none
-abbrev pub statement_position : List ℕ → ℕ → ℕ → ℕ → Position
-statement_position blank start end number =
-    position_of blank (start + unwrap_or (statement_offset (slice_range blank start end) number) 0)
+abbrev pub statement_position : Option Data → List ℕ → ℕ → ℕ → ℕ → Position
+statement_position request blank start end number =
+    position_of blank (start + unwrap_or (statement_offset request (slice_range blank start end) number) 0)
 
 -- a byte of the piece, or the one behind it
 pub record IsInPiece (blank : List ℕ) (start end : ℕ) (position : Position) : Type 0 where
@@ -199,18 +204,18 @@ IsPlacedAt (Some request) shape blank start end position =
     position ≡ position_of blank (start + unwrap_or (fault_offset shape (slice_range blank start end) request) 0)
 
 -- an offence is told at the statement that the reply counts
-abbrev pub IsPlacedBy : Option r.Told → Arrays → List ℕ → ℕ → ℕ → Position → Type 0
-IsPlacedBy (Some (r.Offends code number)) shape blank start end position = position ≡ statement_position blank start end number
-IsPlacedBy (Some (r.Refused code)) shape blank start end position = IsPlacedAt (value_of (line_of (slice_range blank start end))) shape blank start end position
-IsPlacedBy told shape blank start end position = IsInPiece blank start end position
+abbrev pub IsPlacedBy : Option r.Told → Option Data → Arrays → List ℕ → ℕ → ℕ → Position → Type 0
+IsPlacedBy (Some (r.Offends code number)) request shape blank start end position = position ≡ statement_position request blank start end number
+IsPlacedBy (Some (r.Refused code)) request shape blank start end position = IsPlacedAt request shape blank start end position
+IsPlacedBy told request shape blank start end position = IsInPiece blank start end position
 
 -- a full log and a line that is too long are told at the piece
-abbrev pub IsPlacedIn : Option Register → List ℕ → ℕ → ℕ → Position → Type 0
-IsPlacedIn None blank start end position = position ≡ position_of blank start
-IsPlacedIn (Some book) blank start end position = IsPlacedBy (last_told book) (shape_in book.limits book.store) blank start end position
+abbrev pub IsPlacedIn : Option Register → Option Data → List ℕ → ℕ → ℕ → Position → Type 0
+IsPlacedIn None request blank start end position = position ≡ position_of blank start
+IsPlacedIn (Some book) request blank start end position = IsPlacedBy (last_told book) request (shape_in book.limits book.store) blank start end position
 
 abbrev pub IsPlaced : List ℕ → Refusal → Position → Type 0
-IsPlaced blank refusal position = IsPlacedIn refusal.book blank refusal.start refusal.end position
+IsPlaced blank refusal position = IsPlacedIn refusal.book refusal.request blank refusal.start refusal.end position
 
 -- How far a file was judged.
 
@@ -238,6 +243,7 @@ pub record IsSeen (one : Refusal) (f : Finding) : Type 0 where
   pub start : f.start ≡ one.start
   pub end : f.end ≡ one.end
   pub code : f.code ≡ option_and_then code_in (told_in one)
+  pub request : option_map view f.request ≡ one.request
   pub long : f.is_long ≡ one.is_long
 
 -- this book is the one behind it, unless it found the log full, or was too long

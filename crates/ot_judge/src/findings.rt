@@ -1,5 +1,6 @@
 //! The requests of a file that are refused, one after another.
-ghost use Rattle.std.specs.Prelude.{◌≡◌, ◌≤◌, ◌<◌, [], ◌∷◌, None, List, length, IfOk, IfSome, MatchOption, ℕ, Ok, option_and_then};
+ghost use Rattle.std.specs.Prelude.{◌≡◌, ◌≤◌, ◌<◌, [], ◌∷◌, None, List, length, IfOk, IfSome, MatchOption, ℕ, Ok, option_and_then, option_map};
+ghost use Rattle.serde_json.specs.View.{view};
 ghost use Rattle.ot_judge.specs.Judging.{Refusal, refusals_in, finds, made, told_in, IsPlaced, statement_position, Goes, standing, IsBehind, IsSeen, bytes_left};
 ghost use Rattle.ot_book.specs.Answers.{code_in};
 ghost use Rattle.ot_judge.specs.Found.{found_as};
@@ -10,14 +11,15 @@ use crate::line::{is_goodbye, is_long, line_of};
 use crate::place::{place_in, statement_in};
 use crate::told::{code_of, told_last};
 use crate::verdict::judge_line;
-use ot_book::Book;
+use ot_book::{Book, read_line};
 use ot_file::{Position, Positions, next_piece};
 use ot_model::ArrayShape;
+use serde_json::Value;
 use std::alloc::{AllocError, Global};
 use std::marker::Model;
 
 /// A request of a file that is refused.
-#[derive(Clone, Copy, Debug)]
+#[derive(Debug, Drop)]
 pub struct Finding {
     /// How many bytes of the file stand before its piece.
     pub start: usize,
@@ -27,6 +29,8 @@ pub struct Finding {
     pub code: Option<u32>,
     /// Whether its line has more bytes than one of a session may have.
     pub is_long: bool,
+    /// The value of its line; none where that is no JSON, the log of the book is full, or the line is too long.
+    pub request: Option<Value>,
     /// Where in the file it is refused.
     pub position: Position,
 }
@@ -95,12 +99,13 @@ impl<'a> Findings<'a> {
             return Ok(None);
         };
         self.from = found.next;
-        let position = placed(alloc, self.blank, &self.book, found, &mut self.positions)?;
+        let position = placed(alloc, self.blank, &self.book, &found, &mut self.positions)?;
         Ok(Some(Finding {
             start: found.start,
             end: found.end,
             code: found.code(&self.book),
             is_long: found.is_long,
+            request: found.request,
             position,
         }))
     }
@@ -113,29 +118,31 @@ impl<'a> Findings<'a> {
         number: u32,
     ) -> Result<Position, AllocError>
         requires { (finding.now.start ≤ finding.now.end) × (finding.now.end ≤ length self.old.blank) }
-        ensures position { IfOk result (λ position. position ≡ statement_position self.old.blank finding.now.start finding.now.end number) }
+        ensures position { IfOk result (λ position. position ≡ statement_position (option_map view finding.now.request) self.old.blank finding.now.start finding.now.end number) }
         ensures same { self.new ≡ self.old }
     {
-        let offset = statement_in(alloc, &self.blank[finding.start..finding.end], number)?;
+        let piece = &self.blank[finding.start..finding.end];
+        let offset = statement_in(alloc, &finding.request, piece, number)?;
         Ok(self.positions.position_of(finding.start + offset))
     }
 }
 
 /// A request that isn't taken: its piece, whether nothing is judged behind it, since the log is full or its line is too long,
-/// whether it is that, and from which byte on requests are still to be judged.
-#[derive(Clone, Copy, Debug)]
+/// whether it is that, from which byte on requests are still to be judged, and the value of its line.
+#[derive(Debug, Drop)]
 struct Found {
     start: usize,
     end: usize,
     ends: bool,
     is_long: bool,
     next: usize,
+    request: Option<Value>,
 }
 
 impl Found {
     /// The code that is told.
-    fn code(self, book: &Book) -> Option<u32>
-        ensures { result ≡ option_and_then code_in (told_in (found_as self book.now)) }
+    fn code(&self, book: &Book) -> Option<u32>
+        ensures { result ≡ option_and_then code_in (told_in (found_as self.now book.now)) }
     {
         if self.ends {
             return None;
@@ -175,6 +182,7 @@ fn next_in(
                 ends: true,
                 is_long: true,
                 next: blank.len(),
+                request: None,
             }));
         }
         let verdict = judge_line(alloc, book, line)?;
@@ -185,15 +193,18 @@ fn next_in(
                 ends: true,
                 is_long: false,
                 next: blank.len(),
+                request: None,
             }));
         }
         if !verdict.is_taken() {
+            let request = read_line(alloc, line)?;
             return Ok(Some(Found {
                 start: piece.start,
                 end: piece.end,
                 ends: false,
                 is_long: false,
                 next: piece.end,
+                request,
             }));
         }
         at = piece.end;
@@ -206,18 +217,19 @@ fn placed(
     alloc: Global,
     blank: &[u8],
     book: &Book,
-    found: Found,
+    found: &Found,
     positions: &mut Positions<'_>,
 ) -> Result<Position, JudgeFault>
-    requires piece { (found.start ≤ found.end) × (found.end ≤ length blank.now) }
+    requires piece { (found.now.start ≤ found.now.end) × (found.now.end ≤ length blank.now) }
     requires text { positions.old ≡ blank.now }
-    ensures placed { IfOk result (λ position. IsPlaced blank.now (found_as found book.now) position) }
+    ensures placed { IfOk result (λ position. IsPlaced blank.now (found_as found.now book.now) position) }
     ensures text { positions.new ≡ positions.old }
 {
     positions.mark(found.start);
     if found.ends {
         return Ok(positions.position_of(found.start));
     }
-    let place = place_in(alloc, book, &blank[found.start..found.end])?;
+    let piece = &blank[found.start..found.end];
+    let place = place_in(alloc, book, &found.request, piece)?;
     Ok(positions.position_of(found.start + place))
 }

@@ -1,17 +1,16 @@
 //! Where in a piece its request is refused.
-ghost use Rattle.std.specs.Prelude.{◌≡◌, ◌≤◌, ℕ, Some, length, IfOk, unwrap_or};
+ghost use Rattle.std.specs.Prelude.{◌≡◌, ◌≤◌, ℕ, Some, length, IfOk, unwrap_or, option_map};
 ghost use Rattle.ot_book.specs.Answers as replies;
 ghost use Rattle.ot_book.specs.Books.{last_told};
-ghost use Rattle.ot_book.specs.Answers.{value_of};
 ghost use Rattle.serde_json.specs.Data.{Data, array};
 ghost use Rattle.serde_json.specs.View.{view, items_view};
 ghost use Rattle.ot_store.specs.Arrays.{shape_in};
 ghost use Rattle.ot_fault.specs.Whys.{shape_of};
-ghost use Rattle.ot_judge.specs.Judging.{path_in, line_of, statement_offset, fault_offset, runs_program};
+ghost use Rattle.ot_judge.specs.Judging.{path_in, statement_offset, fault_offset, runs_program};
 
-use crate::line::{is_program, line_of};
+use crate::line::is_program;
 use crate::told::told_last;
-use ot_book::{Book, Told, read_line};
+use ot_book::{Book, Told};
 use ot_fault::first_fault;
 use ot_file::offset_of;
 use ot_model::ArrayShape;
@@ -23,44 +22,59 @@ use std::alloc::{AllocError, Global};
 /// How many bytes stand before a program in the line that runs it.
 const BEFORE_PROGRAM: usize = 7;
 
-/// How many bytes of a piece stand before the place at which its request, the last one of the book, is refused.
-pub(crate) fn place_in(alloc: Global, book: &Book, piece: &[u8]) -> Result<usize, AllocError>
+/// How many bytes of a piece stand before the place at which its request, the last one of the book, is refused. The value of its
+/// line is given, where that is JSON.
+pub(crate) fn place_in(
+    alloc: Global,
+    book: &Book,
+    request: &Option<Value>,
+    piece: &[u8],
+) -> Result<usize, AllocError>
     ensures within { IfOk result (λ place. place ≤ length piece.now) }
-    ensures statement { IfOk result (λ place. (code number : ℕ) → last_told book.now ≡ Some (replies.Offends code number) → place ≡ unwrap_or (statement_offset piece.now number) 0) }
-    ensures fault { IfOk result (λ place. (code : ℕ) (request : Data) → last_told book.now ≡ Some (replies.Refused code) → value_of (line_of piece.now) ≡ Some request
-        → place ≡ unwrap_or (fault_offset (shape_in book.now.limits book.now.store) piece.now request) 0) }
+    ensures statement { IfOk result (λ place. (code number : ℕ) → last_told book.now ≡ Some (replies.Offends code number)
+        → place ≡ unwrap_or (statement_offset (option_map view request.now) piece.now number) 0) }
+    ensures fault { IfOk result (λ place. (code : ℕ) (d : Data) → last_told book.now ≡ Some (replies.Refused code) → option_map view request.now ≡ Some d
+        → place ≡ unwrap_or (fault_offset (shape_in book.now.limits book.now.store) piece.now d) 0) }
 {
     match told_last(book) {
-        Some(Told::Offends(_, number)) => statement_in(alloc, piece, *number),
-        Some(Told::Refused(_)) => refused_in(alloc, book, piece),
+        Some(Told::Offends(_, number)) => statement_in(alloc, request, piece, *number),
+        Some(Told::Refused(_)) => refused_in(alloc, book, request, piece),
         _ => Ok(0),
     }
 }
 
 /// How many bytes of a piece stand before the place at which its request is refused that has no offence: where it is no JSON, or
 /// where the program that it runs has a fault.
-fn refused_in(alloc: Global, book: &Book, piece: &[u8]) -> Result<usize, AllocError>
+fn refused_in(
+    alloc: Global,
+    book: &Book,
+    request: &Option<Value>,
+    piece: &[u8],
+) -> Result<usize, AllocError>
     ensures within { IfOk result (λ place. place ≤ length piece.now) }
-    ensures fault { IfOk result (λ place. (request : Data) → value_of (line_of piece.now) ≡ Some request
-        → place ≡ unwrap_or (fault_offset (shape_in book.now.limits book.now.store) piece.now request) 0) }
+    ensures fault { IfOk result (λ place. (d : Data) → option_map view request.now ≡ Some d
+        → place ≡ unwrap_or (fault_offset (shape_in book.now.limits book.now.store) piece.now d) 0) }
 {
-    let line = line_of(alloc, piece)?;
-    match read_line(alloc, line.as_slice())? {
-        Some(request) => fault_in(alloc, book, &request, piece),
+    match request {
+        Some(request) => fault_in(alloc, book, request, piece),
         None => not_json_in(alloc, piece),
     }
 }
 
-/// How many bytes of a piece stand before the statement that has this number in replies.
-pub(crate) fn statement_in(alloc: Global, piece: &[u8], number: u32) -> Result<usize, AllocError>
-    ensures offset { IfOk result (λ offset. offset ≡ unwrap_or (statement_offset piece.now number) 0) }
+/// How many bytes of a piece stand before the statement of its request that has this number in replies.
+pub(crate) fn statement_in(
+    alloc: Global,
+    request: &Option<Value>,
+    piece: &[u8],
+    number: u32,
+) -> Result<usize, AllocError>
+    ensures offset { IfOk result (λ offset. offset ≡ unwrap_or (statement_offset (option_map view request.now) piece.now number) 0) }
     ensures within { IfOk result (λ offset. offset ≤ length piece.now) }
 {
-    let line = line_of(alloc, piece)?;
-    let Some(request) = read_line(alloc, line.as_slice())? else {
+    let Some(request) = request else {
         return Ok(0);
     };
-    match place_of(alloc, &request, number)? {
+    match place_of(alloc, request, number)? {
         Some(place) => Ok(offset_in(piece, &place)),
         None => Ok(0),
     }

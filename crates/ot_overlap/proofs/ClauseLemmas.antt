@@ -1,11 +1,7 @@
 -- Clauses and sections by their length.
-use Rattle.std.proofs.Common.{◌≡◌, ◌≢◌, ℕ, ◌+◌, ◌<◌, ◌≤◌, true, false, List, [], ◌∷◌, length, get_or, drop, codes, refl, sym, add-one, arith}
-use Rattle.std.specs.Prelude.{Bool, ◌&&◌, ◌||◌, if◌then◌else◌, not, Some, None, bytes_eq, string_bytes}
-use Rattle.std.specs.List.{position_or_len}
-use Rattle.std.proofs.Math.Seq.{drop-cons}
-use Rattle.std.proofs.lemmas.List.{drop_all}
-use Rattle.ot_model.specs.Programs.{arrays_of, Arrays}
-use Rattle.ot_model.specs.declared.shape.ArrayShape.{ArrayShape}
+use Rattle.std.proofs.Common.{◌≡◌, ◌≢◌, true, false, List, [], ◌∷◌, length, get_or, codes, refl, sym, arith}
+use Rattle.std.specs.Prelude.{Bool, ◌&&◌, ◌||◌, if◌then◌else◌, not, Some, None}
+use Rattle.ot_model.specs.Programs.{Arrays}
 use Rattle.serde_json.specs.Data.{array}
 use Rattle.serde_json.specs.View.{view, items_view}
 use Rattle.serde_json.specs.declared.value.Value.{Value}
@@ -77,29 +73,3 @@ a_difference (x ∷ y ∷ z ∷ []) t three p = rw (sym p) refl
 a_difference _ t three p = absurd (omega arith)
 
 pub ruleset differences = (no_difference, a_difference)
-
--- ---- the position of an array
-
-pub position_here : (name : List ℕ) (arrays : List ArrayShape) (i : ℕ) (a : ArrayShape) → i < length arrays → a ≡ get_or arrays i a
-    → bytes_eq (string_bytes a.name) name ≡ true
-    → i + position_or_len (λ a. bytes_eq a.0 name) (arrays_of (drop i arrays)) ≡ position_or_len (λ a. bytes_eq a.0 name) (arrays_of arrays)
-    → i ≡ position_or_len (λ a. bytes_eq a.0 name) (arrays_of arrays)
-position_here name arrays i a within is eq sum =
-    let first : position_or_len (λ a. bytes_eq a.0 name) (arrays_of (drop i arrays)) ≡ 0 = rw (drop-cons arrays i a within, ← is, eq) refl in
-    omega (arith, first, sum)
-
-pub position_next : (name : List ℕ) (arrays : List ArrayShape) (i : ℕ) (a : ArrayShape) → i < length arrays → a ≡ get_or arrays i a
-    → bytes_eq (string_bytes a.name) name ≡ false
-    → i + position_or_len (λ a. bytes_eq a.0 name) (arrays_of (drop i arrays)) ≡ position_or_len (λ a. bytes_eq a.0 name) (arrays_of arrays)
-    → i + 1 + position_or_len (λ a. bytes_eq a.0 name) (arrays_of (drop (i + 1) arrays)) ≡ position_or_len (λ a. bytes_eq a.0 name) (arrays_of arrays)
-position_next name arrays i a within is eq sum =
-    let step : position_or_len (λ a. bytes_eq a.0 name) (arrays_of (drop i arrays)) ≡ 1 + position_or_len (λ a. bytes_eq a.0 name) (arrays_of (drop (i + 1) arrays)) =
-    rw (drop-cons arrays i a within, ← is, eq, add-one) refl in
-    omega (arith, step, sum)
-
-pub position_end : (name : List ℕ) (arrays : List ArrayShape) (i : ℕ) → length arrays ≤ i → i ≤ length arrays
-    → i + position_or_len (λ a. bytes_eq a.0 name) (arrays_of (drop i arrays)) ≡ position_or_len (λ a. bytes_eq a.0 name) (arrays_of arrays)
-    → length arrays ≡ position_or_len (λ a. bytes_eq a.0 name) (arrays_of arrays)
-position_end name arrays i past within sum =
-    let none : position_or_len (λ a. bytes_eq a.0 name) (arrays_of (drop i arrays)) ≡ 0 = rw (drop_all i arrays past) refl in
-    omega (arith, none, sum)

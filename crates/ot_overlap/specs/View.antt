@@ -1,5 +1,4 @@
 -- What the code's values stand for.
-use Rattle.ot_model.specs.Programs.{arrays_of}
 use Rattle.ot_overlap.specs.Items as s
 use Rattle.ot_overlap.specs.declared.walk.Met.{Met}
 use Rattle.ot_overlap.specs.declared.walk.Walk.{Walk}
@@ -8,4 +7,4 @@ abbrev pub met_by : Met → s.Met
 met_by m = record { entries = m.entries; items = m.items.items }
 
 abbrev pub ground_by : Walk → s.Ground
-ground_by walk = s.ground (arrays_of walk.arrays.now) walk.reds
+ground_by walk = s.ground walk.names.now walk.reds

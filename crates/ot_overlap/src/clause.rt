@@ -1,10 +1,11 @@
 //! The sections of `depend` clauses.
-ghost use Rattle.std.specs.Prelude.{◌≡◌, option_map, IfOk, bytes_eq, length, true};
+ghost use Rattle.std.specs.Prelude.{◌≡◌, option_map, IfOk, length, true};
 ghost use Rattle.serde_json.specs.Data.{array};
 ghost use Rattle.serde_json.specs.View.{view, items_view};
 ghost use Rattle.ot_overlap.specs.Items.{depends, writes, is_iterated, is_difference, over};
 
-use ot_model::{ArrayShape, Section};
+use crate::names::Names;
+use ot_model::Section;
 use ot_place::{Trail, letters, size_of};
 use ot_program::is_word;
 use serde_json::Value;
@@ -123,20 +124,19 @@ fn is_difference_in(items: &[Value]) -> bool
     }
 }
 
-ghost use Rattle.ot_model.specs.Programs.{arrays_of};
 ghost use Rattle.ot_place.specs.Spots.{bindings_of};
 ghost use Rattle.ot_program.specs.Meanings.{section};
 
 /// What a section denotes over these arrays, in these turns.
 pub(crate) fn section_of(
-    arrays: &[ArrayShape],
+    names: &Names<'_>,
     part: &Value,
     trail: &Trail<'_, '_>,
 ) -> Result<Section, AllocError>
-    ensures { IfOk result (λ denoted. denoted ≡ section (over (arrays_of arrays.now)) (bindings_of trail.now) (view part.now)) }
+    ensures { IfOk result (λ denoted. denoted ≡ section (over names.now) (bindings_of trail.now) (view part.now)) }
 {
     match part {
-        Value::Array(items) => section_in(arrays, items, trail),
+        Value::Array(items) => section_in(names, items, trail),
         _ => Ok(NOWHERE),
     }
 }
@@ -149,37 +149,23 @@ const NOWHERE: Section = Section {
 
 #[tactic(auto, using(crate::proofs::ClauseLemmas::sections))]
 fn section_in(
-    arrays: &[ArrayShape],
+    names: &Names<'_>,
     items: &[Value],
     trail: &Trail<'_, '_>,
 ) -> Result<Section, AllocError>
-    ensures { IfOk result (λ denoted. denoted ≡ section (over (arrays_of arrays.now)) (bindings_of trail.now) (array (items_view items.now))) }
+    ensures { IfOk result (λ denoted. denoted ≡ section (over names.now) (bindings_of trail.now) (array (items_view items.now))) }
 {
     if items.len() != 3 {
         return Ok(NOWHERE);
     }
     match items {
         [name, start, len] => Ok(Section {
-            array: position_of(arrays, letters(name))?,
+            array: names.position(letters(name))?,
             start: short(size_of(start, trail))?,
             len: short(size_of(len, trail))?,
         }),
         _ => unreachable!(),
     }
-}
-
-ghost use Rattle.std.specs.List.{position_or_len};
-
-/// The position of the array of this name, or behind all.
-fn position_of(arrays: &[ArrayShape], name: &str) -> Result<u32, AllocError>
-    ensures { IfOk result (λ position. position ≡ position_or_len (λ a. bytes_eq a.0 name.now) (arrays_of arrays.now)) }
-{
-    for (position, array) in arrays.iter().enumerate() {
-        if array.name.as_str() == name {
-            return short(position as u64);
-        }
-    }
-    short(arrays.len() as u64)
 }
 
 /// A number of 32 bits. Programs that were read have no others.

@@ -5,6 +5,7 @@ mod claims;
 mod clause;
 mod first;
 mod item;
+mod names;
 mod order;
 mod request;
 mod walk;

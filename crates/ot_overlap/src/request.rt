@@ -8,6 +8,7 @@ ghost use Rattle.ot_overlap.specs.Overlaps.{IsFirst};
 
 use crate::first::first_of;
 use crate::item::Item;
+use crate::names::Names;
 use crate::order::writers_first;
 use crate::walk::{Met, Walk};
 use ot_model::ArrayShape;
@@ -112,9 +113,10 @@ fn in_body(
     let Some(profile) = read_profile(tag) else {
         return Ok(met.items);
     };
+    let names = Names::new(alloc, arrays)?;
     let walk = Walk {
         profile,
-        arrays,
+        names: &names,
         reds,
     };
     walk.program(shows, body, &mut met)?;

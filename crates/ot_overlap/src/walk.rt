@@ -10,7 +10,7 @@ ghost use Rattle.ot_overlap.specs.View.{met_by, ground_by};
 
 use crate::clause::{depends, is_iterated, section_of, writes};
 use crate::item::{Item, note_items};
-use ot_model::ArrayShape;
+use crate::names::Names;
 use ot_place::{Profile, Text, Trail, Turn, letters, size_of, text_of};
 use serde_json::Value;
 use std::alloc::AllocError;
@@ -24,9 +24,9 @@ pub(crate) struct Met {
 
 /// A walk through a program over these arrays, and whether `red` is an item there.
 #[derive(Clone, Copy)]
-pub(crate) struct Walk<'s> {
+pub(crate) struct Walk<'s, 'n> {
     pub(crate) profile: Profile,
-    pub(crate) arrays: &'s [ArrayShape],
+    pub(crate) names: &'s Names<'n>,
     pub(crate) reds: bool,
 }
 
@@ -38,7 +38,7 @@ struct Turns<'a> {
     behind: u64,
 }
 
-impl Walk<'_> {
+impl Walk<'_, '_> {
     /// A program with these shows and this body.
     pub(crate) fn program<'a>(
         &self,
@@ -222,7 +222,7 @@ fn region_of(parent: u32, entry: u32) -> u32
 
 ghost use Rattle.ot_program.specs.Meanings.{each};
 
-impl Walk<'_> {
+impl Walk<'_, '_> {
     /// The items of a statement's own clauses.
     fn note(
         &self,
@@ -290,7 +290,7 @@ impl Walk<'_> {
         let Some(named) = depends(clause, self.reds) else {
             return Ok(());
         };
-        let section = section_of(self.arrays, named, trail)?;
+        let section = section_of(self.names, named, trail)?;
         let item = Item {
             parent,
             entry,

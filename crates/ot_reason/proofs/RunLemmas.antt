@@ -1,5 +1,5 @@
 -- Requests that run a program, by their length.
-use Rattle.std.proofs.Common.{◌≡◌, ◌≢◌, ℕ, List, [], ◌∷◌, length, get_or, codes, refl, sym, arith}
+use Rattle.std.proofs.Common.{◌≡◌, ◌≢◌, List, [], ◌∷◌, length, get_or, codes, refl, sym, arith}
 use Rattle.std.specs.Prelude.{None, if◌then◌else◌}
 use Rattle.serde_json.specs.Data.{array}
 use Rattle.serde_json.specs.View.{view, items_view}

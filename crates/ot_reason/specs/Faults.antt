@@ -4,9 +4,7 @@ use Rattle.std.specs.Map.{lookup}
 use Rattle.ot_store.specs.Arrays.{Named, listed}
 use Rattle.ot_store.specs.declared.limits.Limits.{Limits}
 use Rattle.ot_book.specs.Answers.{Step, Now, Runs, performed, Told, Refused, Offends}
-use Rattle.ot_book.specs.Answers as told
 use Rattle.ot_book.specs.Requests.{Request, New, Free, Put, Get, Run}
-use Rattle.ot_book.specs.Requests as asks
 use Rattle.ot_reason.specs.declared.fault.Fault as code
 use Rattle.ot_reason.specs.declared.fault.Fault.TheVariants as v
 

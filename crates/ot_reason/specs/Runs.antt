@@ -1,11 +1,10 @@
--- The program that a line runs.
-use Rattle.std.specs.Prelude.{List, ℕ, codes, if◌then◌else◌, Option, Some, None, Result, Ok, Err, option_and_then}
-use Rattle.serde_json.specs.Data.{Data, array, Items, no_items, item}
+-- The program that a request runs.
+use Rattle.std.specs.Prelude.{codes, if◌then◌else◌, Option, Some, None, Result, Ok, Err}
+use Rattle.serde_json.specs.Data.{Data, array, no_items, item}
 use Rattle.ot_model.specs.Programs.{Expanded, Arrays}
 use Rattle.ot_program.specs.Meanings.{is_word}
 use Rattle.ot_program.specs.Programs.{program_of}
 use Rattle.ot_program.specs.declared.fault.Refusal.{Refusal}
-use Rattle.ot_book.specs.Answers.{value_of}
 
 abbrev pub read_or_none : Result Expanded Refusal → Option Expanded
 read_or_none (Ok program) = Some program
@@ -15,6 +14,3 @@ read_or_none (Err refusal) = None
 abbrev pub run_of : Arrays → Data → Option Expanded
 run_of shape (array (item t (item text no_items))) = if is_word t (codes "run") then read_or_none (program_of shape text) else None
 run_of shape _ = None
-
-abbrev pub run_in : Arrays → List ℕ → Option Expanded
-run_in shape line = option_and_then (run_of shape) (value_of line)

@@ -18,7 +18,7 @@ mod unlike;
 
 pub use code::code_page;
 pub use fault::{Fault, fault_of};
-pub use place::{Telling, place_in_line};
+pub use place::{Telling, place_in};
 pub use reasoning::reasons;
-pub use run::{has_operations, program_in_line};
+pub use run::{has_operations, program_in};
 pub use sentences::sentence_of;

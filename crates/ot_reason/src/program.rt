@@ -1,27 +1,25 @@
 //! Why a program is refused, and where in the line that is.
+ghost use Rattle.std.specs.Prelude.{vec_len, ◌≡◌, ◌<◌, ◌++◌, ◌∷◌, ℕ, List, IfOk};
+ghost use Rattle.serde_json.specs.View.{view};
+ghost use Rattle.ot_place.specs.Spots.{place_by};
+ghost use Rattle.ot_fault.specs.Whys.{shape_of};
+ghost use Rattle.ot_reason.specs.Places.{BeginsAt, placed_fault, entry_words, texts_of};
+
 use crate::place::{Telling, at_line, shown};
 use crate::reasoning::{all_of, cells};
+use crate::run::has_operations;
+use crate::sentences::wrong_in_program;
 use crate::statement::unlike_statement;
-use ot_fault::{Count, Found, Wanted, Why, first_fault};
+use ot_fault::{Count, Wanted, Why, first_fault};
 use ot_model::{ArrayShape, Op};
-use ot_place::{entry_of, value_at};
-use ot_program::{Refusal, is_word};
+use ot_place::{Place, entry_of, value_at};
+use ot_program::Refusal;
 use ot_store::Limits;
 use serde_json::Value;
 use std::alloc::{AllocError, Global};
 
-/// The first fault of the program that a request runs.
-fn fault_in<'a>(
-    alloc: Global,
-    request: &'a Value,
-    arrays: &[ArrayShape],
-    limits: &Limits,
-) -> Result<Option<Found<'a>>, AllocError> {
-    first_fault(alloc, request, arrays, limits.tasks)
-}
-
-/// Where the first fault is of the program that a request runs, and what it is. There is nothing to tell where that isn't
-/// what the request was refused for.
+/// Where the first fault is of the program that a request runs, and what it is. Where that isn't what the request was refused
+/// for, only that is told.
 pub(crate) fn of_program(
     alloc: Global,
     request: &Value,
@@ -29,46 +27,73 @@ pub(crate) fn of_program(
     limits: &Limits,
     refusal: Refusal,
     telling: Telling,
-) -> Result<Vec<String>, AllocError> {
-    let mut reasons = Vec::new(alloc);
-    let Some(found) = fault_in(alloc, request, arrays, limits)? else {
-        return Ok(reasons);
+) -> Result<Vec<String>, AllocError>
+    ensures some { IfOk result (λ reasons. 0 < vec_len reasons) }
+    ensures place { IfOk result (λ reasons. BeginsAt telling refusal (placed_fault (shape_of arrays.now limits.now.tasks) (view request.now)) (texts_of reasons.items)) }
+{
+    let Some(found) = first_fault(alloc, request, arrays, limits.tasks)? else {
+        return refused_for(alloc, refusal);
     };
     if found.why.refusal() != refusal {
-        return Ok(reasons);
+        return refused_for(alloc, refusal);
     }
-    let second = is_second(request);
-    if let Some(place) = entry_of(alloc, request, found.index)? {
-        if let Some(statement) = value_at(request, place.path.as_slice()) {
-            reasons.push(at_line(alloc, &place, statement, telling)?)?;
-            if let Why::NoStatement = found.why {
-                unlike_statement(alloc, second, statement, &mut reasons)?;
-            }
-        }
+    match entry_of(alloc, request, found.index)? {
+        Some(place) => of_fault(alloc, request, &place, found.why, arrays, telling),
+        None => of_why(alloc, has_operations(request), request, found.why, arrays),
     }
-    match found.why {
-        Why::NoStatement => {}
+}
+
+/// What a program was refused for.
+fn refused_for(alloc: Global, refusal: Refusal) -> Result<Vec<String>, AllocError>
+    ensures { IfOk result (λ reasons. 0 < vec_len reasons) }
+{
+    let mut reasons = Vec::new(alloc);
+    reasons.push(String::from_str(alloc, wrong_in_program(refusal))?)?;
+    Ok(reasons)
+}
+
+/// A place with what stands there, and the fault that this has.
+fn of_fault(
+    alloc: Global,
+    request: &Value,
+    place: &Place<'_>,
+    why: Why<'_>,
+    arrays: &[ArrayShape],
+    telling: Telling,
+) -> Result<Vec<String>, AllocError>
+    ensures { IfOk result (λ reasons. (shown : List ℕ) × (others : List (List ℕ))
+        × (texts_of reasons.items ≡ (entry_words telling (place_by place.now) ++ shown) ∷ others)) }
+{
+    let second = has_operations(request);
+    let statement = match value_at(request, place.path.as_slice()) {
+        Some(statement) => statement,
+        None => request,
+    };
+    let mut reasons = of_why(alloc, second, statement, why, arrays)?;
+    reasons.insert(0, at_line(alloc, place, statement, telling)?)?;
+    Ok(reasons)
+}
+
+/// The fault that a statement has.
+fn of_why(
+    alloc: Global,
+    second: bool,
+    statement: &Value,
+    why: Why<'_>,
+    arrays: &[ArrayShape],
+) -> Result<Vec<String>, AllocError>
+    ensures { IfOk result (λ reasons. 0 < vec_len reasons) }
+{
+    let mut reasons = Vec::new(alloc);
+    match why {
+        Why::NoStatement => unlike_statement(alloc, second, statement, &mut reasons)?,
         Why::Unknown(_) => {
-            reasons.push(words_of(alloc, found.why, second)?)?;
+            reasons.push(words_of(alloc, why, second)?)?;
             reasons.push(all_of(alloc, arrays)?)?;
         }
         why => reasons.push(words_of(alloc, why, second)?)?,
     }
     Ok(reasons)
-}
-
-/// Whether a request runs a program whose folds have operations.
-pub(crate) fn is_second(request: &Value) -> bool {
-    let Value::Array(items) = request else {
-        return false;
-    };
-    let Some(Value::Array(program)) = items.get(1) else {
-        return false;
-    };
-    match program.first() {
-        Some(word) => is_word(word, "program2"),
-        None => false,
-    }
 }
 
 /// A fault in words.

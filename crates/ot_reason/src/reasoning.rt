@@ -1,13 +1,18 @@
 //! The reasons behind a refusal.
-ghost use Rattle.std.specs.Prelude.{◌<◌, ◌^◌};
+ghost use Rattle.std.specs.Prelude.{vec_len, ◌≡◌, ◌<◌, ◌^◌, Some, IfOk, option_map};
+ghost use Rattle.serde_json.specs.Data.{Data};
+ghost use Rattle.serde_json.specs.View.{view};
 ghost use Rattle.ot_model.specs.Programs.{arrays_of};
+ghost use Rattle.ot_program.specs.declared.fault.Refusal.{Refusal};
+ghost use Rattle.ot_book.specs.declared.code.Code.TheVariants.{Program};
+ghost use Rattle.ot_fault.specs.Whys.{shape_of};
+ghost use Rattle.ot_reason.specs.Places.{BeginsAt, placed_fault, texts_of};
 ghost use Rattle.ot_reason.specs.Faults.{cells_of};
 
 use crate::fault::{Fault, fault_of};
 use crate::json::no_json;
 use crate::place::Telling;
 use crate::program::of_program;
-use crate::sentences::wrong_in_program;
 use crate::unlike::no_request;
 use ot_book::Code;
 use ot_model::ArrayShape;
@@ -16,35 +21,27 @@ use serde_json::Value;
 use std::alloc::{AllocError, Global};
 
 /// Why a line was refused by this code, over these arrays, which are those before it, and within these limits: lines of
-/// text, without an LF. There are none where no more can be said than the code says.
+/// text, without an LF, at least one. The line's value is given, where it is JSON.
 pub fn reasons(
     alloc: Global,
     line: &[u8],
+    request: &Option<Value>,
     arrays: &[ArrayShape],
     limits: &Limits,
     code: Code,
     telling: Telling,
 ) -> Result<Vec<String>, AllocError>
     requires { cells_of (arrays_of arrays.now) < 2 ^ 32 }
+    ensures some { IfOk result (λ reasons. 0 < vec_len reasons) }
+    ensures place { (d : Data) (refusal : Refusal) → option_map view request.now ≡ Some d → code ≡ Program refusal →
+        IfOk result (λ reasons. BeginsAt telling refusal (placed_fault (shape_of arrays.now limits.now.tasks) d) (texts_of reasons.items)) }
 {
-    match code {
-        Code::NotJson => no_json(alloc, line, telling),
-        Code::NotRequest | Code::Store(_) => {
-            let Ok(value) = Value::from_slice(alloc, line) else {
-                return Ok(Vec::new(alloc));
-            };
-            of_value(alloc, &value, arrays, limits)
+    match (request, code) {
+        (None, _) => no_json(alloc, line, telling),
+        (Some(request), Code::Program(refusal)) => {
+            of_program(alloc, request, arrays, limits, refusal, telling)
         }
-        Code::Program(refusal) => {
-            let Ok(value) = Value::from_slice(alloc, line) else {
-                return Ok(Vec::new(alloc));
-            };
-            let mut reasons = of_program(alloc, &value, arrays, limits, refusal, telling)?;
-            if reasons.is_empty() {
-                reasons.push(String::from_str(alloc, wrong_in_program(refusal))?)?;
-            }
-            Ok(reasons)
-        }
+        (Some(request), _) => of_value(alloc, request, arrays, limits),
     }
 }
 
@@ -56,6 +53,7 @@ fn of_value(
     limits: &Limits,
 ) -> Result<Vec<String>, AllocError>
     requires { cells_of (arrays_of arrays.now) < 2 ^ 32 }
+    ensures { IfOk result (λ reasons. 0 < vec_len reasons) }
 {
     match fault_of(value, arrays, limits) {
         Some(fault) => of_fault(alloc, fault, arrays),
@@ -68,7 +66,9 @@ fn of_fault(
     alloc: Global,
     fault: Fault<'_>,
     arrays: &[ArrayShape],
-) -> Result<Vec<String>, AllocError> {
+) -> Result<Vec<String>, AllocError>
+    ensures { IfOk result (λ reasons. 0 < vec_len reasons) }
+{
     let mut reasons = Vec::new(alloc);
     let reason = match fault {
         Fault::Unknown(name) => {

@@ -1,33 +1,18 @@
-//! The program that a line runs.
+//! The program that a request runs.
 ghost use Rattle.std.specs.Prelude.{◌≡◌, option_map, IfOk};
 ghost use Rattle.serde_json.specs.Data.{array};
 ghost use Rattle.serde_json.specs.View.{view, items_view};
 ghost use Rattle.ot_model.specs.Programs.{expanded_of};
 ghost use Rattle.ot_program.specs.Programs.{program_of};
-ghost use Rattle.ot_reason.specs.Runs.{run_in, run_of, read_or_none};
+ghost use Rattle.ot_reason.specs.Runs.{run_of, read_or_none};
 
-use crate::program::is_second;
-use ot_book::read_line;
 use ot_model::{Program, Shape};
 use ot_program::{ProgramFault, is_word, read_program};
 use serde_json::Value;
 use std::alloc::{AllocError, Global};
 
-/// The program that a line runs over arrays of this shape, where it runs one that can be read.
-pub fn program_in_line(
-    alloc: Global,
-    line: &[u8],
-    shape: &Shape,
-) -> Result<Option<Program>, AllocError>
-    ensures { IfOk result (λ program. option_map expanded_of program ≡ run_in shape.now line.now) }
-{
-    match read_line(alloc, line)? {
-        Some(value) => program_of_value(alloc, &value, shape),
-        None => Ok(None),
-    }
-}
-
-fn program_of_value(
+/// The program that a request runs over arrays of this shape, where it runs one that can be read.
+pub fn program_in(
     alloc: Global,
     request: &Value,
     shape: &Shape,
@@ -73,10 +58,16 @@ fn read(alloc: Global, text: &Value, shape: &Shape) -> Result<Option<Program>, A
     }
 }
 
-/// Whether a line runs a program whose folds have operations.
-pub fn has_operations(alloc: Global, line: &[u8]) -> bool {
-    match Value::from_slice(alloc, line) {
-        Ok(value) => is_second(&value),
-        Err(_) => false,
+/// Whether a request runs a program whose folds have operations.
+pub fn has_operations(request: &Value) -> bool {
+    let Value::Array(items) = request else {
+        return false;
+    };
+    let Some(Value::Array(program)) = items.get(1) else {
+        return false;
+    };
+    match program.first() {
+        Some(word) => is_word(word, "program2"),
+        None => false,
     }
 }

@@ -1,4 +1,6 @@
 //! What is no statement: which one it begins like, and what that one wants.
+ghost use Rattle.std.specs.Prelude.{vec_len, ◌<◌, OnOk};
+
 use crate::place::shown;
 use serde_json::Value;
 use std::alloc::{AllocError, Global};
@@ -25,7 +27,9 @@ pub(crate) fn unlike_statement(
     second: bool,
     value: &Value,
     reasons: &mut Vec<String>,
-) -> Result<(), AllocError> {
+) -> Result<(), AllocError>
+    ensures { OnOk result (vec_len reasons.old < vec_len reasons.new) }
+{
     let words = if second { SECOND_WORDS } else { WORDS };
     let Value::Array(items) = value else {
         let shown = shown(alloc, value)?;
@@ -54,7 +58,9 @@ fn unlike_form(
     form: &Form,
     has: usize,
     reasons: &mut Vec<String>,
-) -> Result<(), AllocError> {
+) -> Result<(), AllocError>
+    ensures { OnOk result (vec_len reasons.old < vec_len reasons.new) }
+{
     let (text, least, most) = (form.text, form.least, form.most);
     let noun = if has == 1 { "item" } else { "items" };
     reasons.push(format!(in alloc; "it begins like {text}")?)?;
@@ -77,7 +83,9 @@ fn strange_word(
     tag: &Value,
     words: &str,
     reasons: &mut Vec<String>,
-) -> Result<(), AllocError> {
+) -> Result<(), AllocError>
+    ensures { OnOk result (vec_len reasons.old < vec_len reasons.new) }
+{
     let shown = shown(alloc, tag)?;
     if let Value::String(word) = tag {
         if !second && form_called(word.as_str(), true).is_some() {

@@ -1,4 +1,6 @@
 //! Lines that are JSON and no request: which request one begins like, and what that one wants.
+ghost use Rattle.std.specs.Prelude.{vec_len, ◌<◌, IfOk};
+
 use crate::form::{Form, Part, first_other, form_called};
 use ot_book::{read_name, read_size};
 use serde_json::Value;
@@ -12,7 +14,9 @@ const WORDS: &str =
 const MAX_SHOWN: usize = 40;
 
 /// Why a value is no request.
-pub(crate) fn no_request(alloc: Global, value: &Value) -> Result<Vec<String>, AllocError> {
+pub(crate) fn no_request(alloc: Global, value: &Value) -> Result<Vec<String>, AllocError>
+    ensures { IfOk result (λ reasons. 0 < vec_len reasons) }
+{
     let Value::Array(items) = value else {
         let shown = shown(alloc, value)?;
         let reason = format!(in alloc; "a request is a list, and this is {shown}")?;
@@ -33,7 +37,9 @@ pub(crate) fn no_request(alloc: Global, value: &Value) -> Result<Vec<String>, Al
 }
 
 /// A reason, and behind it the words of requests.
-fn without_word(alloc: Global, reason: String) -> Result<Vec<String>, AllocError> {
+fn without_word(alloc: Global, reason: String) -> Result<Vec<String>, AllocError>
+    ensures { IfOk result (λ reasons. 0 < vec_len reasons) }
+{
     let mut reasons = Vec::new(alloc);
     reasons.push(reason)?;
     reasons.push(String::from_str(alloc, WORDS)?)?;
@@ -41,7 +47,9 @@ fn without_word(alloc: Global, reason: String) -> Result<Vec<String>, AllocError
 }
 
 /// A list that begins with a word of no request.
-fn strange_word(alloc: Global, word: &str, tag: &Value) -> Result<Vec<String>, AllocError> {
+fn strange_word(alloc: Global, word: &str, tag: &Value) -> Result<Vec<String>, AllocError>
+    ensures { IfOk result (λ reasons. 0 < vec_len reasons) }
+{
     let shown = shown(alloc, tag)?;
     let mut reasons = without_word(alloc, format!(in alloc; "no request begins with {shown}")?)?;
     let hint = match word {
@@ -54,7 +62,9 @@ fn strange_word(alloc: Global, word: &str, tag: &Value) -> Result<Vec<String>, A
 }
 
 /// A list that begins like a request.
-fn unlike_form(alloc: Global, form: Form, items: &[Value]) -> Result<Vec<String>, AllocError> {
+fn unlike_form(alloc: Global, form: Form, items: &[Value]) -> Result<Vec<String>, AllocError>
+    ensures { IfOk result (λ reasons. 0 < vec_len reasons) }
+{
     let mut reasons = Vec::new(alloc);
     let text = form.text;
     reasons.push(format!(in alloc; "it begins like {text}")?)?;

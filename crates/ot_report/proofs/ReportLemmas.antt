@@ -1,6 +1,7 @@
 -- A report that goes on from refusal to refusal.
 use Rattle.std.proofs.Common.{◌≡◌, ◌≤◌, ℕ, ◌+◌, Bool, List, [], ◌∷◌, ◌++◌, length, map, codes, refl, sym, ap, ◌∙◌, subst, arith, append_assoc, append-nil, length-append}
-use Rattle.std.specs.Prelude.{Option, option_and_then}
+use Rattle.std.specs.Prelude.{Option, option_map, option_and_then}
+use Rattle.serde_json.specs.View.{view}
 use Rattle.ot_file.specs.declared.position.Position.{Position}
 use Rattle.ot_judge.specs.Judging.{Refusal, told_in, IsPlaced, Standing, Goes, IsSeen}
 use Rattle.ot_book.specs.Answers.{code_in}
@@ -41,13 +42,14 @@ reporting_ends {name} {blank} {all} {s} {out} {refused} r none = (
 )
 
 pub are_notes : (name blank : List ℕ) (one : Refusal) (f : Finding) (notes : List Note) → IsSeen one f → Names one (stands_of notes) →
-    AreNotes name blank one f.position (notes_text name blank f.start f.end f.position (map note_by notes))
+    AreNotes name blank one f.position (notes_text name (option_map view f.request) blank f.start f.end f.position (map note_by notes))
 are_notes name blank one f notes seen names = record {
   notes = map note_by notes;
   names = subst (λ stands. Names one stands) (sym (stands-notes notes)) names;
   is =
-      ap (λ start. notes_text name blank start f.end f.position (map note_by notes)) seen.start
-      ∙ ap (λ end. notes_text name blank one.start end f.position (map note_by notes)) seen.end;
+      ap (λ request. notes_text name request blank f.start f.end f.position (map note_by notes)) seen.request
+      ∙ ap (λ start. notes_text name one.request blank start f.end f.position (map note_by notes)) seen.start
+      ∙ ap (λ end. notes_text name one.request blank one.start end f.position (map note_by notes)) seen.end;
 }
 
 -- each refusal has a byte at least

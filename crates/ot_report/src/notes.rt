@@ -1,8 +1,8 @@
 //! The notes behind a refusal.
-ghost use Rattle.std.specs.Prelude.{◌≡◌, ◌++◌, ◌≤◌, ℕ, List, OnOk, IfOk, length, map, string_bytes, option_and_then, Some, option_map, [], ◌∷◌};
-ghost use Rattle.ot_judge.specs.Judging.{Refusal, told_in, IsBehind};
-ghost use Rattle.ot_book.specs.Answers.{code_in};
-ghost use Rattle.ot_report.specs.Report.{Names, NamesBy, StandIn, last_entry, notes_text};
+ghost use Rattle.std.specs.Prelude.{◌≡◌, ◌++◌, ◌≤◌, OnOk, IfOk, length, map, option_and_then, Some, option_map, [], ◌∷◌};
+ghost use Rattle.serde_json.specs.View.{view};
+ghost use Rattle.ot_judge.specs.Judging.{Refusal, IsBehind, IsSeen};
+ghost use Rattle.ot_report.specs.Report.{Names, NamesBy, StandIn, notes_text};
 ghost use Rattle.ot_report.specs.NoteView.{note_by, stands_of};
 
 use crate::line::put_note;
@@ -12,7 +12,8 @@ use ot_blame::{Blame, Blamed, find_blame};
 use ot_book::{Book, Entry, Told};
 use ot_check::Offence;
 use ot_judge::{Finding, Findings};
-use ot_reason::{Telling, has_operations, place_in_line, program_in_line};
+use ot_reason::{Telling, has_operations, place_in, program_in};
+use serde_json::Value;
 use std::alloc::{AllocError, Global};
 
 /// Writes notes behind a refusal, each at its place.
@@ -25,7 +26,7 @@ pub(crate) fn put_notes(
     out: &mut Vec<u8>,
 ) -> Result<(), AllocError>
     requires { (finding.now.start ≤ finding.now.end) × (finding.now.end ≤ length findings.old.blank) }
-    ensures text { OnOk result (out.new.items ≡ out.old.items ++ notes_text name.now findings.old.blank finding.now.start finding.now.end finding.now.position (map note_by notes.now.items)) }
+    ensures text { OnOk result (out.new.items ≡ out.old.items ++ notes_text name.now (option_map view finding.now.request) findings.old.blank finding.now.start finding.now.end finding.now.position (map note_by notes.now.items)) }
     ensures same { findings.new ≡ findings.old }
 {
     for note in notes {
@@ -45,72 +46,86 @@ pub(crate) fn notes_of(
     book: &Book,
     finding: &Finding,
 ) -> Result<Vec<Note>, AllocError>
-    ensures { IfOk result (λ notes. (one : Refusal) → IsBehind one book.now → finding.now.code ≡ option_and_then code_in (told_in one) → Names one (stands_of notes.items)) }
+    ensures { IfOk result (λ notes. (one : Refusal) → IsBehind one book.now → IsSeen one finding.now → Names one (stands_of notes.items)) }
 {
     let Some(_) = finding.code else {
         return Ok(Vec::new(alloc));
     };
     match last_entry(book) {
-        Some(entry) => notes_on(alloc, book, entry),
+        Some(entry) => notes_on(alloc, book, &finding.request, entry),
         None => Ok(Vec::new(alloc)),
     }
 }
 
+ghost use Rattle.ot_book.specs.Books.{last_told};
 ghost use Rattle.ot_book.specs.ReplyView.{told_of};
 
-/// The last line of a book's log.
+/// The last line of a book's log, with what was told.
 fn last_entry(book: &Book) -> Option<&Entry>
-    ensures { option_map (λ entry. (entry.now.line.items, told_of entry.now.told)) result ≡ last_entry book.now }
+    ensures { option_map (λ entry. told_of entry.now.told) result ≡ last_told book.now }
 {
     book.log().last()
 }
 
-/// The notes behind what an entry of the log was told.
-fn notes_on(alloc: Global, book: &Book, entry: &Entry) -> Result<Vec<Note>, AllocError>
-    ensures { IfOk result (λ notes. NamesBy book.now (Some (entry.now.line.items, told_of entry.now.told)) (stands_of notes.items)) }
+/// The notes behind what an entry of the log was told, whose line has this value.
+fn notes_on(
+    alloc: Global,
+    book: &Book,
+    request: &Option<Value>,
+    entry: &Entry,
+) -> Result<Vec<Note>, AllocError>
+    ensures { IfOk result (λ notes. NamesBy book.now (option_map view request.now) (Some (told_of entry.now.told)) (stands_of notes.items)) }
 {
-    let line = entry.line.as_slice();
     match &entry.told {
-        Told::Refused(code) => reason_notes(alloc, book, line, *code),
-        Told::Offends(offence, place) => blame_notes(alloc, book, line, *offence, *place),
+        Told::Refused(code) => reason_notes(alloc, book, entry.line.as_slice(), request, *code),
+        Told::Offends(offence, place) => blame_notes(alloc, book, request, *offence, *place),
         _ => Ok(Vec::new(alloc)),
     }
 }
 
 ghost use Rattle.ot_check.specs.Offences.{code_of};
 ghost use Rattle.ot_store.specs.Arrays.{shape_in};
-ghost use Rattle.ot_reason.specs.Runs.{run_in};
+ghost use Rattle.ot_reason.specs.Runs.{run_of};
 
 /// The statement that offends, and what it offends against. No array has changed since.
 fn blame_notes(
     alloc: Global,
     book: &Book,
-    line: &[u8],
+    request: &Option<Value>,
     offence: Offence,
     place: u32,
 ) -> Result<Vec<Note>, AllocError>
-    ensures { IfOk result (λ notes. StandIn (run_in (shape_in book.now.limits book.now.store) line.now) (code_of offence) place (stands_of notes.items)) }
+    ensures { IfOk result (λ notes.
+        StandIn (option_and_then (run_of (shape_in book.now.limits book.now.store)) (option_map view request.now)) (code_of offence) place (stands_of notes.items)) }
 {
+    let Some(request) = request else {
+        return Ok(Vec::new(alloc));
+    };
     let shape = book.store().shape(alloc, &book.limits())?;
-    let Some(program) = program_in_line(alloc, line, &shape)? else {
+    let Some(program) = program_in(alloc, request, &shape)? else {
         return Ok(Vec::new(alloc));
     };
     let blamed = Blamed {
         program: &program,
         arrays: shape.arrays(),
-        has_operations: has_operations(alloc, line),
+        has_operations: has_operations(request),
     };
     match find_blame(alloc, blamed, place, offence)? {
-        Some(blame) => two_notes(alloc, line, place, &blame),
+        Some(blame) => two_notes(alloc, request, place, &blame),
         None => Ok(Vec::new(alloc)),
     }
 }
 
 /// The note on a statement, and that on the other one, which has a part in its offence.
-fn two_notes(alloc: Global, line: &[u8], place: u32, blame: &Blame) -> Result<Vec<Note>, AllocError>
+fn two_notes(
+    alloc: Global,
+    request: &Value,
+    place: u32,
+    blame: &Blame,
+) -> Result<Vec<Note>, AllocError>
     ensures { IfOk result (λ notes. stands_of notes.items ≡ Some place ∷ blame.now.other ∷ []) }
 {
-    let mut words = statement_words(alloc, line, place)?;
+    let mut words = statement_words(alloc, request, place)?;
     words.push_str(": ")?;
     words.push_str(blame.statement.as_str())?;
     let mut notes = Vec::new(alloc);
@@ -120,23 +135,23 @@ fn two_notes(alloc: Global, line: &[u8], place: u32, blame: &Blame) -> Result<Ve
     })?;
     notes.push(Note {
         number: blame.other,
-        words: blame_words(alloc, line, blame)?,
+        words: blame_words(alloc, request, blame)?,
     })?;
     Ok(notes)
 }
 
 /// What a statement offends against, with the other statement where there is one.
-fn blame_words(alloc: Global, line: &[u8], blame: &Blame) -> Result<String, AllocError> {
+fn blame_words(alloc: Global, request: &Value, blame: &Blame) -> Result<String, AllocError> {
     let mut words = String::from_str(alloc, blame.before.as_str())?;
     if let Some(other) = blame.other {
-        words.push_str(statement_words(alloc, line, other)?.as_str())?;
+        words.push_str(statement_words(alloc, request, other)?.as_str())?;
         words.push_str(blame.behind.as_str())?;
     }
     Ok(words)
 }
 
 /// `statement 5, where i = 31`
-fn statement_words(alloc: Global, line: &[u8], number: u32) -> Result<String, AllocError> {
-    let place = place_in_line(alloc, line, number, Telling::File)?;
+fn statement_words(alloc: Global, request: &Value, number: u32) -> Result<String, AllocError> {
+    let place = place_in(alloc, request, number, Telling::File)?;
     format!(in alloc; "statement {number}{}", place.as_str())
 }

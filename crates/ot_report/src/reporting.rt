@@ -50,6 +50,8 @@ fn report_all(alloc: Global, name: &str, findings: &mut Findings<'_>) -> Result<
         let notes = notes_of(alloc, findings.book(), &finding)?;
         put_notes(alloc, name, findings, &finding, &notes, &mut out)?;
         refused += 1;
+        // (it is let go by a call, as the loop would else have a path for each kind of value)
+        drop(finding);
     }
     Ok(Report { text: out, refused })
 }

@@ -1,4 +1,6 @@
 use Rattle.std.proofs.Common.{[], sym, ◌∙◌, arith}
+use Rattle.std.specs.Prelude.{option_map}
+use Rattle.serde_json.specs.View.{view}
 use Rattle.ot_judge.proofs.GoingLemmas.{at_end, at_goodbye, at_long, at_full, at_last, at_refused, at_taken}
 use Rattle.ot_judge.proofs.findings.next_in.Goals as goal
 
@@ -32,12 +34,12 @@ returns-then-is_full-clause-next c = λ all goes. (
 
 pub returns-then-not-is_taken-clause-next : goal.returns-then-not-is_taken-clause-next
 returns-then-not-is_taken-clause-next c = λ all goes.
-    at_refused c.in-Some.piece c.in_ok-verdict.verdict c.judge_line.new.book (c.loop-piece.invariant.goes all goes) c.in-Some.ensures.piece
+    at_refused c.in-Some.piece c.in_ok-verdict.verdict c.judge_line.new.book (option_map view c.in_ok-request.request) (c.loop-piece.invariant.goes all goes) c.in-Some.ensures.piece
     (omega (arith, c.in-Some.ensures.within.0, c.in-Some.ensures.within.1)) c.in-Some.ensures.within.2
     (c.as_slice-line.ensures.value ∙ c.in_ok-bytes.ensures)
     (sym c.is_goodbye.ensures ∙ c.if-is_goodbye.false) (sym c.is_long.ensures ∙ c.if-is_long.false)
     c.in_ok-verdict.ensures.verdict (sym c.is_full.ensures ∙ c.if-is_full.false) (sym c.is_taken.ensures ∙ c.if-not-is_taken.true)
-    (c.in_ok-verdict.ensures.passed (sym c.is_full.ensures ∙ c.if-is_full.false))
+    (c.in_ok-verdict.ensures.passed (sym c.is_full.ensures ∙ c.if-is_full.false)) c.in_ok-request.ensures
 
 pub loop-piece-preserved : goal.loop-piece-preserved
 loop-piece-preserved c = record {

@@ -1,4 +1,4 @@
-use Rattle.std.proofs.Common.{◌≡◌, ◌≤◌, ◌-◌, List, length}
+use Rattle.std.proofs.Common.{◌≤◌, ◌-◌, length}
 use Rattle.std.specs.Prelude.{flat_map}
 use Rattle.ot_judge.specs.Judging.{lines_from, with_end}
 use Rattle.ot_judge.proofs.GoingLemmas.{Writing}

@@ -7,5 +7,5 @@ use Rattle.ot_report.proofs.notes.blame_notes.Goals as goal
 
 pub returns : goal.returns
 returns c =
-    no_blame _ (expanded_of c.in-Some.program) c.args.place c.args.offence (stands_of c.new-in-None.result.items) (search rules)
+    no_blame _ (expanded_of c.in-Some-2.program) c.args.place c.args.offence (stands_of c.new-in-None.result.items) (search rules)
     (ap stands_of c.new-in-None.ensures.items) (match_none c.in_ok-blame.field-0 _ _ c.in-None.is c.in_ok-blame.ensures)
