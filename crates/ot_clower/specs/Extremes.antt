@@ -1,10 +1,10 @@
 -- A greatest or least number that an `if` keeps. Where a task has a copy of x of its own, `if (x < e) x = e;` is
 -- `x = max(x, e);`, and `if (x > e) x = e;` is `x = min(x, e);`.
-use Rattle.std.specs.Prelude.{ℕ, ◌==◌, Bool, false, ◌&&◌, Option, Some, None, option_and_then, if◌then◌else◌}
+use Rattle.std.specs.Prelude.{ℕ, Bool, false, ◌&&◌, Option, Some, None, option_and_then, if◌then◌else◌}
 use Rattle.ot_cread.specs.declared.sign.Sign.TheVariants as s
 use Rattle.ot_cread.specs.declared.tree.Operation.{Operation}
 use Rattle.ot_cread.specs.declared.tree.Operation.TheVariants as o
-use Rattle.ot_cread.specs.Tree.{E, expr_of, Literal, Variable, CellAt, Unsigned, Signed, Called, Apply, Choose}
+use Rattle.ot_cread.specs.Tree.{E, expr_of, Apply}
 use Rattle.ot_cstatement.specs.Tree.{Aim, aim_of, S, Assign, Body, End, Next}
 use Rattle.ot_cscope.specs.declared.scope.Sense.{Sense}
 use Rattle.ot_cscope.specs.declared.scope.Sense.TheVariants as means

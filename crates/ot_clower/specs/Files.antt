@@ -24,7 +24,10 @@ use Rattle.ot_cclause.specs.declared.own.Taking.TheVariants.{ByName, ByPointer}
 use Rattle.ot_cdeclare.specs.Arrays.{D, declared_of, Arr, array_of, named, number_of, outside, declaration}
 use Rattle.ot_cdeclare.specs.Each.{each}
 use Rattle.ot_clower.specs.Lines.{L, Took, lines_of, none, joined}
-use Rattle.ot_clower.specs.Statements.{Twice, called_of, Origin, statement, body}
+use Rattle.ot_clower.specs.declared.statements.Loops.{Loops}
+use Rattle.ot_clower.specs.declared.statements.Loops.TheVariants.{AsTheyStand, ByTurns}
+use Rattle.ot_clower.specs.Statements.{Twice, called_of, Origin}
+use Rattle.ot_clower.specs.Turns.{written, written_body}
 use Rattle.ot_clower.specs.Regions.{Names, region}
 
 -- ---- what stands before `main`
@@ -37,18 +40,20 @@ define_by at d x (Some v) = named at d x (m.Constant v.0 v.1)
 abbrev pub define : Names → ℕ → D → ℕ → E → Result D Refusal
 define names at d x e = define_by at d x (constant (outside names d.meanings false) e)
 
--- what stands before `main`, so far: what it declares, what functions are, and how many statements they have together
+-- what stands before `main`, so far: what it declares, what functions are, how many statements they have together, and how loops
+-- are written
 pub record B : Type 0 where
   pub declared : D
   pub functions : List Twice
   pub count : ℕ
+  pub loops : Loops
 
 abbrev pub before_of : Before → B
-before_of b = record { declared = declared_of b.declared; functions = map called_of b.functions.items; count = b.count }
+before_of b = record { declared = declared_of b.declared; functions = map called_of b.functions.items; count = b.count; loops = b.loops }
 
 -- what becomes of a function's body where it is called, in regions or outside of them
 abbrev pub function_body : Names → List ℕ → B → Bool → Body → Result L Refusal
-function_body names starts b inside stmts = body (record { starts = starts; functions = b.functions }) (outside names b.declared.meanings inside) stmts
+function_body names starts b inside stmts = written_body (record { starts = starts; functions = b.functions; loops = b.loops }) (outside names b.declared.meanings inside) stmts
 
 abbrev pub length_of : Result L Refusal → ℕ
 length_of (Ok l) = length l.places
@@ -61,7 +66,7 @@ abbrev pub with_function : ℕ → B → ℕ → Twice → Result B Refusal
 with_function at b x c =
     counted at b.count c >>= λ n.
     named at b.declared x (m.Function (length b.functions)) >>= λ d.
-    Ok (record { declared = d; functions = b.functions ++ c ∷ []; count = n })
+    Ok (record b { declared = d; functions = b.functions ++ c ∷ []; count = n })
 
 abbrev pub both_bodies : Names → List ℕ → B → Body → Twice
 both_bodies names starts b stmts = record { inside = function_body names starts b true stmts; outside = function_body names starts b false stmts }
@@ -78,17 +83,17 @@ top_step names starts b (Constant left x e) = define names (byte_of starts left)
 top_step names starts b (Global' given) = declaration names (byte_of starts given.left) b.declared given >>= λ d. Ok (record b { declared = d })
 top_step names starts b (Function left f stmts) = function names starts (byte_of starts left) b f stmts
 
-abbrev pub nothing : Names → B
-nothing names = record { declared = record { meanings = replicate (length names) m.Nothing; arrays = [] }; functions = []; count = 0 }
+abbrev pub nothing : Loops → Names → B
+nothing loops names = record { declared = record { meanings = replicate (length names) m.Nothing; arrays = [] }; functions = []; count = 0; loops = loops }
 
-abbrev pub tops : Names → List ℕ → List Entry → Result B Refusal
-tops names starts ts = each (top_step names starts) (nothing names) ts
+abbrev pub tops : Loops → Names → List ℕ → List Entry → Result B Refusal
+tops loops names starts ts = each (top_step names starts) (nothing loops names) ts
 
 -- ---- what `main` does
 
 -- a statement outside of regions
 abbrev pub alone : Names → Origin → List Meaning → S → Result L Refusal
-alone names o meanings s = statement o (outside names meanings false) s
+alone names o meanings s = written o (outside names meanings false) s
 
 -- what a file declared and does so far
 pub record P : Type 0 where
@@ -155,9 +160,17 @@ reductions_of (t ∷ ts) = unless_other t.1 (find (λ other. differs t.1 other.1
 abbrev pub whole : P → Program
 whole p = record { arrays = p.declared.arrays; program = form (codes "program2") (listed (map shown p.declared.arrays) ∷ listed p.lines.texts ∷ []); places = p.lines.places; reductions = reductions_of p.lines.taking }
 
+-- the program of a file whose loops are written so
+abbrev pub lowered_with : Loops → Names → List ℕ → Whole → Result Program Refusal
+lowered_with loops names starts file =
+    tops loops names starts file.tops >>= λ b.
+    main_body names starts (record { starts = starts; functions = b.functions; loops = loops }) b.declared file.main >>= λ p.
+    Ok (whole p)
+
 -- the program of a file
 abbrev pub lowered : Names → List ℕ → Whole → Result Program Refusal
-lowered names starts file =
-    tops names starts file.tops >>= λ b.
-    main_body names starts (record { starts = starts; functions = b.functions }) b.declared file.main >>= λ p.
-    Ok (whole p)
+lowered names starts file = lowered_with AsTheyStand names starts file
+
+-- the same, with its loops written out turn by turn where an `if` stands in them
+abbrev pub lowered_by_turns : Names → List ℕ → Whole → Result Program Refusal
+lowered_by_turns names starts file = lowered_with ByTurns names starts file

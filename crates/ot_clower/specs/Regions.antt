@@ -1,6 +1,6 @@
 -- Parallel regions, of which one thread does what stands in them: groups over nothing, since all tasks have ended at their ends
 -- (OpenMP API 5.2, section 15.3.2).
-use Rattle.std.specs.Prelude.{ℕ, nat_lt, Bool, true, false, List, [], ◌∷◌, length, map, Option, Some, None, Result, Ok, Err, slice_get, slice_set, String, if◌then◌else◌}
+use Rattle.std.specs.Prelude.{ℕ, nat_lt, Bool, true, false, List, [], ◌∷◌, length, map, Option, Some, None, Ok, Err, slice_get, slice_set, String, if◌then◌else◌}
 use Rattle.std.specs.List.{list_any}
 use Rattle.std.specs.declared.alloc.Global.{Global}
 use Rattle.ot_words.specs.declared.word.Name.{Name}
@@ -14,11 +14,12 @@ use Rattle.ot_cscope.specs.declared.reason.Reason.{Reason}
 use Rattle.ot_cscope.specs.declared.reason.Reason.TheVariants as why
 use Rattle.ot_cscope.specs.declared.scope.Meaning.{Meaning}
 use Rattle.ot_cscope.specs.declared.scope.Meaning.TheVariants as m
-use Rattle.ot_cscope.specs.Results.{Refusal, ◌>>=◌}
+use Rattle.ot_cscope.specs.Results.{◌>>=◌}
 use Rattle.ot_cclause.specs.Clauses.{heading}
 use Rattle.ot_cdeclare.specs.Arrays.{outside}
-use Rattle.ot_clower.specs.Lines.{L, Lowered}
-use Rattle.ot_clower.specs.Statements.{Origin, body, group}
+use Rattle.ot_clower.specs.Lines.{Lowered}
+use Rattle.ot_clower.specs.Statements.{Origin, group}
+use Rattle.ot_clower.specs.Turns.{written_body}
 
 abbrev pub Names : Type 0
 Names = List (String Global)
@@ -77,7 +78,7 @@ strictly (Err e) = Err (e.0, unlisted e.1)
 
 -- what one thread does in a region, where names mean this
 abbrev pub within : Names → Origin → List Meaning → Body → Lowered
-within names o meanings b = body o (outside names meanings true) b
+within names o meanings b = written_body o (outside names meanings true) b
 
 abbrev pub within_by : Names → Origin → List Meaning → List Claim → Body → Lowered
 within_by names o meanings cs b = if are_strict cs then strictly (within names o (listed meanings cs) b) else within names o meanings b

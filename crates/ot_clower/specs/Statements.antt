@@ -24,6 +24,7 @@ use Rattle.ot_clower.specs.declared.statements.Bounds.{Bounds}
 use Rattle.ot_clower.specs.declared.statements.Became.{Became}
 use Rattle.ot_clower.specs.declared.statements.Became.TheVariants as got
 use Rattle.ot_clower.specs.declared.statements.Called.{Called}
+use Rattle.ot_clower.specs.declared.statements.Loops.{Loops}
 use Rattle.ot_clower.specs.declared.statements.Source.{Source}
 use Rattle.ot_cdeclare.specs.Places.{byte_of}
 use Rattle.ot_clower.specs.Assignments.{assignment}
@@ -46,13 +47,14 @@ pub record Twice : Type 0 where
 abbrev pub called_of : Called → Twice
 called_of c = record { inside = became_of c.inside; outside = became_of c.outside }
 
--- where words begin, and what functions are, by their numbers
+-- where words begin, what functions are, by their numbers, and how loops are written
 pub record Origin : Type 0 where
   pub starts : List ℕ
   pub functions : List Twice
+  pub loops : Loops
 
 abbrev pub source_of : Source → Origin
-source_of x = record { starts = x.starts.now; functions = map called_of x.functions.now }
+source_of x = record { starts = x.starts.now; functions = map called_of x.functions.now; loops = x.loops }
 
 abbrev pub behind : L → Lowered → Lowered
 behind lines more = more >>= λ l. joined lines l

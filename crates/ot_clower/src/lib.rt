@@ -3,11 +3,13 @@
 
 mod assignment;
 mod extreme;
+mod known;
 mod lines;
 mod lowered;
 mod region;
 mod statements;
+mod turns;
 
-pub use lowered::{Lowered, Reductions, lower};
+pub use lowered::{Lowered, Reductions, lower, lower_by_turns};
 pub use ot_cdeclare::CArray;
 pub use ot_cscope::{CFault, Reason};

@@ -70,7 +70,7 @@ pub(crate) fn one_line_with(
 const MAX_STATEMENTS: usize = 20_000;
 
 /// Where the first of some statements begins.
-fn first_place(lines: &Lines) -> usize
+pub(crate) fn first_place(lines: &Lines) -> usize
     ensures { result ≡ meant.first_place (lines_of lines.now) }
 {
     match lines.places.get(0) {

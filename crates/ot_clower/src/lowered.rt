@@ -14,7 +14,8 @@ ghost use Rattle.ot_clower.specs.Files as meant;
 
 use crate::lines::{Lines, joined, no_lines};
 use crate::region::region;
-use crate::statements::{Became, Called, Source, body, statement};
+use crate::statements::{Became, Called, Loops, Source};
+use crate::turns::{written, written_body};
 use ot_cclause::Taking;
 use ot_cdeclare::{CArray, Declared, byte_of, declaration, named, number_of, pointers};
 use ot_cfile::{File, Step, Top};
@@ -51,12 +52,13 @@ pub struct Lowered {
     pub reductions: Reductions,
 }
 
-/// What stands before `main`, so far: also how many statements functions have together.
+/// What stands before `main`, so far: also how many statements functions have together, and how loops are written.
 #[derive(Drop)]
 struct Before {
     declared: Declared,
     functions: Vec<Called>,
     count: usize,
+    loops: Loops,
 }
 
 /// What a file declared and does so far.
@@ -109,9 +111,10 @@ fn function_body(
     let source = Source {
         starts: &words.starts,
         functions: &before.functions,
+        loops: before.loops,
     };
     let scope = Scope::new(alloc, &words.names, &before.declared.meanings, inside);
-    match body(alloc, &source, &scope, stmts) {
+    match written_body(alloc, &source, &scope, stmts) {
         Ok(lines) => Ok(Became::Lines(lines)),
         Err(CFault::Outside(start, reason)) => Ok(Became::Outside(start, reason)),
         Err(CFault::Memory) => Err(CFault::Memory),
@@ -159,6 +162,7 @@ fn with_function(
         declared,
         functions,
         count,
+        loops: before.loops,
     })
 }
 
@@ -178,6 +182,7 @@ fn function(
         declared: pointers(alloc, words, before.declared, stmts)?,
         functions: before.functions,
         count: before.count,
+        loops: before.loops,
     };
     let inside = function_body(alloc, words, &before, true, stmts)?;
     let outside = function_body(alloc, words, &before, false, stmts)?;
@@ -196,6 +201,7 @@ fn top_step(alloc: Global, words: &Words, before: Before, top: &Top) -> Result<B
                 declared,
                 functions: before.functions,
                 count: before.count,
+                loops: before.loops,
             })
         }
         Top::Declares(given) => {
@@ -205,6 +211,7 @@ fn top_step(alloc: Global, words: &Words, before: Before, top: &Top) -> Result<B
                 declared,
                 functions: before.functions,
                 count: before.count,
+                loops: before.loops,
             })
         }
         Top::Function(left, name, stmts) => {
@@ -214,8 +221,8 @@ fn top_step(alloc: Global, words: &Words, before: Before, top: &Top) -> Result<B
     }
 }
 
-fn tops(alloc: Global, words: &Words, tops: &[Top]) -> Result<Before, CFault>
-    ensures { Gives before_of result (meant.tops words.now.names.keys words.now.starts.items (tops_of tops.now)) }
+fn tops(alloc: Global, words: &Words, loops: Loops, tops: &[Top]) -> Result<Before, CFault>
+    ensures { Gives before_of result (meant.tops loops words.now.names.keys words.now.starts.items (tops_of tops.now)) }
 {
     let mut before = Before {
         declared: Declared {
@@ -224,6 +231,7 @@ fn tops(alloc: Global, words: &Words, tops: &[Top]) -> Result<Before, CFault>
         },
         functions: Vec::new(alloc),
         count: 0,
+        loops,
     };
     for top in tops {
         before = top_step(alloc, words, before, top)?;
@@ -242,7 +250,7 @@ fn alone(
     ensures { Gives lines_of result (meant.alone words.now.names.keys (source_of source.now) meanings.now (stmt_of stmt.now)) }
 {
     let scope = Scope::new(alloc, &words.names, meanings, false);
-    statement(alloc, source, &scope, stmt)
+    written(alloc, source, &scope, stmt)
 }
 
 /// Statements behind others.
@@ -380,14 +388,30 @@ fn reductions_of(taking: &[(usize, Taking)]) -> Reductions
 pub fn lower(alloc: Global, words: &Words, file: &File) -> Result<Lowered, CFault>
     ensures { Gives lowered_of result (meant.lowered words.now.names.keys words.now.starts.items (file_of file.now)) }
 {
+    lower_with(alloc, words, Loops::AsTheyStand, file)
+}
+
+/// The same, with its loops written out turn by turn where an `if` stands in them. In each turn an `if` whose condition names no cell
+/// has only the body that it takes.
+pub fn lower_by_turns(alloc: Global, words: &Words, file: &File) -> Result<Lowered, CFault>
+    ensures { Gives lowered_of result (meant.lowered_by_turns words.now.names.keys words.now.starts.items (file_of file.now)) }
+{
+    lower_with(alloc, words, Loops::ByTurns, file)
+}
+
+/// The program of a file whose loops are written so.
+fn lower_with(alloc: Global, words: &Words, loops: Loops, file: &File) -> Result<Lowered, CFault>
+    ensures { Gives lowered_of result (meant.lowered_with loops words.now.names.keys words.now.starts.items (file_of file.now)) }
+{
     let Before {
         declared,
         functions,
         ..
-    } = tops(alloc, words, &file.tops)?;
+    } = tops(alloc, words, loops, &file.tops)?;
     let source = Source {
         starts: &words.starts,
         functions: &functions,
+        loops,
     };
     let Progress { declared, lines } = main_body(alloc, words, &source, declared, &file.main)?;
     let reductions = reductions_of(&lines.taking);

@@ -9,7 +9,8 @@ ghost use Rattle.ot_clower.specs.Statements.{source_of};
 ghost use Rattle.ot_clower.specs.Regions as meant;
 
 use crate::lines::Lines;
-use crate::statements::{Source, body, group};
+use crate::statements::{Source, group};
+use crate::turns::written_body;
 use ot_cclause::headed;
 use ot_cread::{Clause, Item, Operation, Role};
 use ot_cscope::{CFault, Meaning, Reason, Scope};
@@ -136,7 +137,7 @@ fn within(
     ensures { Gives lines_of result (meant.within words.now.names.keys (source_of source.now) meanings.now (body_of (list_of stmts.now))) }
 {
     let scope = Scope::new(alloc, &words.names, meanings, true);
-    body(alloc, source, &scope, stmts)
+    written_body(alloc, source, &scope, stmts)
 }
 
 /// The same, where clauses list what names mean something.

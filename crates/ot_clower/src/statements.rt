@@ -39,11 +39,21 @@ pub(crate) struct Called {
     pub(crate) outside: Became,
 }
 
-/// Where words begin, and what functions are, by their numbers.
+/// How loops are written.
+#[derive(Clone, Copy, Debug, PartialEq, Eq)]
+pub enum Loops {
+    /// As they stand in the file.
+    AsTheyStand,
+    /// Turn by turn, where an `if` stands in them.
+    ByTurns,
+}
+
+/// Where words begin, what functions are, by their numbers, and how loops are written.
 #[derive(Clone, Copy)]
 pub(crate) struct Source<'a> {
     pub(crate) starts: &'a [usize],
     pub(crate) functions: &'a [Called],
+    pub(crate) loops: Loops,
 }
 
 /// A value is read: `["if", value, [], []]`.
@@ -143,10 +153,10 @@ fn region_at(scope: &Scope<'_>, start: usize) -> Result<(), CFault>
 
 /// The bounds of a loop, and its variable's name.
 #[derive(Drop)]
-struct Bounds {
-    name: Value,
-    first: Value,
-    end: Value,
+pub(crate) struct Bounds {
+    pub(crate) name: Value,
+    pub(crate) first: Value,
+    pub(crate) end: Value,
 }
 
 /// An `int` that begins with a number of another type may be another number.
@@ -171,7 +181,7 @@ fn end_of(alloc: Global, through: bool, end: Value) -> Result<Value, CFault>
 }
 
 /// The place in a loop's body, or in its bounds.
-fn turn_of(turns: &Turns, begun: bool) -> Turn
+pub(crate) fn turn_of(turns: &Turns, begun: bool) -> Turn
     ensures { result ≡ meant.turn (course_of turns.now) begun }
 {
     Turn {
@@ -181,7 +191,12 @@ fn turn_of(turns: &Turns, begun: bool) -> Turn
     }
 }
 
-fn bounded(alloc: Global, scope: &Scope<'_>, start: usize, turns: &Turns) -> Result<Bounds, CFault>
+pub(crate) fn bounded(
+    alloc: Global,
+    scope: &Scope<'_>,
+    start: usize,
+    turns: &Turns,
+) -> Result<Bounds, CFault>
     ensures { Gives bounds_of result (meant.bounds scope.now start (course_of turns.now)) }
 {
     if !is_name(scope.text(turns.variable)) {
@@ -199,7 +214,13 @@ fn bounded(alloc: Global, scope: &Scope<'_>, start: usize, turns: &Turns) -> Res
 }
 
 /// `if`
-fn branch(alloc: Global, start: usize, test: Value, one: Lines, two: Lines) -> Result<Lines, CFault>
+pub(crate) fn branch(
+    alloc: Global,
+    start: usize,
+    test: Value,
+    one: Lines,
+    two: Lines,
+) -> Result<Lines, CFault>
     ensures { Gives lines_of result (Ok (meant.branch start (view test) (lines_of one) (lines_of two))) }
 {
     let first = json::list(one.statements);
@@ -215,7 +236,12 @@ fn branch(alloc: Global, start: usize, test: Value, one: Lines, two: Lines) -> R
 }
 
 /// `for`
-fn repeated(alloc: Global, start: usize, bounds: Bounds, inner: Lines) -> Result<Lines, CFault>
+pub(crate) fn repeated(
+    alloc: Global,
+    start: usize,
+    bounds: Bounds,
+    inner: Lines,
+) -> Result<Lines, CFault>
     ensures { Gives lines_of result (Ok (meant.repeated start (bounds_of bounds) (lines_of inner))) }
 {
     let list = json::list(inner.statements);
@@ -224,7 +250,7 @@ fn repeated(alloc: Global, start: usize, bounds: Bounds, inner: Lines) -> Result
 }
 
 /// What the clauses of a task say, in whose body the scope is that of the task.
-fn task_heading<'a>(
+pub(crate) fn task_heading<'a>(
     alloc: Global,
     scope: &Scope<'a>,
     start: usize,
@@ -255,7 +281,7 @@ fn taking_of(
 }
 
 /// A task that takes part in reductions so.
-fn task(
+pub(crate) fn task(
     alloc: Global,
     start: usize,
     clauses: Vec<Value>,
@@ -272,7 +298,7 @@ fn task(
 }
 
 /// By which operation a group combines, and what its clauses say.
-fn group_heading<'a>(
+pub(crate) fn group_heading<'a>(
     alloc: Global,
     scope: &Scope<'a>,
     start: usize,
@@ -407,7 +433,7 @@ fn assigned(
 }
 
 /// What an `if` keeps in a task's own copy is folded into it.
-fn kept(
+pub(crate) fn kept(
     alloc: Global,
     scope: &Scope<'_>,
     start: usize,

@@ -33,6 +33,7 @@ use Rattle.ot_cdeclare.specs.Places.{byte_of}
 use Rattle.ot_clower.specs.Files.{reductions_of, P, top_step, main_step, nothing, lowered, shown as shown_array}
 use Rattle.ot_clower.specs.Lines.{Took, none}
 use Rattle.ot_clower.specs.Statements.{Origin, read_step, statement, body}
+use Rattle.ot_clower.specs.declared.statements.Loops.TheVariants.{AsTheyStand}
 use Rattle.ot_cback.specs.Bodies.{body_trees}
 use Rattle.ot_cback.specs.Numbering.{name_of}
 use Rattle.ot_cnames.specs.Names.{own_name}
@@ -52,7 +53,7 @@ use Rattle.ot_cprogramback.proofs.PointerLemmas.{IsGood, after, untouched, good_
 
 module _ (number : Text → ℕ) (words : List (String Global)) (starts : List ℕ) where
   abbrev origin : Origin
-  origin = record { starts = starts; functions = [] }
+  origin = record { starts = starts; functions = []; loops = AsTheyStand }
 
   abbrev so_far : D → List Data → List ℕ → List Took → P
   so_far d ts bs ks = record { declared = d; lines = line ts bs ks }
@@ -205,7 +206,7 @@ module _ (number : Text → ℕ) (words : List (String Global)) (starts : List �
 
   whole_is : (acts : List Act) (d : D) (ts : List Data) (bs : List ℕ) (ks : List Took) → each (main_step words starts origin) (so_far (record { meanings = replicate (length words) m.Nothing; arrays = [] }) [] [] []) acts ≡ Ok (so_far d ts bs ks)
       → lowered words starts (record { tops = []; main = acts }) ≡ Ok (record { arrays = d.arrays; program = form (codes "program2") (listed (map shown_array d.arrays) ∷ listed ts ∷ []); places = bs; reductions = reductions_of ks })
-  whole_is acts d ts bs ks is = rw (no_more (top_step words starts) (nothing words), is) refl
+  whole_is acts d ts bs ks is = rw (no_more (top_step words starts) (nothing AsTheyStand words), is) refl
 
   pub file_lowered : (names : List Text) (shape : Arrays) (ds : List Declared) (p : Expanded) (k : ℕ) → DeclarationsFit number words ds → ((i : ℕ) → program_names p i ≡ true → IsDeclared (name names i) ds)
       → ((i : ℕ) → body_names i p.body ≡ true → string (own_name (name names i)) ≡ name_at shape i) → AreFound names shape → BodyFits names p.body → BodyReduces [] [] p.body → PointersFit number words names ds (pointers_of p.body)

@@ -1,4 +1,5 @@
 pub mod Reasons
+pub mod Settling
 pub mod Reading
 pub mod Judging
 pub mod Requests

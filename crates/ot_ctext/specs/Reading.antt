@@ -1,5 +1,5 @@
 -- What a text in C means: a program of the language, or why it has none.
-use Rattle.std.specs.Prelude.{◌≡◌, ℕ, ◌-◌, List, length, slice_get, Result, Ok, Err, String, unwrap_or}
+use Rattle.std.specs.Prelude.{◌≡◌, ℕ, ◌-◌, Bool, List, length, slice_get, Result, Ok, Err, String, unwrap_or}
 use Rattle.std.specs.declared.alloc.Global.{Global}
 use Rattle.ot_words.specs.Words.{Read, AreBelow, AreNames, all_spoken, words_in}
 use Rattle.ot_words.specs.declared.word.Word.{Word}
@@ -8,7 +8,8 @@ use Rattle.ot_cstatement.specs.declared.fault.Fault.{Fault}
 use Rattle.ot_cfile.specs.Files.{file_at}
 use Rattle.ot_cfile.specs.Program.{Whole}
 use Rattle.ot_cscope.specs.Results.{Refusal}
-use Rattle.ot_clower.specs.Files.{Program, lowered, lowered_of}
+use Rattle.ot_clower.specs.Files.{Program, lowered, lowered_by_turns, lowered_of}
+use Rattle.ot_ctext.specs.Settling.{has_guards, settled}
 use Rattle.ot_ctext.specs.Reasons.{file_reason, program_reason, word_reason}
 use Rattle.ot_ctext.specs.declared.reading.Meaning.{Meaning}
 use Rattle.ot_ctext.specs.declared.reading.Meaning.TheVariants as m
@@ -25,17 +26,17 @@ abbrev pub reasoned : Result Program Refusal → Meant
 reasoned (Ok program) = Ok program
 reasoned (Err e) = Err (e.0, program_reason e.1)
 
--- of a file whose names are these, and whose words begin at these bytes
-abbrev pub meaning_of_file : List (String Global) → List ℕ → Whole → Meant
-meaning_of_file names starts file = reasoned (lowered names starts file)
+-- of a file whose names are these, and whose words begin at these bytes, where `if` is among them or isn't
+abbrev pub meaning_of_file : List (String Global) → List ℕ → Bool → Whole → Meant
+meaning_of_file names starts guards file = reasoned (settled guards (lowered names starts file) (lowered_by_turns names starts file))
 
-abbrev pub meaning_read : List (String Global) → List ℕ → ℕ → Result Whole Fault → Meant
-meaning_read names starts size (Ok file) = meaning_of_file names starts file
-meaning_read names starts size (Err fault) = Err (byte_at starts size (words_left fault), file_reason fault)
+abbrev pub meaning_read : List (String Global) → List ℕ → ℕ → Bool → Result Whole Fault → Meant
+meaning_read names starts size guards (Ok file) = meaning_of_file names starts guards file
+meaning_read names starts size guards (Err fault) = Err (byte_at starts size (words_left fault), file_reason fault)
 
 -- of the words of a text of so many bytes
 abbrev pub meaning_of_words : List (String Global) → List ℕ → ℕ → List Word → Meant
-meaning_of_words names starts size words = meaning_read names starts size (file_at words)
+meaning_of_words names starts size words = meaning_read names starts size (has_guards words) (file_at words)
 
 -- of a text: its words have numbers for names, in any order
 abbrev pub MeansRead : ℕ → Read → Meant → Type 0

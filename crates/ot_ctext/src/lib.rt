@@ -6,6 +6,7 @@ mod reading;
 mod reasons;
 mod requests;
 mod session;
+mod settling;
 
 pub use judging::judge_text;
 pub use session::{Session, session_of};

@@ -2,9 +2,11 @@
 ghost use Rattle.std.specs.Prelude.{◌≡◌, length, IfOk, MatchResult};
 ghost use Rattle.ot_cfile.specs.Program.{file_of};
 ghost use Rattle.ot_ctext.specs.Reading.{Means, seen};
+ghost use Rattle.ot_ctext.specs.Settling.{has_guards};
 ghost use Rattle.ot_ctext.specs.Reading as meant;
 
 use crate::reasons::{file_reason, program_reason, word_reason};
+use crate::settling::settled;
 use ot_cfile::{File, read_file};
 use ot_clower::{CFault, Lowered, lower};
 use ot_cstatement::words_left;
@@ -47,10 +49,10 @@ fn meaning_of_words(alloc: Global, size: usize, words: &Words) -> Result<Meaning
 
 /// What a file means that these words say.
 fn meaning_of_file(alloc: Global, words: &Words, file: &File) -> Result<Meaning, AllocError>
-    ensures { IfOk result (λ meaning. seen meaning ≡ meant.meaning_of_file words.now.names.keys words.now.starts.items (file_of file.now)) }
+    ensures { IfOk result (λ meaning. seen meaning ≡ meant.meaning_of_file words.now.names.keys words.now.starts.items (has_guards words.now.words.items) (file_of file.now)) }
 {
     match lower(alloc, words, file) {
-        Ok(lowered) => Ok(Meaning::Program(lowered)),
+        Ok(lowered) => Ok(Meaning::Program(settled(alloc, words, file, lowered)?)),
         Err(CFault::Outside(byte, reason)) => Ok(Meaning::Outside(byte, program_reason(reason))),
         Err(CFault::Memory) => Err(AllocError),
     }

@@ -6,4 +6,4 @@ use Rattle.ot_clower.proofs.lowered.tops.Given as goal
 
 -- those that are left complete what there is
 abbrev pub invariant-loop-top : goal.invariant-loop-top
-invariant-loop-top l = each (top_step l.words.names.keys l.words.starts.items) (before_of l.before) (tops_of (drop l.top-index l.tops)) ≡ tops l.words.names.keys l.words.starts.items (tops_of l.tops)
+invariant-loop-top l = each (top_step l.words.names.keys l.words.starts.items) (before_of l.before) (tops_of (drop l.top-index l.tops)) ≡ tops l.fn.loops l.words.names.keys l.words.starts.items (tops_of l.tops)
