@@ -12,6 +12,7 @@ ghost use Rattle.ot_program.specs.declared.fault.Refusal.{Refusal};
 ghost use Rattle.ot_cjudge.specs.Sites.{entry_site};
 ghost use Rattle.ot_cjudge.specs.SiteView.{source_by};
 ghost use Rattle.ot_cjudge.specs.Fits.{Fits};
+ghost use Rattle.ot_cjudge.specs.Start.{cells_of as begun};
 ghost use Rattle.ot_cjudge.specs.Lacks.{lacks};
 ghost use Rattle.ot_cjudge.specs.Reports.{Reports, ReportsRead, ReportsProgram, ReportsRun, ReportsFinding, race_text, warning_text, only_run_line, none_in_run, has_red_items, faulty, outside_line, overlaps, reason_of, run_of};
 
@@ -19,7 +20,7 @@ use crate::finding::{Finding, find};
 use crate::found::find_in;
 use crate::lacks::lacks_by;
 use crate::line::put_cell;
-use crate::lowered::Lowered;
+use crate::lowered::{CArray, Lowered};
 use crate::report::{Report, Verdict};
 use crate::source::{Source, position_at};
 use crate::start::{MAX_TASKS, cells_of, shape_of};
@@ -54,7 +55,6 @@ pub fn report_c(
     } = lowered;
     let given = arrays.as_slice();
     let shape = shape_of(alloc, given)?;
-    let cells = cells_of(alloc, given)?;
     let read = read_program(alloc, &program, &shape);
     let request = run_of(alloc, program)?;
     let names = shape.arrays();
@@ -67,25 +67,41 @@ pub fn report_c(
         places: bytes,
         order,
     };
-    report_read(alloc, &source, &shape, cells, read)
+    report_read(alloc, &source, &shape, arrays, read)
 }
 
-/// What is written of a program over these arrays that begins with these cells, where it is read.
+/// What is written of a program over these arrays, where it is read. Of one that isn't, the cells aren't asked for.
 fn report_read(
     alloc: Global,
     source: &Source<'_>,
     shape: &Shape,
-    cells: Cells,
+    arrays: Vec<CArray>,
     read: Result<Program, ProgramFault>,
 ) -> Result<Report, AllocError>
     requires named { IfOk read (λ program. IsNamedIn (array_lengths shape.now) (expanded_of program)) }
-    requires cells { lengths cells ≡ array_lengths shape.now }
-    ensures { (program : Result Expanded Refusal) → Gives expanded_of read program → IfOk result (λ report. ReportsRead (source_by source.now) cells program report.verdict report.text.items) }
+    requires cells { lengths (begun arrays.items) ≡ array_lengths shape.now }
+    ensures { (program : Result Expanded Refusal) → Gives expanded_of read program → IfOk result (λ report. ReportsRead (source_by source.now) (begun arrays.items) program report.verdict report.text.items) }
 {
     match read {
-        Ok(program) => report_program(alloc, source, shape, program, cells),
+        Ok(program) => report_with_cells(alloc, source, shape, program, arrays),
         Err(fault) => report_unread(alloc, source, fault),
     }
+}
+
+/// What is written of a program over these arrays, which begins with their cells.
+fn report_with_cells(
+    alloc: Global,
+    source: &Source<'_>,
+    shape: &Shape,
+    program: Program,
+    arrays: Vec<CArray>,
+) -> Result<Report, AllocError>
+    requires named { IsNamedIn (array_lengths shape.now) (expanded_of program) }
+    requires cells { lengths (begun arrays.items) ≡ array_lengths shape.now }
+    ensures { IfOk result (λ report. ReportsProgram (source_by source.now) (begun arrays.items) (stmts_of program.body.items) report.verdict report.text.items) }
+{
+    let cells = cells_of(alloc, arrays)?;
+    report_program(alloc, source, shape, program, cells)
 }
 
 /// What is written of a program that isn't read.

@@ -27,13 +27,13 @@ pub(crate) fn shape_of(alloc: Global, arrays: &[CArray]) -> Result<Shape, AllocE
     Ok(Shape::new(named, MAX_TASKS))
 }
 
-/// The numbers at the start.
-pub(crate) fn cells_of(alloc: Global, arrays: &[CArray]) -> Result<Cells, AllocError>
-    ensures { IfOk result (λ cells. cells ≡ cells_of arrays.now) }
+/// The numbers at the start, of which none is copied.
+pub(crate) fn cells_of(alloc: Global, arrays: Vec<CArray>) -> Result<Cells, AllocError>
+    ensures { IfOk result (λ cells. cells ≡ cells_of arrays.items) }
 {
     let mut cells = Vec::new(alloc);
     for array in arrays {
-        cells.push(array.cells.as_slice().to_vec(alloc)?)?;
+        cells.push(array.cells)?;
     }
     Ok(Cells::new(cells))
 }

@@ -63,7 +63,7 @@ fn judged(
 ) -> Result<ot_cjudge::Lowered, AllocError>
     ensures { IfOk result (IsJudged order (lowered_of lowered)) }
 {
-    let arrays = judged_arrays(alloc, &lowered.arrays)?;
+    let arrays = judged_arrays(alloc, lowered.arrays)?;
     Ok(ot_cjudge::Lowered {
         arrays,
         program: lowered.program,
@@ -72,24 +72,25 @@ fn judged(
     })
 }
 
+/// The arrays with their cells, of which none is copied.
 fn judged_arrays(
     alloc: Global,
-    arrays: &[ot_clower::CArray],
+    arrays: Vec<ot_clower::CArray>,
 ) -> Result<Vec<ot_cjudge::CArray>, AllocError>
-    ensures { IfOk result (λ judged. map judged_array judged.items ≡ map array_of arrays.now) }
+    ensures { IfOk result (λ judged. map judged_array judged.items ≡ map array_of arrays.items) }
 {
     let mut judged = Vec::new(alloc);
     for array in arrays {
-        judged.push(judged_array(alloc, array)?)?;
+        judged.push(judged_array(array))?;
     }
     Ok(judged)
 }
 
-fn judged_array(alloc: Global, array: &ot_clower::CArray) -> Result<ot_cjudge::CArray, AllocError>
-    ensures { IfOk result (λ judged. judged_array judged ≡ array_of array.now) }
+fn judged_array(array: ot_clower::CArray) -> ot_cjudge::CArray
+    ensures { judged_array result ≡ array_of array }
 {
-    Ok(ot_cjudge::CArray {
-        name: String::from_str(alloc, array.name.as_str())?,
-        cells: array.cells.as_slice().to_vec(alloc)?,
-    })
+    ot_cjudge::CArray {
+        name: array.name,
+        cells: array.cells,
+    }
 }

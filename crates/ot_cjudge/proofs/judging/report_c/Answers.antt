@@ -1,6 +1,5 @@
-use Rattle.std.proofs.Common.{sym, ap, ◌∙◌}
+use Rattle.std.proofs.Common.{refl, sym, ap, ◌∙◌}
 use Rattle.serde_json.specs.View.{view}
-use Rattle.ot_model.specs.Cells.{lengths}
 use Rattle.ot_model.specs.Programs.{Arrays, array_lengths, arrays_of}
 use Rattle.ot_check.proofs.Cited.{if_ok}
 use Rattle.ot_program.specs.Programs.{program_of}
@@ -11,16 +10,15 @@ use Rattle.ot_cjudge.proofs.judging.report_c.Goals as goal
 
 pub report_read-requires-clause-cells : goal.report_read-requires-clause-cells
 report_read-requires-clause-cells c =
-    ap lengths c.in_ok-cells.ensures ∙ same_lengths c.as_slice-given.result.now ∙ sym (ap array_lengths c.in_ok-shape.ensures)
+    same_lengths c.args.lowered.arrays.items ∙ sym (ap array_lengths (c.in_ok-shape.ensures ∙ ap shape_of c.as_slice-given.ensures.value))
 
 pub returns : goal.returns
 returns c =
     let l = c.args.lowered in
-    let given = c.as_slice-given.ensures.value in
-    let shape = c.in_ok-shape.ensures ∙ ap shape_of given in
+    let shape = c.in_ok-shape.ensures ∙ ap shape_of c.as_slice-given.ensures.value in
     let same = same_source c.args.name.now c.args.text.now l.order (view c.in_ok-request.request) (run_of (view l.program)) (arrays_of c.arrays-names.result.now) (named l.arrays.items)
     c.as_slice-bytes.result.now l.places.items c.in_ok-request.ensures (c.arrays-names.ensures.arrays ∙ ap (λ (s : Arrays). s.arrays) shape) c.as_slice-bytes.ensures.value in
     if_ok c.report_read.result _ _
-    (λ report h. same_reports _ (source_of c.args.name.now c.args.text.now l) _ _ _ _ report.verdict report.text.items same
-    (c.in_ok-cells.ensures ∙ ap cells_of given) (ap (λ s. program_of s (view l.program)) shape) h)
+    (λ report h. same_reports _ (source_of c.args.name.now c.args.text.now l) _ (cells_of l.arrays.items) _ _ report.verdict report.text.items same
+    refl (ap (λ s. program_of s (view l.program)) shape) h)
     (c.report_read.ensures _ c.read_program-read.ensures.read)

@@ -5,17 +5,18 @@ use Rattle.ot_program.specs.Returned.{Gives}
 use Rattle.ot_check.proofs.Cited.{if_ok}
 use Rattle.ot_cjudge.specs.Reports.{ReportsRead}
 use Rattle.ot_cjudge.specs.SiteView.{source_by}
+use Rattle.ot_cjudge.specs.Start.{cells_of}
 use Rattle.ot_cjudge.proofs.judging.report_read.Goals as goal
 
-pub report_program-requires-clause-named : goal.report_program-requires-clause-named
-report_program-requires-clause-named c = subst (λ r. IfOk r (λ program. IsNamedIn (array_lengths c.args.shape.now) (expanded_of program))) c.in-Ok.is c.requires.named
+pub report_with_cells-requires-clause-named : goal.report_with_cells-requires-clause-named
+report_with_cells-requires-clause-named c = subst (λ r. IfOk r (λ program. IsNamedIn (array_lengths c.args.shape.now) (expanded_of program))) c.in-Ok.is c.requires.named
 
 pub returns-in-Ok : goal.returns-in-Ok
 returns-in-Ok c = λ program gives.
     let s = source_by c.args.source.now in
-    if_ok c.report_program.result _ (λ report. ReportsRead s c.args.cells program report.verdict report.text.items)
-    (λ report h. subst (λ r. ReportsRead s c.args.cells r report.verdict report.text.items) (sym (subst (λ r. Gives expanded_of r program) c.in-Ok.is gives)) h)
-    c.report_program.ensures
+    if_ok c.report_with_cells.result _ (λ report. ReportsRead s (cells_of c.args.arrays.items) program report.verdict report.text.items)
+    (λ report h. subst (λ r. ReportsRead s (cells_of c.args.arrays.items) r report.verdict report.text.items) (sym (subst (λ r. Gives expanded_of r program) c.in-Ok.is gives)) h)
+    c.report_with_cells.ensures
 
 pub returns-in-Err : goal.returns-in-Err
-returns-in-Err c = λ program gives. c.report_unread.ensures c.args.cells program (subst (λ r. Gives expanded_of r program) c.in-Err.is gives)
+returns-in-Err c = λ program gives. c.report_unread.ensures (cells_of c.args.arrays.items) program (subst (λ r. Gives expanded_of r program) c.in-Err.is gives)

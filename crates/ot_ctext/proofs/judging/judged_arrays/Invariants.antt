@@ -1,8 +1,8 @@
-use Rattle.std.proofs.Common.{◌≡◌, ◌++◌, drop, map}
+use Rattle.std.proofs.Common.{◌≡◌, map}
 use Rattle.ot_cdeclare.specs.Arrays.{array_of}
 use Rattle.ot_ctext.specs.Judging.{judged_array}
 use Rattle.ot_ctext.proofs.judging.judged_arrays.Given as goal
 
--- those that are left follow
+-- those so far are judged
 abbrev pub invariant-loop-array : goal.invariant-loop-array
-invariant-loop-array l = map judged_array l.judged.items ++ map array_of (drop l.array-index l.arrays) ≡ map array_of l.arrays
+invariant-loop-array l = map judged_array l.judged.items ≡ map array_of l.yielded
