@@ -5,7 +5,7 @@ ghost use Rattle.clap.specs.declared.builder.command.Command.TheViews.{out-Comma
 ghost use Rattle.omptask.specs.Grammar.{program_words, session_words, explain_words, ask_words, save_words, restore_words, graph_words, c_words, check_words, lines_words, call_rule, code_rule, name_rule, define_rule};
 
 use clap::{Arg, ArgAction, Command, value_parser};
-use ot_commands::{flag_arg, names_arg, socket_arg};
+use ot_commands::{flag_arg, names_arg, socket_arg, with_subcommand};
 use std::alloc::{AllocError, Global};
 
 /// What `--version` prints behind the program's name.
@@ -76,33 +76,27 @@ const SOCKET_HELP: &str = "Where the server's socket stands";
 pub(crate) fn program_command<'a>(alloc: Global) -> Result<Command<'a>, AllocError>
     ensures { IfOk result (λ command. app_of command ≡ program_words) }
 {
-    let check = check_command(alloc)?;
-    let lines = lines_command(alloc)?;
-    session_command(alloc)?
+    let command = session_command(alloc)?
         .subcommand(graph_command(alloc))?
-        .subcommand(c_command(alloc))?
-        .subcommand(check)?
-        .subcommand(lines)
+        .subcommand(c_command(alloc))?;
+    let command = with_subcommand(command, check_command(alloc))?;
+    with_subcommand(command, lines_command(alloc))
 }
 
 /// The program's command, with the subcommands that hold a session, or explain one.
 fn session_command<'a>(alloc: Global) -> Result<Command<'a>, AllocError>
     ensures { IfOk result (λ command. app_of command ≡ session_words) }
 {
-    let explain = explain_command(alloc)?;
-    let ask = ask_command(alloc)?;
-    let save = save_command(alloc)?;
-    let restore = restore_command(alloc)?;
-    Command::new(alloc, "omptask")
+    let command = Command::new(alloc, "omptask")
         .about(
             "What omptaskd refuses, said in words, its runs as graphs and in C, and a client for people",
         )
         .version(VERSION)
-        .subcommand_required(true)
-        .subcommand(explain)?
-        .subcommand(ask)?
-        .subcommand(save)?
-        .subcommand(restore)
+        .subcommand_required(true);
+    let command = with_subcommand(command, explain_command(alloc))?;
+    let command = with_subcommand(command, ask_command(alloc))?;
+    let command = with_subcommand(command, save_command(alloc))?;
+    with_subcommand(command, restore_command(alloc))
 }
 
 fn explain_command<'a>(alloc: Global) -> Result<Command<'a>, AllocError>

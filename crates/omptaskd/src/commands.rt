@@ -5,7 +5,7 @@ ghost use Rattle.clap.specs.declared.builder.command.Command.TheViews.{out-Comma
 ghost use Rattle.omptaskd.specs.Grammar.{program_words, serve_words, sim_words, solo_words};
 
 use clap::Command;
-use ot_commands::{names_arg, number_arg, socket_arg};
+use ot_commands::{names_arg, number_arg, socket_arg, with_subcommand};
 use std::alloc::{AllocError, Global};
 
 /// What `--version` prints behind the program's name.
@@ -42,14 +42,13 @@ tenant in the order given, `usage NAME UNITS`, and then `total UNITS`.";
 pub(crate) fn program_command<'a>(alloc: Global) -> Result<Command<'a>, AllocError>
     ensures { IfOk result (λ command. app_of command ≡ program_words) }
 {
-    let serve = serve_command(alloc)?;
-    Command::new(alloc, "omptaskd")
+    let command = Command::new(alloc, "omptaskd")
         .about("A task server for many tenants")
         .version(VERSION)
         .subcommand_required(true)
         .subcommand(solo_command(alloc))?
-        .subcommand(sim_command(alloc))?
-        .subcommand(serve)
+        .subcommand(sim_command(alloc))?;
+    with_subcommand(command, serve_command(alloc))
 }
 
 fn solo_command<'a>(alloc: Global) -> Command<'a>

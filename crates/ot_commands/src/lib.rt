@@ -4,7 +4,9 @@
 mod arguments;
 mod matched;
 mod standard;
+mod subcommand;
 
 pub use arguments::{flag_arg, names_arg, number_arg, socket_arg};
 pub use matched::{flag, number, text, texts};
 pub use standard::hold_standard;
+pub use subcommand::with_subcommand;
