@@ -9,4 +9,5 @@ mod session;
 mod settling;
 
 pub use judging::judge_text;
+pub use reading::{Meaning, meaning_of};
 pub use session::{Session, session_of};

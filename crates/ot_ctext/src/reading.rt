@@ -14,14 +14,15 @@ use ot_words::{Words, words_of};
 use std::alloc::{AllocError, Global};
 
 /// What a text means.
-pub(crate) enum Meaning {
+#[derive(Drop)]
+pub enum Meaning {
     Program(Lowered),
     /// At this byte stands what isn't judged, and why.
     Outside(usize, &'static str),
 }
 
 /// What a text means.
-pub(crate) fn meaning_of(alloc: Global, text: &[u8]) -> Result<Meaning, AllocError>
+pub fn meaning_of(alloc: Global, text: &[u8]) -> Result<Meaning, AllocError>
     ensures { IfOk result (λ meaning. Means text.now (seen meaning)) }
 {
     match words_of(alloc, text) {
