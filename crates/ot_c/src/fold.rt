@@ -49,8 +49,8 @@ fn target(out: &mut Printer<'_>, own: &Decl, op: Fold, cell: Cell) -> Result<(),
     }
 }
 
-/// Whether the task only folds into the cell, by the operation.
-fn only_folds(own: &Decl, op: Fold, cell: Cell) -> bool
+/// Whether a task that declares this only folds into the cell, by the operation.
+pub fn only_folds(own: &Decl, op: Fold, cell: Cell) -> bool
     ensures { result ≡ written.only_folds own.now op cell }
 {
     match own.mode(cell) {

@@ -10,4 +10,7 @@ mod statement;
 mod value;
 mod whole;
 
+pub use fold::only_folds;
+pub use named::names;
+pub use statement::each_once;
 pub use whole::c_text;

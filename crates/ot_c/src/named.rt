@@ -14,7 +14,7 @@ pub enum Call {
 }
 
 /// Whether a program names the array of this number: in its body, or in what it shows.
-pub(crate) fn names(program: &Program, array: usize) -> bool
+pub fn names(program: &Program, array: usize) -> bool
     ensures { result ≡ named.names (expanded_of program.now) array }
 {
     sections_name(&program.shows, array) || body_names(&program.body, array)

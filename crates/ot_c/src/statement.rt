@@ -259,7 +259,7 @@ fn declared_pointer(
 }
 
 /// The cells in order, each once.
-fn each_once(alloc: Global, cells: &[Cell]) -> Result<Vec<Cell>, AllocError>
+pub fn each_once(alloc: Global, cells: &[Cell]) -> Result<Vec<Cell>, AllocError>
     ensures { IfOk result (λ once. once.items ≡ written.each_once cells.now) }
 {
     let mut places = places_of(alloc, cells)?;

@@ -1,3 +1,0 @@
-mod FrontLemmas
-mod PartLemmas
-pub mod FileLemmas

@@ -1,4 +1,0 @@
-pub mod Functions
-pub mod Parts
-pub mod Files
-pub mod Laws

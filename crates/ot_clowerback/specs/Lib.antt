@@ -1,5 +1,0 @@
-pub mod Known
-pub mod Declared
-pub mod Reductions
-pub mod Bodies
-pub mod Laws

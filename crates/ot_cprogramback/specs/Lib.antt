@@ -1,3 +1,0 @@
-pub mod Programs
-pub mod Laws
-pub mod Texts
