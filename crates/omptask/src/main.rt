@@ -26,8 +26,8 @@ pub use ended::Ended;
 use explaining::ask_explained;
 pub use fault::{Fault, Want, fault_line, want_text};
 use ot_ask::{Asked, LineSource, LinesOf, Tally, ask};
-use ot_c::c_text;
 use ot_commands::hold_standard;
+use ot_cprinted::{NoC, c_checked};
 use ot_explain::{Explained, explain, explain_quietly};
 use ot_front::{Reading, Sink, Writing, write_whole};
 use ot_graph::draw;
@@ -196,21 +196,21 @@ fn draw_run<R: Input + Print + Eprint>(rt: &R, alloc: Global) -> Result<Ended, F
     print_text(rt, drawing.text.as_str())
 }
 
-/// Prints the last run of the session on standard input as C with OpenMP.
+/// Prints the last run of the session on standard input as C with OpenMP, which is read back before.
 fn write_run<R: Input + Print>(rt: &R, alloc: Global) -> Result<Ended, Fault> {
     let last = match last_run(alloc, &mut Reading::new(rt.reader())) {
         Ok(last) => last,
         Err(fault) => return Err(Fault::from(fault)),
     };
     let program = &last.spec.checked().program;
-    match c_text(
+    match c_checked(
         alloc,
         program,
         last.arrays.as_slice(),
         last.spec.before().arrays(),
     ) {
         Ok(text) => print_text(rt, text.as_str()),
-        Err(_) => Err(Fault::Memory),
+        Err(no) => Err(Fault::from(no)),
     }
 }
 
@@ -381,6 +381,7 @@ fn tell(rt: &impl Eprint, path: &str, fault: &Fault) -> ExitCode
     let _ = match fault {
         Fault::BadLine(number, answer) => tell_bad_line(rt, line, *number, *answer),
         Fault::RefusedLine(number) => eprintln!(rt; "{line} {number}"),
+        Fault::NotReadBack(no) => tell_no_c(rt, line, *no),
         Fault::Unreached(cause) => eprintln!(rt; "{line} {path}: {}", cause_text(*cause)),
         Fault::BadDefinition(_) => eprintln!(rt; "{line} {path}, see omptask check --help"),
         Fault::Unread(_, want) => eprintln!(rt; "{line} {path}: {}", want_text(*want)),
@@ -405,5 +406,19 @@ fn tell_bad_line(rt: &impl Eprint, line: &str, number: u64, answer: Untaken) -> 
         }
         Untaken::Full => eprintln!(rt; "{line} {number}: [\"full\"], see omptask explain"),
         Untaken::Long => eprintln!(rt; "{line} {number}: [\"long\"], see omptask explain"),
+    }
+}
+
+/// Prints why a run has no C.
+fn tell_no_c(rt: &impl Eprint, line: &str, no: NoC) -> io::Result<()> {
+    match no {
+        NoC::NotReadBack(byte, reason) => eprintln!(rt; "{line} at byte {byte}: {reason}"),
+        NoC::Refused(refusal) => {
+            let code = refusal.code();
+            eprintln!(rt; "{line}: it is refused by {code}, see omptask explain {code}")
+        }
+        NoC::OtherArrays => eprintln!(rt; "{line}: it has other arrays"),
+        NoC::OtherProgram(number) => eprintln!(rt; "{line}: statement {number} is another one"),
+        NoC::Memory => eprintln!(rt; "{line}"),
     }
 }

@@ -1,0 +1,76 @@
+-- Statements that are compared one after another.
+use Rattle.std.proofs.Common.{◌≡◌, ◌∙◌, ℕ, ◌+◌, List, true, false, true≢false, refl, sym, ap, ap₂, subst, inl, inr, arith}
+use Rattle.ot_model.specs.Tree.{S, Set, Fold, If, Task, Wait, Group, Body, End, Next, size, size_one}
+use Rattle.ot_model.specs.declared.stmt.Use.{Use}
+use Rattle.ot_c.specs.Laws.{is_nothing, normal, normal_statement}
+use Rattle.ot_cprinted.specs.Apart.{Apart, ApartAt, TellsOne}
+use Rattle.ot_cprinted.specs.declared.fault.NoC.{NoC}
+use Rattle.ot_cprinted.specs.declared.fault.NoC.TheVariants as no
+
+pub tells_weaker : (A B : ℕ → Type 0) (fault : NoC) → ((n : ℕ) → A n → B n) → TellsOne A fault → TellsOne B fault
+tells_weaker A B (no.OtherProgram n) f t = f n t
+tells_weaker A B no.Memory f t = tt
+tells_weaker A B (no.NotReadBack byte reason) f t = absurd t
+tells_weaker A B (no.Refused refusal) f t = absurd t
+tells_weaker A B no.OtherArrays f t = absurd t
+
+nothing_is_one : (s : S) → is_nothing s ≡ true → size_one s ≡ 1
+nothing_is_one (Wait w) h = refl
+nothing_is_one (Set c e) h = absurd (true≢false (sym h))
+nothing_is_one (Fold op c e) h = absurd (true≢false (sym h))
+nothing_is_one (If e a b) h = absurd (true≢false (sym h))
+nothing_is_one (Task us b) h = absurd (true≢false (sym h))
+nothing_is_one (Group op cs b) h = absurd (true≢false (sym h))
+
+apart_nothing : (own : List Use) (k : ℕ) (s : S) (left rest : Body) (n : ℕ) → is_nothing s ≡ true → Apart own (k + 1) left rest n → Apart own k (Next s left) rest n
+apart_nothing own k s left End n h a = inl (h, a)
+apart_nothing own k s left (Next t others) n h a = inl (h, a)
+
+normal_nothing : (own : List Use) (s : S) (left : Body) → is_nothing s ≡ true → normal own (Next s left) ≡ normal own left
+normal_nothing own s left h = rw h refl
+
+normal_something : (own : List Use) (s : S) (left : Body) → is_nothing s ≡ false → normal own (Next s left) ≡ Next (normal_statement own s) (normal own left)
+normal_something own s left h = rw h refl
+
+-- what holds of those that are left, of which the first has a number, holds of all
+pub record Holds (own : List Use) (number : ℕ) (left rest : Body) (first : ℕ) (whole back : Body) : Type 0 where
+  pub count : number + size left ≡ first + size whole
+  pub apart : (n : ℕ) → Apart own number left rest n → Apart own first whole back n
+  pub same : normal own left ≡ rest → normal own whole ≡ back
+
+pub past_nothing : (own : List Use) (number : ℕ) (s : S) (left rest : Body) (first : ℕ) (whole back : Body) → is_nothing s ≡ true
+    → Holds own number (Next s left) rest first whole back → Holds own (number + 1) left rest first whole back
+past_nothing own number s left rest first whole back h holds =
+    let one = nothing_is_one s h in
+    record {
+      count = omega (arith, one, holds.count);
+      apart = λ n a. holds.apart n (apart_nothing own number s left rest n h a);
+      same = λ e. holds.same (normal_nothing own s left h ∙ e);
+    }
+
+pub past_one : (own : List Use) (number : ℕ) (s : S) (left : Body) (t : S) (others : Body) (first : ℕ) (whole back : Body) (next : ℕ) → is_nothing s ≡ false
+    → next ≡ number + size_one s → normal_statement own s ≡ t → Holds own number (Next s left) (Next t others) first whole back → Holds own next left others first whole back
+past_one own number s left t others first whole back next h counted same holds = record {
+  count = omega (arith, counted, holds.count);
+  apart = λ n a. holds.apart n (inr (h, inr (same, subst (λ k. Apart own k left others n) counted a)));
+  same = λ e. holds.same (normal_something own s left h ∙ ap₂ Next same e);
+}
+
+-- none is left of what came back
+pub none_left : (own : List Use) (number : ℕ) (s : S) (left : Body) (first : ℕ) (whole back : Body) → is_nothing s ≡ false
+    → Holds own number (Next s left) End first whole back → Apart own first whole back number
+none_left own number s left first whole back h holds = holds.apart number (inr (h, refl))
+
+-- another came back
+pub other_came : (own : List Use) (number : ℕ) (s : S) (left : Body) (t : S) (others : Body) (first : ℕ) (whole back : Body) (fault : NoC) → is_nothing s ≡ false
+    → Holds own number (Next s left) (Next t others) first whole back → TellsOne (ApartAt own number s t) fault → TellsOne (Apart own first whole back) fault
+other_came own number s left t others first whole back fault h holds tells =
+    tells_weaker (ApartAt own number s t) (Apart own first whole back) fault (λ n a. holds.apart n (inr (h, inl a))) tells
+
+-- more came back
+pub more_came : (own : List Use) (number : ℕ) (t : S) (others : Body) (first : ℕ) (whole back : Body) → Holds own number End (Next t others) first whole back → Apart own first whole back number
+more_came own number t others first whole back holds = holds.apart number refl
+
+-- all came back
+pub all_came : (own : List Use) (number first : ℕ) (whole back : Body) → Holds own number End End first whole back → (number ≡ first + size whole) × (normal own whole ≡ back)
+all_came own number first whole back holds = (omega (arith, holds.count), holds.same refl)
