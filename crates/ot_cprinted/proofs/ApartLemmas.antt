@@ -1,6 +1,9 @@
 -- Statements that are compared one after another.
-use Rattle.std.proofs.Common.{◌≡◌, ◌∙◌, ℕ, ◌+◌, List, true, false, true≢false, refl, sym, ap, ap₂, subst, inl, inr, arith}
+use Rattle.std.proofs.Common.{◌≡◌, ◌∙◌, ℕ, suc, ◌+◌, ◌<◌, ◌≤◌, List, [], ◌∷◌, length, drop, drop-cons, get_or, true, false, true≢false, refl, sym, ap, ap₂, subst, inl, inr, arith}
+use Rattle.std.proofs.lemmas.List.{drop_all}
 use Rattle.ot_model.specs.Tree.{S, Set, Fold, If, Task, Wait, Group, Body, End, Next, size, size_one}
+use Rattle.ot_model.specs.View.{stmt_of, stmts_of}
+use Rattle.ot_model.specs.declared.stmt.Stmt.{Stmt}
 use Rattle.ot_model.specs.declared.stmt.Use.{Use}
 use Rattle.ot_c.specs.Laws.{is_nothing, normal, normal_statement}
 use Rattle.ot_cprinted.specs.Apart.{Apart, ApartAt, TellsOne}
@@ -68,8 +71,22 @@ other_came own number s left t others first whole back fault h holds tells =
     tells_weaker (ApartAt own number s t) (Apart own first whole back) fault (λ n a. holds.apart n (inr (h, inl a))) tells
 
 -- more came back
-pub more_came : (own : List Use) (number : ℕ) (t : S) (others : Body) (first : ℕ) (whole back : Body) → Holds own number End (Next t others) first whole back → Apart own first whole back number
-more_came own number t others first whole back holds = holds.apart number refl
+more_came_by : (own : List Use) (number : ℕ) (left rest : Body) (t : S) (others : Body) (first : ℕ) (whole back : Body) → left ≡ End → rest ≡ Next t others
+    → Holds own number left rest first whole back → Apart own first whole back number
+more_came_by own number left rest t others first whole back none some holds =
+    holds.apart number (subst (λ r. Apart own number left r number) (sym some) (subst (λ b. Apart own number b (Next t others) number) (sym none) refl))
+
+-- the first of those that are left
+some_left : (ss : List Stmt) (j : ℕ) → j < length ss → (x : Stmt) × (stmts_of (drop j ss) ≡ Next (stmt_of x) (stmts_of (drop (suc j) ss)))
+some_left [] j h = absurd (omega (arith, h))
+some_left (s ∷ ss) j h = (get_or (s ∷ ss) j s, ap stmts_of (drop-cons (s ∷ ss) j s h))
+
+pub more_came : (own : List Use) (number : ℕ) (stmts : List Stmt) (i : ℕ) (back : List Stmt) (j first : ℕ) → length stmts ≤ i → j < length back
+    → Holds own number (stmts_of (drop i stmts)) (stmts_of (drop j back)) first (stmts_of stmts) (stmts_of back) → Apart own first (stmts_of stmts) (stmts_of back) number
+more_came own number stmts i back j first none some holds =
+    let one = some_left back j some in
+    more_came_by own number (stmts_of (drop i stmts)) (stmts_of (drop j back)) (stmt_of one.0) (stmts_of (drop (suc j) back)) first (stmts_of stmts) (stmts_of back)
+    (ap stmts_of (drop_all i stmts none)) one.1 holds
 
 -- all came back
 pub all_came : (own : List Use) (number first : ℕ) (whole back : Body) → Holds own number End End first whole back → (number ≡ first + size whole) × (normal own whole ≡ back)

@@ -1,15 +1,17 @@
 -- Statements but for their bodies.
-use Rattle.std.proofs.Common.{◌≡◌, ◌≢◌, ◌∙◌, ℕ, ◌+◌, List, [], ◌∷◌, Bool, true, false, true≢false, refl, sym, ap, ap₂, subst, inl, inr, arith}
+use Rattle.std.proofs.Common.{◌≡◌, ◌≢◌, ◌∙◌, ℕ, ◌+◌, ◌<◌, List, [], ◌∷◌, length, get_or, Bool, true, false, true≢false, refl, sym, ap, ap₂, subst, inl, inr, arith}
 use Rattle.std.specs.Prelude.{◌↔◌, IsTrue, MatchResult, Option, Result, Ok, Err}
 use Rattle.ot_model.specs.Tree.{E, S, Set, Fold, If, Task, Wait, Group, Body, End, Next, size, size_one}
+use Rattle.ot_model.specs.View.{stmt_of, stmts_of}
 use Rattle.ot_model.specs.declared.expr.Cell.{Cell}
 use Rattle.ot_model.specs.declared.fold.Fold.{Fold as Operation}
 use Rattle.ot_model.specs.declared.fold.Fold.TheVariants as f
+use Rattle.ot_model.specs.declared.stmt.Stmt.{Stmt}
 use Rattle.ot_model.specs.declared.stmt.Use.{Use}
 use Rattle.ot_print.specs.Laws.{fold_as_shown}
-use Rattle.ot_c.specs.Statements.{only_folds}
+use Rattle.ot_c.specs.Statements.{each_once, only_folds}
 use Rattle.ot_c.specs.Laws.{normal, normal_fold, normal_group, normal_statement}
-use Rattle.ot_cprinted.specs.Apart.{head, Apart, ApartAt, Compares, ComparesOne, TellsOne}
+use Rattle.ot_cprinted.specs.Apart.{head, in_region, Apart, ApartAt, ApartInRegion, Compares, ComparesOne, TellsOne}
 use Rattle.ot_cprinted.specs.declared.fault.NoC.{NoC}
 use Rattle.ot_cprinted.specs.declared.fault.NoC.TheVariants as no
 use Rattle.ot_cprinted.proofs.ApartLemmas.{tells_weaker}
@@ -88,7 +90,7 @@ fold_compared own k op c e t told same result is decides m =
 -- ---- statements with bodies
 
 -- which form a statement has
-form : S → ℕ
+abbrev pub form : S → ℕ
 form (Set c e) = 0
 form (Fold op c e) = 1
 form (If e a b) = 2
@@ -97,7 +99,6 @@ form (Wait w) = 4
 form (Group op cs b) = 5
 
 form_of_head : (s : S) → form (head s) ≡ form s
-unfolding form
 form_of_head (Set c e) = refl
 form_of_head (Fold op c e) = refl
 form_of_head (If e a b) = refl
@@ -149,10 +150,58 @@ group_compared own k op cs a o ds x (Ok last) same m =
 group_compared own k op cs a o ds x (Err fault) same m =
     tells_weaker (Apart own (k + 1) a x) (ApartAt own k (Group op cs a) (Group o ds x)) fault (λ n d. inr (head_of_group op cs (normal own a) ∙ same, d)) m
 
+pub some_group : (op : Operation) (cs : List Cell) → 0 < length cs → normal_group op cs End ≡ Group op (each_once cs) End
+some_group op [] h = absurd (omega (arith, h))
+some_group op (c ∷ cs) h = refl
+
+abbrev group_of : S → Operation
+group_of (Group op cs b) = op
+group_of (Set c e) = f.Plus
+group_of (Fold op c e) = op
+group_of (If e a b) = f.Plus
+group_of (Task us b) = f.Plus
+group_of (Wait w) = f.Plus
+
+abbrev cells_in : S → List Cell
+cells_in (Group op cs b) = cs
+cells_in (Set c e) = []
+cells_in (Fold op c e) = []
+cells_in (If e a b) = []
+cells_in (Task us b) = []
+cells_in (Wait w) = []
+
+-- two groups of one body are the same where their operations and their cells are
+pub groups_decide : (op o : Operation) (cs ds : List Cell) (same : Bool) → IsTrue same ↔ ((op ≡ o) × (cs ≡ ds)) → IsTrue same ↔ Group op cs End ≡ Group o ds End
+groups_decide op o cs ds same decides = ((λ yes. ap₂ (λ p bs. Group p bs End) (decides.0 yes).0 (decides.0 yes).1), λ is. decides.1 (ap group_of is, ap cells_in is))
+
 pub group_differs : (own : List Use) (k : ℕ) (op : Operation) (cs : List Cell) (a : Body) (o : Operation) (ds : List Cell) (x : Body)
     → normal_group op cs End ≢ Group o ds End → ApartAt own k (Group op cs a) (Group o ds x) k
 group_differs own k op cs a o ds x differ = inl ((λ h. differ (sym (head_of_group op cs (normal own a)) ∙ h)), refl)
 
 pub if_differs : (own : List Use) (k : ℕ) (e : E) (a b : Body) (t : S) → form t ≢ 2 → ApartAt own k (If e a b) t k
-unfolding form
 if_differs own k e a b t other = inl ((λ h. other (sym (form_of_head t) ∙ ap form (sym h))), refl)
+
+-- ---- regions
+
+how_many : Body → ℕ
+how_many End = 0
+how_many (Next s b) = 1 + how_many b
+
+how_many-stmts : (ss : List Stmt) → how_many (stmts_of ss) ≡ length ss
+unfolding how_many
+how_many-stmts [] = refl
+how_many-stmts (s ∷ ss) = omega (arith, how_many-stmts ss)
+
+region_is_one : (inside : Body) → how_many (in_region inside) ≡ 1
+unfolding how_many
+region_is_one inside = refl
+
+-- what isn't one statement isn't a region
+pub no_region : (ss : List Stmt) (b : Body) → length ss ≢ 1 → ApartInRegion b (stmts_of ss) 0
+no_region ss b other = inl (refl, λ inside h. other (sym (how_many-stmts ss) ∙ ap how_many h ∙ region_is_one inside))
+
+-- the one statement of a body
+pub only_one : (ss : List Stmt) (x : Stmt) → length ss ≡ 1 → x ≡ get_or ss 0 x → stmts_of ss ≡ Next (stmt_of x) End
+only_one [] x h is = absurd (omega (arith, h))
+only_one (s ∷ []) x h is = ap (λ z. Next (stmt_of z) End) (sym is)
+only_one (s ∷ t ∷ ss) x h is = absurd (omega (arith, h))

@@ -1,2 +1,4 @@
 pub mod ApartLemmas
 pub mod HeadLemmas
+pub mod ArrayLemmas
+pub mod PrintedLemmas

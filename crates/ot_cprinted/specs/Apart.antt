@@ -23,17 +23,20 @@ abbrev mutual
   Apart own k (Next s rest) End n = ((is_nothing s ≡ true) × Apart own (k + 1) rest End n) ⊎ ((is_nothing s ≡ false) × (n ≡ k))
   Apart own k (Next s rest) (Next t others) n =
       ((is_nothing s ≡ true) × Apart own (k + 1) rest (Next t others) n)
-      ⊎ ((is_nothing s ≡ false) × (ApartAt own k s t n ⊎ ((normal_statement own s ≡ t) × Apart own (k + size_one s) rest others n)))
+      ⊎ ((is_nothing s ≡ false)
+          × ((((head (normal_statement own s) ≢ head t) × (n ≡ k)) ⊎ ((head (normal_statement own s) ≡ head t) × ApartWithin own (k + 1) s t n))
+              ⊎ ((normal_statement own s ≡ t) × Apart own (k + size_one s) rest others n)))
 
-  -- it is statement k itself, or one in its bodies
-  pub ApartAt : List Use → ℕ → S → S → ℕ → Type 0
-  ApartAt own k s t n = ((head (normal_statement own s) ≢ head t) × (n ≡ k)) ⊎ ((head (normal_statement own s) ≡ head t) × ApartWithin own (k + 1) s t n)
-
+  -- it is one in the bodies of a statement
   pub ApartWithin : List Use → ℕ → S → S → ℕ → Type 0
   ApartWithin own k (If e a b) (If f x y) n = Apart own k a x n ⊎ ((normal own a ≡ x) × Apart own (k + size a) b y n)
   ApartWithin own k (Task us a) (Task vs x) n = Apart us k a x n
   ApartWithin own k (Group op cs a) (Group o ds x) n = Apart own k a x n
   ApartWithin own k s t n = ⊥
+
+-- it is statement k itself, or one in its bodies
+abbrev pub ApartAt : List Use → ℕ → S → S → ℕ → Type 0
+ApartAt own k s t n = ((head (normal_statement own s) ≢ head t) × (n ≡ k)) ⊎ ((head (normal_statement own s) ≡ head t) × ApartWithin own (k + 1) s t n)
 
 -- a program's body in the region's group, at whose end all tasks have ended
 abbrev pub in_region : Body → Body

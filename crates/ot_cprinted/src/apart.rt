@@ -1,6 +1,6 @@
 //! The first statement of a program that comes back as another one.
 ghost use Rattle.std.specs.Prelude.{◌≡◌, ◌↔◌, ◌+◌, ◌<◌, ◌^◌, [], IfOk, IsTrue, MatchResult, true, false};
-ghost use Rattle.ot_model.specs.Tree.{Apply, CellAt, End, Group, If, Next, Set, Task, size, size_one};
+ghost use Rattle.ot_model.specs.Tree.{Apply, CellAt, End, Group, Next, Set, Task, size, size_one};
 ghost use Rattle.ot_model.specs.declared.fold.Fold.TheVariants.{Plus};
 ghost use Rattle.ot_model.specs.View.{expr_of, stmt_of, stmts_of};
 ghost use Rattle.ot_c.specs.Laws.{is_nothing, normal_fold, normal_group};
@@ -17,10 +17,10 @@ pub(crate) fn compare_region(alloc: Global, body: &[Stmt], back: &[Stmt]) -> Res
     requires { 1 + size (stmts_of body.now) < 2 ^ 32 }
     ensures { ComparesRegion (stmts_of body.now) (stmts_of back.now) result }
 {
-    match back {
-        [region] => compare_inside(alloc, body, region),
-        _ => Err(NoC::OtherProgram(0)),
+    if back.len() != 1 {
+        return Err(NoC::OtherProgram(0));
     }
+    compare_inside(alloc, body, &back[0])
 }
 
 fn compare_inside(alloc: Global, body: &[Stmt], region: &Stmt) -> Result<(), NoC>
@@ -61,25 +61,27 @@ fn compare(
     ensures { Compares own.now first (stmts_of stmts.now) (stmts_of back.now) result }
 {
     let mut number = first;
-    let mut rest = back;
+    let mut place = 0;
     for stmt in stmts {
         if is_nothing(stmt) {
             number += 1;
             continue;
         }
-        match rest {
-            [] => return Err(NoC::OtherProgram(number)),
-            [other, others @ ..] => {
-                number = compare_one(alloc, own, number, stmt, other)?;
-                rest = others;
+        if place >= back.len() {
+            return Err(NoC::OtherProgram(number));
+        }
+        match compare_one(alloc, own, number, stmt, &back[place]) {
+            Ok(next) => {
+                number = next;
+                place += 1;
             }
+            Err(fault) => return Err(fault),
         }
     }
-    if rest.is_empty() {
-        Ok(number)
-    } else {
-        Err(NoC::OtherProgram(number))
+    if place < back.len() {
+        return Err(NoC::OtherProgram(number));
     }
+    Ok(number)
 }
 
 /// Whether nothing stands in C for a statement: a wait that declares no cell awaits nobody.
@@ -109,7 +111,16 @@ fn compare_one(
             let told = told_fold(alloc, own, *op, *cell, expr)?;
             numbered(number, told.same_as(other))
         }
-        Stmt::If(expr, one, two) => compare_if(alloc, own, number, expr, one, two, other),
+        Stmt::If(expr, one, two) => match other {
+            Stmt::If(condition, three, four) => {
+                if !expr.same_as(condition) {
+                    return Err(NoC::OtherProgram(number));
+                }
+                let next = compare(alloc, own, number + 1, one, three)?;
+                compare(alloc, own, next, two, four)
+            }
+            _ => Err(NoC::OtherProgram(number)),
+        },
         Stmt::Task(decl, body) => compare_task(alloc, number, decl, body, other),
         Stmt::Group(op, cells, body) => compare_group(alloc, own, number, *op, cells, body, other),
     }
@@ -124,31 +135,6 @@ fn numbered(number: u32, is_same: bool) -> Result<u32, NoC>
         Ok(number + 1)
     } else {
         Err(NoC::OtherProgram(number))
-    }
-}
-
-#[cycle(compare)]
-fn compare_if(
-    alloc: Global,
-    own: &Decl,
-    number: u32,
-    expr: &Expr,
-    one: &[Stmt],
-    two: &[Stmt],
-    other: &Stmt,
-) -> Result<u32, NoC>
-    requires { number + size_one (If (expr_of expr.now) (stmts_of one.now) (stmts_of two.now)) < 2 ^ 32 }
-    ensures { ComparesOne own.now number (If (expr_of expr.now) (stmts_of one.now) (stmts_of two.now)) (stmt_of other.now) result }
-{
-    match other {
-        Stmt::If(condition, three, four) => {
-            if !expr.same_as(condition) {
-                return Err(NoC::OtherProgram(number));
-            }
-            let next = compare(alloc, own, number + 1, one, three)?;
-            compare(alloc, own, next, two, four)
-        }
-        _ => Err(NoC::OtherProgram(number)),
     }
 }
 
@@ -212,7 +198,13 @@ fn is_group(
         return Ok(is_plain(combines, over));
     }
     let once = each_once(alloc, cells)?;
-    Ok(op == combines && once.as_slice() == over)
+    Ok(op == combines && same_cells(&once, over))
+}
+
+fn same_cells(ones: &[Cell], others: &[Cell]) -> bool
+    ensures { IsTrue result ↔ ones.now ≡ others.now }
+{
+    ones == others
 }
 
 /// A fold as C tells it: by `min` or `max`, where the task doesn't only fold into the cell by it, it is the set that does the same.

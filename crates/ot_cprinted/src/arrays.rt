@@ -1,5 +1,5 @@
 //! The arrays that come back.
-ghost use Rattle.std.specs.Prelude.{◌≡◌, ◌↔◌, IfOk, IsTrue, map};
+ghost use Rattle.std.specs.Prelude.{◌≡◌, ◌<◌, ◌^◌, ◌↔◌, IfOk, IsTrue, map};
 ghost use Rattle.ot_model.specs.Programs.{arrays_of, expanded_of};
 ghost use Rattle.ot_c.specs.Programs.{declared, lists_of};
 ghost use Rattle.ot_c.specs.Programs as written;
@@ -22,13 +22,15 @@ pub(crate) fn same_arrays(
 {
     let mut rest = back;
     for number in 0..arrays.len().min(before.len()) {
+        let array = &arrays[number];
+        let numbers = &before[number];
         if !names(program, number) {
             continue;
         }
         match rest {
             [] => return false,
             [one, others @ ..] => {
-                if !is_array(one, &arrays[number], &before[number]) {
+                if !is_array(one, array, numbers) {
                     return false;
                 }
                 rest = others;
@@ -57,11 +59,16 @@ pub(crate) fn shape_of(alloc: Global, arrays: &[ArrayShape]) -> Result<Shape, Al
     }
     let mut named = Vec::new(alloc);
     for array in arrays {
-        let name = String::from_str(alloc, array.name.as_str())?;
-        named.push(ArrayShape {
-            name,
-            len: array.len,
-        })?;
+        named.push(shaped(alloc, array.name.as_str(), array.len)?)?;
     }
     Ok(Shape::new(named, MAX_TASKS))
+}
+
+/// An array of this name and length.
+fn shaped(alloc: Global, name: &str, len: u32) -> Result<ArrayShape, AllocError>
+    ensures same { IfOk result (λ shaped. written.array_of shaped ≡ (name.now, len)) }
+    ensures short { IfOk result (λ shaped. shaped.len < 2 ^ 32) }
+{
+    let name = String::from_str(alloc, name)?;
+    Ok(ArrayShape { name, len })
 }
