@@ -59,11 +59,6 @@ past_one own number s left t others first whole back next h counted same holds =
   same = λ e. holds.same (normal_something own s left h ∙ ap₂ Next same e);
 }
 
--- none is left of what came back
-pub none_left : (own : List Use) (number : ℕ) (s : S) (left : Body) (first : ℕ) (whole back : Body) → is_nothing s ≡ false
-    → Holds own number (Next s left) End first whole back → Apart own first whole back number
-none_left own number s left first whole back h holds = holds.apart number (inr (h, refl))
-
 -- another came back
 pub other_came : (own : List Use) (number : ℕ) (s : S) (left : Body) (t : S) (others : Body) (first : ℕ) (whole back : Body) (fault : NoC) → is_nothing s ≡ false
     → Holds own number (Next s left) (Next t others) first whole back → TellsOne (ApartAt own number s t) fault → TellsOne (Apart own first whole back) fault
@@ -87,7 +82,3 @@ more_came own number stmts i back j first none some holds =
     let one = some_left back j some in
     more_came_by own number (stmts_of (drop i stmts)) (stmts_of (drop j back)) (stmt_of one.0) (stmts_of (drop (suc j) back)) first (stmts_of stmts) (stmts_of back)
     (ap stmts_of (drop_all i stmts none)) one.1 holds
-
--- all came back
-pub all_came : (own : List Use) (number first : ℕ) (whole back : Body) → Holds own number End End first whole back → (number ≡ first + size whole) × (normal own whole ≡ back)
-all_came own number first whole back holds = (omega (arith, holds.count), holds.same refl)

@@ -1,4 +1,4 @@
 pub mod ApartLemmas
-pub mod HeadLemmas
+pub mod RegionLemmas
 pub mod ArrayLemmas
 pub mod PrintedLemmas

@@ -24,8 +24,8 @@ abbrev mutual
   Apart own k (Next s rest) (Next t others) n =
       ((is_nothing s ≡ true) × Apart own (k + 1) rest (Next t others) n)
       ⊎ ((is_nothing s ≡ false)
-          × ((((head (normal_statement own s) ≢ head t) × (n ≡ k)) ⊎ ((head (normal_statement own s) ≡ head t) × ApartWithin own (k + 1) s t n))
-              ⊎ ((normal_statement own s ≡ t) × Apart own (k + size_one s) rest others n)))
+      × ((((head (normal_statement own s) ≢ head t) × (n ≡ k)) ⊎ ((head (normal_statement own s) ≡ head t) × ApartWithin own (k + 1) s t n))
+      ⊎ ((normal_statement own s ≡ t) × Apart own (k + size_one s) rest others n)))
 
   -- it is one in the bodies of a statement
   pub ApartWithin : List Use → ℕ → S → S → ℕ → Type 0

@@ -50,13 +50,7 @@ fn is_plain(op: Fold, cells: &[Cell]) -> bool
 /// Compares statements, of which the first has this number, in the body of a task with this declaration, with what came back of
 /// them. It gives the number behind the last.
 #[cycle(compare)]
-fn compare(
-    alloc: Global,
-    own: &Decl,
-    first: u32,
-    stmts: &[Stmt],
-    back: &[Stmt],
-) -> Result<u32, NoC>
+fn compare(alloc: Global, own: &Decl, first: u32, stmts: &[Stmt], back: &[Stmt]) -> Result<u32, NoC>
     requires { first + size (stmts_of stmts.now) < 2 ^ 32 }
     ensures { Compares own.now first (stmts_of stmts.now) (stmts_of back.now) result }
 {

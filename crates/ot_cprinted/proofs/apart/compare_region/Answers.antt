@@ -1,5 +1,5 @@
 use Rattle.ot_model.specs.View.{stmts_of}
-use Rattle.ot_cprinted.proofs.HeadLemmas.{no_region}
+use Rattle.ot_cprinted.proofs.RegionLemmas.{no_region}
 use Rattle.ot_cprinted.proofs.apart.compare_region.Goals as goal
 
 pub returns-then-back-ne1 : goal.returns-then-back-ne1
