@@ -24,6 +24,17 @@ region_compared arrays numbers p back read (Err (no.NotReadBack byte reason)) sa
 region_compared arrays numbers p back read (Err (no.Refused refusal)) same reads m = absurd m
 region_compared arrays numbers p back read (Err no.OtherArrays) same reads m = absurd m
 
+-- what a text means, compared
+pub meaning_compared : (arrays : List (Text × ℕ)) (numbers : List (List ℕ)) (p : Expanded) (text : Text) (back : Program) (result : Result (Unit {0}) NoC) → Means text (Ok back)
+    → MatchResult result (λ u. IsSame arrays numbers p back) (λ fault. Differs arrays numbers p back fault)
+    → MatchResult result (λ u. ReadsBack arrays numbers p text) (λ fault. NotBack arrays numbers p text fault)
+meaning_compared arrays numbers p text back (Ok u) means m = record { back = back; means = means; same = m }
+meaning_compared arrays numbers p text back (Err (no.OtherProgram n)) means m = (back, means, m)
+meaning_compared arrays numbers p text back (Err no.Memory) means m = tt
+meaning_compared arrays numbers p text back (Err (no.NotReadBack byte reason)) means m = absurd m
+meaning_compared arrays numbers p text back (Err (no.Refused refusal)) means m = (back, means, m)
+meaning_compared arrays numbers p text back (Err no.OtherArrays) means m = (back, means, m)
+
 -- a text that isn't read back
 pub why_not : (arrays : List (Text × ℕ)) (numbers : List (List ℕ)) (p : Expanded) (text : Text) (fault : NoC) → IsProgram arrays numbers p text
     → NotBack arrays numbers p text fault → WhyNot arrays numbers p fault
