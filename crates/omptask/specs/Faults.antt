@@ -8,8 +8,6 @@ use Rattle.ot_ask.specs.declared.asked.Asked.{Asked}
 use Rattle.ot_ask.specs.declared.asked.Asked.TheVariants as asked
 use Rattle.ot_cjudge.specs.declared.report.Verdict.{Verdict}
 use Rattle.ot_cjudge.specs.declared.report.Verdict.TheVariants as verdict
-use Rattle.ot_cprinted.specs.declared.fault.NoC.{NoC}
-use Rattle.ot_cprinted.specs.declared.fault.NoC.TheVariants as no
 use Rattle.ot_front.specs.declared.fault.FrontFault.{FrontFault}
 use Rattle.ot_front.specs.declared.fault.FrontFault.TheVariants as front
 use Rattle.ot_keep.specs.declared.fault.KeepFault.{KeepFault}
@@ -62,8 +60,8 @@ want_text want.NotPermitted = codes "permission denied"
 want_text want.NoPath = codes "no path of a file"
 want_text want.Other = codes "read failed"
 
--- The line on standard error. Behind that of a bad or a refused line stands its number, behind that of C that isn't read back why,
--- and behind that of a server that isn't reached the path and the cause. Behind that of a bad definition stands the word, and behind that of a file that isn't read the path
+-- The line on standard error. Behind that of a bad or a refused line stands its number, and behind that of a server that isn't
+-- reached the path and the cause. Behind that of a bad definition stands the word, and behind that of a file that isn't read the path
 -- and why.
 abbrev pub line_of : Fault → List ℕ
 line_of of.Busy = codes "omptask: busy"
@@ -73,7 +71,6 @@ line_of of.Closed = codes "omptask: closed"
 line_of of.UnknownCode = codes "omptask: unknown code"
 line_of (of.BadLine number answer) = codes "omptask: bad line"
 line_of of.NoRun = codes "omptask: no run"
-line_of (of.NotReadBack why) = codes "omptask: the C isn't read back"
 line_of of.StrangeReply = codes "omptask: strange reply"
 line_of of.NotWhole = codes "omptask: not whole"
 line_of of.HasArrays = codes "omptask: has arrays"
@@ -115,11 +112,6 @@ fault_of_last (last.BadLine number answer) = of.BadLine number answer
 fault_of_last last.ReadFailed = of.ReadFailed
 fault_of_last last.TooManyReads = of.TooManyReads
 fault_of_last last.Memory = of.Memory
-
--- the program's fault where a run has no C
-abbrev pub fault_of_c : NoC → Fault
-fault_of_c no.Memory = of.Memory
-fault_of_c other = of.NotReadBack other
 
 -- the program's fault where a tenant isn't saved, or isn't restored
 abbrev pub fault_of_keep : KeepFault → Fault

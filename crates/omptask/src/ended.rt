@@ -7,7 +7,7 @@ pub enum Ended {
     Well,
     /// A line was refused, or touches race.
     Refused,
-    /// A text isn't judged.
+    /// A text isn't judged, or a run has no C.
     Outside,
     /// Of a text only the run was judged, and it doesn't race.
     OnlyRun,

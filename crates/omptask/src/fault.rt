@@ -1,10 +1,9 @@
 //! What the program tells of a fault.
 ghost use Rattle.std.specs.Prelude.{◌≡◌};
-ghost use Rattle.omptask.specs.Faults.{fault_of, fault_of_c, fault_of_keep, fault_of_last, fault_of_session, line_of, want_for, want_text};
+ghost use Rattle.omptask.specs.Faults.{fault_of, fault_of_keep, fault_of_last, fault_of_session, line_of, want_for, want_text};
 
 use crate::reaching::Cause;
 use ot_ask::AskFault;
-use ot_cprinted::NoC;
 use ot_front::FrontFault;
 use ot_keep::KeepFault;
 use ot_last::{LastFault, Untaken};
@@ -27,8 +26,6 @@ pub enum Fault {
     BadLine(u64, Untaken),
     /// The session runs no program.
     NoRun,
-    /// The C of the session's run isn't read back as that run's program.
-    NotReadBack(NoC),
     /// The server answered a request as none does that can perform it.
     StrangeReply,
     /// The file was cut or changed.
@@ -148,17 +145,6 @@ impl From<LastFault> for Fault {
     }
 }
 
-impl From<NoC> for Fault {
-    ghost from_gives = { λ no f. f ≡ fault_of_c no };
-
-    fn from(no: NoC) -> Fault {
-        match no {
-            NoC::Memory => Fault::Memory,
-            _ => Fault::NotReadBack(no),
-        }
-    }
-}
-
 impl From<KeepFault> for Fault {
     ghost from_gives = { λ fault f. f ≡ fault_of_keep fault };
 
@@ -176,7 +162,7 @@ impl From<KeepFault> for Fault {
 }
 
 /// The line that the program prints, without the line feed; behind that of a bad or a refused line stands its
-/// number, behind that of C that isn't read back why, and behind that of a server that isn't reached the path and the cause.
+/// number, and behind that of a server that isn't reached the path and the cause.
 pub fn fault_line(fault: &Fault) -> &'static str
     ensures { result.now ≡ line_of fault.now }
 {
@@ -188,7 +174,6 @@ pub fn fault_line(fault: &Fault) -> &'static str
         Fault::UnknownCode => "omptask: unknown code",
         Fault::BadLine(_, _) => "omptask: bad line",
         Fault::NoRun => "omptask: no run",
-        Fault::NotReadBack(_) => "omptask: the C isn't read back",
         Fault::StrangeReply => "omptask: strange reply",
         Fault::NotWhole => "omptask: not whole",
         Fault::HasArrays => "omptask: has arrays",

@@ -196,8 +196,8 @@ fn draw_run<R: Input + Print + Eprint>(rt: &R, alloc: Global) -> Result<Ended, F
     print_text(rt, drawing.text.as_str())
 }
 
-/// Prints the last run of the session on standard input as C with OpenMP, which is read back before.
-fn write_run<R: Input + Print>(rt: &R, alloc: Global) -> Result<Ended, Fault> {
+/// Prints the last run of the session on standard input as C with OpenMP, which is read back before, or tells why it has none.
+fn write_run<R: Input + Print + Eprint>(rt: &R, alloc: Global) -> Result<Ended, Fault> {
     let last = match last_run(alloc, &mut Reading::new(rt.reader())) {
         Ok(last) => last,
         Err(fault) => return Err(Fault::from(fault)),
@@ -210,7 +210,26 @@ fn write_run<R: Input + Print>(rt: &R, alloc: Global) -> Result<Ended, Fault> {
         last.spec.before().arrays(),
     ) {
         Ok(text) => print_text(rt, text.as_str()),
-        Err(no) => Err(Fault::from(no)),
+        Err(NoC::Memory) => Err(Fault::Memory),
+        Err(no) => {
+            let _ = tell_no_c(rt, no);
+            Ok(Ended::Outside)
+        }
+    }
+}
+
+/// Prints why a run has no C, where that isn't want of memory.
+fn tell_no_c(rt: &impl Eprint, no: NoC) -> io::Result<()> {
+    let line = "omptask: the C isn't read back";
+    match no {
+        NoC::NotReadBack(byte, reason) => eprintln!(rt; "{line} at byte {byte}: {reason}"),
+        NoC::Refused(refusal) => {
+            let code = refusal.code();
+            eprintln!(rt; "{line}: it is refused by {code}, see omptask explain {code}")
+        }
+        NoC::OtherArrays => eprintln!(rt; "{line}: it has other arrays"),
+        NoC::OtherProgram(number) => eprintln!(rt; "{line}: statement {number} is another one"),
+        NoC::Memory => eprintln!(rt; "{line}"),
     }
 }
 
@@ -381,7 +400,6 @@ fn tell(rt: &impl Eprint, path: &str, fault: &Fault) -> ExitCode
     let _ = match fault {
         Fault::BadLine(number, answer) => tell_bad_line(rt, line, *number, *answer),
         Fault::RefusedLine(number) => eprintln!(rt; "{line} {number}"),
-        Fault::NotReadBack(no) => tell_no_c(rt, line, *no),
         Fault::Unreached(cause) => eprintln!(rt; "{line} {path}: {}", cause_text(*cause)),
         Fault::BadDefinition(_) => eprintln!(rt; "{line} {path}, see omptask check --help"),
         Fault::Unread(_, want) => eprintln!(rt; "{line} {path}: {}", want_text(*want)),
@@ -406,19 +424,5 @@ fn tell_bad_line(rt: &impl Eprint, line: &str, number: u64, answer: Untaken) -> 
         }
         Untaken::Full => eprintln!(rt; "{line} {number}: [\"full\"], see omptask explain"),
         Untaken::Long => eprintln!(rt; "{line} {number}: [\"long\"], see omptask explain"),
-    }
-}
-
-/// Prints why a run has no C.
-fn tell_no_c(rt: &impl Eprint, line: &str, no: NoC) -> io::Result<()> {
-    match no {
-        NoC::NotReadBack(byte, reason) => eprintln!(rt; "{line} at byte {byte}: {reason}"),
-        NoC::Refused(refusal) => {
-            let code = refusal.code();
-            eprintln!(rt; "{line}: it is refused by {code}, see omptask explain {code}")
-        }
-        NoC::OtherArrays => eprintln!(rt; "{line}: it has other arrays"),
-        NoC::OtherProgram(number) => eprintln!(rt; "{line}: statement {number} is another one"),
-        NoC::Memory => eprintln!(rt; "{line}"),
     }
 }
