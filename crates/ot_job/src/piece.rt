@@ -101,7 +101,7 @@ impl Piece {
             lent,
         } = self;
         let mut lent = lent;
-        assign_all(assigns.as_slice(), &mut lent);
+        assign_all(&assigns, &mut lent);
         let answer = answer(condition.as_ref(), &lent);
         Done {
             task,

@@ -2,7 +2,7 @@
 use Rattle.std.proofs.Common.{nat_lt, if◌then◌else◌, tests, ◌≡◌, ℕ, ◌+◌, ◌/◌, ◌%◌, ◌^◌, List, [], ◌∷◌, ◌++◌, Bool, true, false, refl, sym, ap, ap₂, ◌∙◌, append_assoc, append-nil, true≢false, arith, ◌<◌, ◌≤◌, length, get_or, drop}
 use Rattle.std.specs.Prelude.{◌↔◌, IsTrue}
 use Rattle.std.proofs.lemmas.List.{drop_more, drop_all}
-use Rattle.ot_model.specs.Tree.{E, Literal, CellAt, Apply, PickFrom, S, Set, Fold, Body, End, Next}
+use Rattle.ot_model.specs.Tree.{E, Literal, CellAt, Apply, PickFrom, S, Set, Fold, Body, Next}
 use Rattle.ot_model.specs.declared.expr.Cell.{Cell}
 use Rattle.ot_model.specs.declared.expr.Section.{Section}
 use Rattle.ot_model.specs.declared.expr.Op.{Op}
@@ -145,7 +145,7 @@ same-bytes (x ∷ xs) (y ∷ ys) h =
     let r = same-assign x y (bytes_of (assigns_of xs)) (bytes_of (assigns_of ys)) h in
     ap₂ Next r.0 (same-bytes xs ys r.1)
 
-split : (xs : List Assign) (i : ℕ) (x : Assign) → i < length xs → x ≡ get_or xs i x → assigns_of (drop i xs) ≡ Next (assign_of x) (assigns_of (drop (i + 1) xs))
+pub split : (xs : List Assign) (i : ℕ) (x : Assign) → i < length xs → x ≡ get_or xs i x → assigns_of (drop i xs) ≡ Next (assign_of x) (assigns_of (drop (i + 1) xs))
 split xs i x within is = ap assigns_of (drop_more xs i x within) ∙ ap (λ a. Next (assign_of a) (assigns_of (drop (i + 1) xs))) (sym is)
 
 -- the bytes of one more are written

@@ -5,6 +5,7 @@ pub mod TouchedLemmas
 pub mod HoldingLemmas
 pub mod LeadingLemmas
 pub mod ByteLemmas
+pub mod StepLemmas
 pub mod SamePartLemmas
 pub mod FitLemmas
 pub mod MakeLemmas

@@ -1,9 +1,11 @@
-ghost use Rattle.std.specs.Prelude.{◌≡◌, ◌↔◌, IsTrue, IfOk, MatchResult};
+ghost use Rattle.std.specs.Prelude.{◌≡◌, ◌↔◌, IsTrue, IfOk, MatchResult, map};
 ghost use Rattle.ot_parts.specs.Assigns.{assigns_of};
 
 use crate::assign::Assign;
 use crate::bytes::same_bytes;
 use crate::listed::Listed;
+use crate::step::Step;
+use ot_model::Use;
 use std::alloc::{AllocError, Global};
 use std::marker::Model;
 use std::sync::Arc;
@@ -34,6 +36,7 @@ impl Assigns {
     ghost use Rattle.ot_model.specs.Tree.{End};
     ghost use Rattle.ot_parts.specs.Parts.{leading, leading_len};
     ghost use Rattle.ot_parts.specs.Bytes.{bytes_of};
+    ghost use Rattle.ot_parts.specs.Steps.{deed_of, deeds_of};
 
     /// None. It takes no memory.
     pub(crate) fn none() -> Assigns
@@ -42,14 +45,18 @@ impl Assigns {
         Assigns { list: None }
     }
 
-    /// Those of a list. Of none it takes no memory.
-    pub(crate) fn new(alloc: Global, list: Vec<Assign>) -> Result<Assigns, AllocError>
+    /// Those of a list, which these uses are for. Of none it takes no memory.
+    pub(crate) fn new(
+        alloc: Global,
+        list: Vec<Assign>,
+        uses: &[Use],
+    ) -> Result<Assigns, AllocError>
         ensures { IfOk result (λ a. a ≡ assigns_of list.items) }
     {
         if list.is_empty() {
             return Ok(Assigns::none());
         }
-        match Arc::new(alloc, Listed::new(alloc, list)?) {
+        match Arc::new(alloc, Listed::new(alloc, list, uses)?) {
             Ok(list) => Ok(Assigns { list: Some(list) }),
             Err(_) => Err(AllocError),
         }
@@ -101,6 +108,17 @@ impl Assigns {
         let _one = self.as_slice();
         let _two = other.as_slice();
         same_bytes(self.bytes(), other.bytes())
+    }
+
+    /// The steps by which they are made, from the first to the last. Each looks for its cell first where that is
+    /// lent with all that the run touches.
+    pub fn steps(&self) -> &[Step]
+        ensures { map deed_of result.now ≡ deeds_of self.now }
+    {
+        match &self.list {
+            None => &[],
+            Some(list) => list.steps(),
+        }
     }
 
     /// Their bytes.

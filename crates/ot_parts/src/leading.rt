@@ -58,7 +58,7 @@ impl Leading {
     {
         let uses = touched(alloc, &run, condition.as_ref())?;
         Ok(Leading {
-            assigns: Assigns::new(alloc, run)?,
+            assigns: Assigns::new(alloc, run, uses.uses())?,
             condition,
             held: hold(alloc, &uses, own)?,
         })

@@ -16,6 +16,8 @@ mod part;
 mod rest;
 mod run;
 mod same;
+mod step;
+mod steps;
 mod touched;
 mod weigh;
 
@@ -27,3 +29,4 @@ pub use part::Part;
 pub use rest::Rest;
 pub use run::{Run, Tested};
 pub use same::same_parts;
+pub use step::Step;

@@ -67,7 +67,7 @@ impl Run {
         ensures { IfOk result (λ run. run.assigns ≡ assigns_of assigns.items) }
     {
         let uses = touched(alloc, &assigns, None)?;
-        let assigns = Assigns::new(alloc, assigns)?;
+        let assigns = Assigns::new(alloc, assigns, uses.uses())?;
         Ok(Run { assigns, uses })
     }
 
@@ -98,7 +98,7 @@ impl Tested {
         ensures test { IfOk result (λ run. run.test ≡ expr_of test) }
     {
         let uses = touched(alloc, &assigns, Some(&test))?;
-        let assigns = Assigns::new(alloc, assigns)?;
+        let assigns = Assigns::new(alloc, assigns, uses.uses())?;
         Ok(Tested {
             assigns,
             test,

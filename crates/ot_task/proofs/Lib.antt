@@ -1,5 +1,7 @@
 pub mod CellLemmas
 pub mod AssignLemmas
+pub mod DeedLemmas
+pub mod StackLemmas
 pub mod PieceLemmas
 pub mod HeldLemmas
 pub mod GroupLemmas

@@ -7,3 +7,4 @@ pub mod Copies
 pub mod Assigns
 -- what only this crate knows
 pub mod RegionView
+pub mod Deeds

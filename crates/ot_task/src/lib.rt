@@ -12,6 +12,7 @@ mod place;
 mod prepared;
 mod running;
 mod same;
+mod stack;
 mod task;
 mod waiting;
 

@@ -1,4 +1,4 @@
-use Rattle.std.proofs.Common.{arith, ◌≡◌, ◌∙◌}
+use Rattle.std.proofs.Common.{arith, ◌∙◌}
 use Rattle.ot_parts.proofs.ByteLemmas.{written, ended}
 use Rattle.ot_parts.proofs.bytes.bytes_of.Goals as goal
 

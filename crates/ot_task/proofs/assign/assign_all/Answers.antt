@@ -1,21 +1,41 @@
-use Rattle.std.proofs.Common.{rules, ◌≡◌, ◌∙◌, ◌+◌, List, ◌∷◌, ap, sym, subst, drop}
-use Rattle.std.proofs.lemmas.List.{drop_more}
-use Rattle.ot_owner.specs.Lending.{value_at}
-use Rattle.ot_task.specs.Copies.{assigned}
-use Rattle.ot_task.specs.Assigns.{assigns_of, assign_of, CanAssign}
-use Rattle.ot_parts.specs.declared.assign.Assign.{Assign}
-use Rattle.ot_task.proofs.AssignLemmas.{can-kept, assigned-first, can-rest, is_assign}
+use Rattle.std.proofs.Common.{◌≡◌, ◌∙◌, ◌<◌, ◌^◌, List, [], length, map, ap, refl, sym, subst, arith, length-map}
+use Rattle.ot_parts.specs.Steps.{Deed, deed_of, deeds_of}
+use Rattle.ot_owner.specs.Lending.{value_at, lease_of}
+use Rattle.ot_task.specs.Copies.{Look, assigned}
+use Rattle.ot_task.specs.Deeds.{made, CanDoAll}
+use Rattle.ot_task.proofs.DeedLemmas.{can-assign, changed-some, made-assigned, none-left, rest-can, step-can, step-made}
 use Rattle.ot_task.proofs.assign.assign_all.Goals as goal
 
-pub loop-assign-preserved : goal.loop-assign-preserved
-loop-assign-preserved c =
-    let xs : List Assign = c.args.assigns.now in
-    let more : List Assign = drop (c.loop-assign.assign-index + 1) xs in
-    let split : drop c.loop-assign.assign-index xs ≡ c.assign-item.result ∷ more = drop_more xs c.loop-assign.assign-index c.assign-item.result (search rules) ∙ ap (λ (a : Assign). a ∷ more) (sym c.assign-item.is) in
-    let can = subst (λ (l : List Assign). CanAssign (assigns_of l) c.loop-assign.lent) split c.loop-assign.invariant.2 in (
-      c.assign_one.ensures.lease ∙ c.loop-assign.invariant.0,
-      λ cell. assigned-first (assign_of c.assign-item.result) (assigns_of more) (value_at c.loop-assign.lent) (value_at c.assign_one.new.lent) c.assign_one.ensures.made cell (is_assign c.assign-item.result)
-          ∙ ap (λ (l : List Assign). assigned (assigns_of l) (value_at c.loop-assign.lent) cell) (sym split) ∙ c.loop-assign.invariant.1 cell,
-      can-kept (assigns_of more) c.loop-assign.lent c.assign_one.new.lent c.assign_one.ensures.lease c.assign_one.ensures.there (can-rest (assign_of c.assign-item.result) (assigns_of more) c.loop-assign.lent (is_assign c.assign-item.result) can),
-      λ cell some. c.assign_one.ensures.there cell (c.loop-assign.invariant.3 cell some),
+-- (not checked yet: the names of the loop's element are guesses)
+pub loop-step-init : goal.loop-step-init
+loop-step-init c =
+    let lent = c.args.lent.now in
+    let body = c.args.assigns.now in
+    let steps = c.steps-steps.result.now in
+    let is : map deed_of steps ≡ deeds_of body = c.steps-steps.ensures in
+    let short : length (deeds_of body) < 2 ^ 64 = ? in (
+      refl,
+      λ cell. ap (λ (ns : List _). made (map deed_of steps) ns (value_at lent) cell) c.new-stack.ensures ∙ ap (λ (ds : List Deed). made ds [] (value_at lent) cell) is
+          ∙ ap (λ (f : Look). f cell) (made-assigned body (value_at lent)),
+      subst (λ (ns : List _). CanDoAll lent (length ns) (map deed_of steps)) (sym c.new-stack.ensures) (subst (CanDoAll lent 0) (sym is) (can-assign lent body c.requires short)),
+      λ cell some. some,
     )
+
+pub make-requires : goal.make-requires
+make-requires c = (step-can c.loop-step.lent c.steps-steps.result.now c.loop-step.step-index ? (length c.loop-step.stack) c.loop-step-test.true ? c.loop-step.invariant.2).0
+
+pub loop-step-preserved : goal.loop-step-preserved
+loop-step-preserved c =
+    let steps = c.steps-steps.result.now in
+    let i = c.loop-step.step-index in
+    let look = value_at c.loop-step.lent in (
+      c.make.ensures.lease ∙ c.loop-step.invariant.0,
+      λ cell. step-made steps i ? c.loop-step.stack c.make.new.stack look (value_at c.make.new.lent) c.loop-step-test.true ? c.make.ensures.stacked c.make.ensures.changed cell
+          ∙ c.loop-step.invariant.1 cell,
+      rest-can c.loop-step.lent c.make.new.lent steps i ? c.loop-step.stack c.make.new.stack look c.loop-step-test.true ? c.make.ensures.lease c.make.ensures.stacked c.loop-step.invariant.2,
+      λ cell some. ?,
+    )
+
+pub returns-clause-made : goal.returns-clause-made
+returns-clause-made c = λ cell.
+    none-left c.steps-steps.result.now c.loop-step.step-index c.loop-step.stack (value_at c.loop-step.lent) cell (omega (arith, c.loop-step-test.false)) ∙ c.loop-step.invariant.1 cell

@@ -12,7 +12,7 @@ pub invariant_of-result : goal.invariant_of-result
 invariant_of-result c =
     record {
       made = made-of c.self.inside.assigns c.self.inside.lent c.assign_all.new.lent c.assign_all.ensures.lease c.self.invariant.fresh
-          (λ cell. c.assign_all.ensures.made cell ∙ ap (λ (b : Body). assigned b (value_at c.self.inside.lent) cell) c.as_slice.ensures);
+          c.assign_all.ensures.made;
       told = c.answer-answer.ensures ∙ through (λ e. e.now) (λ e. val (value_at c.assign_all.new.lent) (expr_of e)) c.as_ref.result c.self.inside.condition c.as_ref.ensures.value
           ∙ through expr_of (λ x. val (value_at c.assign_all.new.lent) x) c.self.inside.condition (option_map expr_of c.self.inside.condition) refl;
     }
@@ -21,7 +21,7 @@ pub returns-clause-made : goal.returns-clause-made
 returns-clause-made c =
     record {
       made = made-of c.self.inside.assigns c.self.inside.lent c.assign_all.new.lent c.assign_all.ensures.lease c.self.invariant.fresh
-          (λ cell. c.assign_all.ensures.made cell ∙ ap (λ (b : Body). assigned b (value_at c.self.inside.lent) cell) c.as_slice.ensures);
+          c.assign_all.ensures.made;
       told = c.answer-answer.ensures ∙ through (λ e. e.now) (λ e. val (value_at c.assign_all.new.lent) (expr_of e)) c.as_ref.result c.self.inside.condition c.as_ref.ensures.value
           ∙ through expr_of (λ x. val (value_at c.assign_all.new.lent) x) c.self.inside.condition (option_map expr_of c.self.inside.condition) refl;
     }
