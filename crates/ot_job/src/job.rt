@@ -297,14 +297,15 @@ pub fn is_out(tasks: &[Task], done: &Done) -> bool
     done.is_of(&tasks[task])
 }
 
-/// The cells as a job begins with them, and its root task.
+/// The cells as a job begins with them, and its root task, with room for all tasks that its program may create.
 pub(crate) fn beginning(alloc: Global, spec: &JobSpec) -> Result<(Cells, Tasks), AllocError>
     ensures cells { IfOk result (λ parts. parts.0 ≡ spec.now.before) }
     ensures named { IfOk result (λ parts. NamedIn (lengths spec.now.before) (expanded_of spec.now.checked.program).body) }
     ensures root { IfOk result (λ parts. parts.1 ≡ root_region (expanded_of spec.now.checked.program).body ∷ []) }
 {
     let cells = spec.before().copy(alloc)?;
-    let body = Arc::try_clone(&spec.checked().parts)?;
-    let tasks = Tasks::root(alloc, body)?;
+    let checked = spec.checked();
+    let body = Arc::try_clone(&checked.parts)?;
+    let tasks = Tasks::root(alloc, body, checked.program.tasks)?;
     Ok((cells, tasks))
 }

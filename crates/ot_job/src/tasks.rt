@@ -45,11 +45,11 @@ impl Tasks {
     ghost use Rattle.ot_job.specs.Dealings.{any_out, all_ended};
     ghost use Rattle.ot_job.specs.Calls.{HasPiece, MayEnd, MayFinish};
 
-    /// The root task alone, at the beginning of the program's body.
-    pub fn root(alloc: Global, body: Arc<Vec<Part>>) -> Result<Tasks, AllocError>
+    /// The root task alone, at the beginning of the program's body. There is room for so many more tasks.
+    pub fn root(alloc: Global, body: Arc<Vec<Part>>, more: u32) -> Result<Tasks, AllocError>
         ensures { IfOk result (λ tasks. tasks ≡ root_region (parts_of (arc_value body).items) ∷ []) }
     {
-        let mut tasks = Vec::with_capacity(alloc, 1)?;
+        let mut tasks = Vec::with_capacity(alloc, more as usize + 1)?;
         let roster = Roster::alone(alloc)?;
         tasks.push_reserved(Task::root(alloc, body));
         Ok(Tasks { tasks, roster })
