@@ -5,7 +5,7 @@ use Rattle.ot_model.specs.declared.expr.Cell.{Cell}
 use Rattle.ot_owner.specs.Lending.{first_at, value_at}
 use Rattle.ot_owner.specs.declared.lent.LentCell.{LentCell}
 use Rattle.ot_task.specs.Copies.{assigned}
-use Rattle.ot_task.specs.Pieces.{Runs}
+use Rattle.ot_task.specs.Pieces.{Runs, leading_len}
 use Rattle.ot_task.specs.Regions.{Region}
 use Rattle.ot_job.specs.Numbered.{at}
 
@@ -23,6 +23,10 @@ pub record Came : Type 0 where
   pub test : Option E
   pub lent : List LentCell
   pub answer : Option ℕ
+
+-- whether it has fewer than 64 sets and folds
+abbrev pub is_short : Taken → Bool
+is_short p = nat_lt (leading_len p.assigns) 64
 
 -- it was run: its copies have what its assigns make of the inputs, and the answer is its condition's value on them
 pub record IsRun (d : Came) : Type 0 where

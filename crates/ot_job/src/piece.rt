@@ -67,6 +67,7 @@ impl Model for Done {
 impl Piece {
     ghost use Rattle.ot_task.specs.Assigns.{CanRun};
     ghost use Rattle.ot_job.specs.Dealings.{brought, work_of};
+    ghost use Rattle.ot_job.specs.Taken.{is_short};
 
     /// A piece that may be run on these copies.
     pub(crate) fn new(task: u32, assigns: Assigns, condition: Option<Expr>, lent: Lent) -> Piece
@@ -86,6 +87,13 @@ impl Piece {
         ensures { result ≡ self.now.task }
     {
         self.task
+    }
+
+    /// Whether it has fewer than 64 sets and folds, which take about as long as to claim it and to take it back.
+    pub fn is_short(&self) -> bool
+        ensures { result ≡ is_short self.now }
+    {
+        self.assigns.len() < 64
     }
 
     /// Makes the assignments on the copies, and evaluates the condition. It takes no memory.

@@ -1,7 +1,7 @@
 -- What a worker's round does, and whom it wakes.
 use Rattle.std.specs.Prelude.{◌≡◌, ◌⊎◌, ◌&&◌, ℕ, Bool, true, false, not, Option, Some, None, option_map}
 use Rattle.ot_job.specs.Dealings.{state_of}
-use Rattle.ot_job.specs.Taken.{Came as Done}
+use Rattle.ot_job.specs.Taken.{Came as Done, is_short}
 use Rattle.ot_core.specs.Floors.{job_of, NothingAnywhere}
 use Rattle.ot_pool.specs.declared.hub.Claimed.{Claimed}
 use Rattle.ot_pool.specs.declared.hub.Claimed.TheVariants as claimed
@@ -38,6 +38,11 @@ is_over (Some t) s = not (is_pending s t)
 abbrev pub is_aborted : Claimed → Bool
 is_aborted (claimed.Aborted t) = true
 is_aborted _ = false
+
+-- a claim gave a short piece
+abbrev pub is_short_piece : Claimed → Bool
+is_short_piece (claimed.Got t piece) = is_short piece
+is_short_piece _ = false
 
 -- a worker waits and none looks, and a task is claimable
 abbrev pub CallsWorkers : Bool → Shared → Type 0

@@ -48,6 +48,16 @@ impl Claimed {
     {
         matches!(self, Claimed::Aborted(_))
     }
+
+    // Whether it is a short piece.
+    pub(crate) fn is_short(&self) -> bool
+        ensures { result ≡ is_short_piece self.now }
+    {
+        match self {
+            Claimed::Got(_, piece) => piece.is_short(),
+            Claimed::Idle | Claimed::Aborted(_) | Claimed::Closed => false,
+        }
+    }
 }
 
 impl<L: Ledger> Model for Hub<L> {
@@ -286,7 +296,7 @@ impl<L: Ledger> Hub<L> {
 ghost use Rattle.ot_check.specs.Jobs.{IsMeaning, Spec};
 ghost use Rattle.ot_job.specs.Dealings.{Starts, IsOf, IsOver, state_of};
 ghost use Rattle.ot_book.specs.declared.executor.NotDone.TheVariants.{Stranger};
-ghost use Rattle.ot_pool.specs.Rounds.{is_aborted, is_pending};
+ghost use Rattle.ot_pool.specs.Rounds.{is_aborted, is_pending, is_short_piece};
 ghost use Rattle.ot_pool.specs.Shared.{new_shared, Submits, Enters, RefusesSpec, RefusesJob, ClaimsAny, ReturnsPiece, Collects, Leaves, Shared, HasRoomForUnits};
 ghost use Rattle.ot_pool.specs.declared.tickets.Ticket.{Ticket};
 

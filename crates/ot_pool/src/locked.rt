@@ -1,6 +1,6 @@
 ghost use Rattle.std.specs.Prelude.{◌≡◌, ◌<◌, ◌≤◌, ◌↔◌, ◌&&◌, ◌==◌, ◌+◌, ◌-◌, ◌%◌, ◌^◌, IsTrue, not, true, false, IfOk, IfErr, sum, vec_len};
 ghost use Rattle.std.specs.List.{sum_by};
-ghost use Rattle.ot_pool.specs.Rounds.{TakesBack, Rounds, IsToTell, CallsWorkers, client_of, is_over, is_aborted};
+ghost use Rattle.ot_pool.specs.Rounds.{TakesBack, Rounds, IsToTell, CallsWorkers, client_of, is_over, is_aborted, is_short_piece};
 ghost use Rattle.ot_pool.specs.Shared.{Enters, RefusesJob, Leaves};
 
 use crate::hub::{Claimed, Hub};
@@ -88,7 +88,8 @@ impl<L: Ledger> Locked<L> {
 
     /// What a worker does in one hold of the lock: it hands back the piece that it ran, where there is one, and
     /// claims the next. Beside what it got stands whether it is to tell all that wait: where the client whose piece
-    /// came back may go on, where a job was aborted, or where a worker that waits may go on.
+    /// came back may go on, where a job was aborted, or where a worker that waits may go on, and what it got is no short
+    /// piece that it runs at once.
     pub(crate) fn round(
         &mut self,
         alloc: Global,
@@ -96,11 +97,12 @@ impl<L: Ledger> Locked<L> {
         back: Option<(u32, Done)>,
         share: &mut Share<L>,
         worker: u32,
+        at_once: bool,
     ) -> (Claimed, bool)
         requires parts { 0 < share.old.parts }
         requires worker { (1 ≤ worker) × (worker ≤ 16) }
         ensures does { Rounds self.old.hub back turn worker result.0 self.new.hub }
-        ensures tells { IsTrue result.1 ↔ IsToTell back result.0 (self.old.worker_waits && self.old.lookers == 0) self.new.hub }
+        ensures tells { IsTrue result.1 ↔ IsToTell back result.0 ((self.old.worker_waits && self.old.lookers == 0) && not (at_once && is_short_piece result.0)) self.new.hub }
         ensures mark { self.new.worker_waits ≡ (self.old.worker_waits && not result.1) }
         ensures lookers { self.new.lookers ≡ self.old.lookers }
         ensures kept { share.new.parts ≡ share.old.parts }
@@ -109,7 +111,9 @@ impl<L: Ledger> Locked<L> {
         let claimed = self.hub.claim(alloc, turn, worker);
         let is_over = self.is_over(client);
         let is_aborted = claimed.is_aborted();
-        let calls = self.calls_workers();
+        let is_short = claimed.is_short();
+        let is_back_soon = at_once && is_short;
+        let calls = self.calls_others(is_back_soon);
         let tells = is_over || is_aborted || calls;
         if tells {
             self.worker_waits = false;
@@ -164,6 +168,20 @@ impl<L: Ledger> Locked<L> {
             return false;
         };
         !self.hub.is_pending(tenant)
+    }
+
+    // As `calls_workers`, where the worker that asks isn't back soon: one that is finds the task in its next hold, or asks
+    // there again.
+    fn calls_others(&mut self, is_back_soon: bool) -> bool
+        ensures calls { IsTrue result ↔ CallsWorkers ((self.old.worker_waits && self.old.lookers == 0) && not is_back_soon) self.old.hub }
+        ensures mark { self.new.worker_waits ≡ (self.old.worker_waits && not result) }
+        ensures lookers { self.new.lookers ≡ self.old.lookers }
+        ensures hub { self.new.hub ≡ self.old.hub }
+    {
+        if is_back_soon {
+            return false;
+        }
+        self.calls_workers()
     }
 
     /// Whether a worker that waits may go on, and none looks, who would find the task. The caller is to tell all that

@@ -73,7 +73,8 @@ impl<L: Ledger> Pool<L> {
 
     /// Hands back the piece that was run before, where there is one, and waits for a claimable one, which goes to
     /// worker `worker`, 1 to 16: both in one hold of the lock, if a task is claimable then. None comes once the pool
-    /// is closed. What comes back is counted in the share.
+    /// is closed. What comes back is counted in the share. A worker that runs each piece `at_once` is back soon with a short
+    /// one, and tells no other worker of what is claimable then.
     pub(crate) fn next<R: Wait>(
         &self,
         rt: &R,
@@ -82,6 +83,7 @@ impl<L: Ledger> Pool<L> {
         back: Option<(u32, Done)>,
         share: &mut Share<L>,
         worker: u32,
+        at_once: bool,
     ) -> Option<(u32, Piece)>
         requires parts { 0 < share.old.parts }
         requires worker { (1 ≤ worker) × (worker ≤ 16) }
@@ -94,7 +96,7 @@ impl<L: Ledger> Pool<L> {
         };
         let mut looks = 0u32;
         let mut locked = self.hold(rt);
-        let mut round = locked.round(alloc, turn, back, share, worker);
+        let mut round = locked.round(alloc, turn, back, share, worker, at_once);
         for _ in rt.forever() {
             let (claimed, tells) = round;
             match claimed {
@@ -112,7 +114,7 @@ impl<L: Ledger> Pool<L> {
                     locked = self.pass(rt, locked, tells, &mut looks, &mut held);
                 }
             }
-            round = locked.round(alloc, turn, None, share, worker);
+            round = locked.round(alloc, turn, None, share, worker, at_once);
         }
         unreachable!()
     }

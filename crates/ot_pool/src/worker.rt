@@ -22,9 +22,11 @@ pub fn work<G: Gate + Drop, L: Ledger, R: Wait>(
 {
     // Workers begin with different tenants, and go on to the next one at each claim.
     let mut turn = u64::from(worker);
+    let at_once = !gate.may_hold();
     let mut back = None;
     for _ in rt.forever() {
-        let Some((tenant, piece)) = pool.next(rt, alloc, turn, back, &mut share, worker) else {
+        let next = pool.next(rt, alloc, turn, back, &mut share, worker, at_once);
+        let Some((tenant, piece)) = next else {
             return share;
         };
         turn = turn.wrapping_add(1);
