@@ -152,7 +152,8 @@ pub(crate) fn job_over(
     ensures before { IfOk result (λ made. made.0.before ≡ cells_in store.now) }
     ensures shows { IfOk result (λ made. map (λ l. length l.items) made.1.items ≡ map (λ s. s.len) (arc_value checked).program.shows.items) }
 {
-    let before = store.cells(alloc)?;
+    let cells = store.cells(alloc)?;
+    let before = Arc::new(alloc, cells)?;
     let shows = empty_lists(alloc, &checked.program.shows)?;
     Ok((JobSpec::new(checked, before), shows))
 }

@@ -5,11 +5,12 @@ use std::alloc::{AllocError, Global};
 use std::marker::Model;
 use std::sync::Arc;
 
-/// A checked program with the cells that it begins with: each cell that it names is one of them.
+/// A checked program with the cells that it begins with: each cell that it names is one of them. Both are shared with
+/// its copies.
 #[derive(Debug, Drop)]
 pub struct JobSpec {
     checked: Arc<Checked>,
-    before: Cells,
+    before: Arc<Cells>,
 }
 
 impl Model for JobSpec {
@@ -25,9 +26,9 @@ impl Model for JobSpec {
     ghost use Rattle.ot_model.specs.Programs.{expanded_of, IsNamedIn};
     ghost use Rattle.std.specs.Arc.{arc_value};
 
-    ghost view = { λ s. record { checked = arc_value s.checked; before = s.before } };
+    ghost view = { λ s. record { checked = arc_value s.checked; before = arc_value s.before } };
 
-    ghost invariant = { λ s. IsNamedIn (lengths s.before) (expanded_of (arc_value s.checked).program) };
+    ghost invariant = { λ s. IsNamedIn (lengths (arc_value s.before)) (expanded_of (arc_value s.checked).program) };
 }
 
 impl JobSpec {
@@ -36,10 +37,10 @@ impl JobSpec {
     ghost use Rattle.std.specs.Arc.{arc_value};
 
     /// The program and its cells, among which are all that it names. It takes no memory.
-    pub fn new(checked: Arc<Checked>, before: Cells) -> JobSpec
-        requires { IsNamedIn (lengths before) (expanded_of (arc_value checked).program) }
+    pub fn new(checked: Arc<Checked>, before: Arc<Cells>) -> JobSpec
+        requires { IsNamedIn (lengths (arc_value before)) (expanded_of (arc_value checked).program) }
         ensures checked { result.checked ≡ arc_value checked }
-        ensures before { result.before ≡ before }
+        ensures before { result.before ≡ arc_value before }
     {
         JobSpec { checked, before }
     }
@@ -67,12 +68,13 @@ impl JobSpec {
         Arc::try_clone(&self.checked)
     }
 
-    /// The same spec once more.
-    pub fn copy(&self, alloc: Global) -> Result<JobSpec, AllocError>
+    /// The same spec once more, held with this one. It takes no memory, and is refused only where more hold the program or
+    /// the cells than can be counted.
+    pub fn copy(&self, _alloc: Global) -> Result<JobSpec, AllocError>
         ensures { IfOk result (λ copied. AreSame copied self.now) }
     {
         let checked = Arc::try_clone(&self.checked)?;
-        let before = self.before.copy(alloc)?;
+        let before = Arc::try_clone(&self.before)?;
         Ok(JobSpec { checked, before })
     }
 

@@ -63,7 +63,7 @@ pub fn job_over(alloc: Global, array: Vec<u64>, body: &str) -> Result<JobSpec, P
         return Err(ProgramFault::Memory);
     };
     let checked = Arc::new(alloc, checked)?;
-    let before = Cells::new(vec![in alloc; array]?);
+    let before = Arc::new(alloc, Cells::new(vec![in alloc; array]?))?;
     Ok(JobSpec::new(checked, before))
 }
 
