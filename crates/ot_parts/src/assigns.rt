@@ -46,11 +46,7 @@ impl Assigns {
     }
 
     /// Those of a list, which these uses are for. Of none it takes no memory.
-    pub(crate) fn new(
-        alloc: Global,
-        list: Vec<Assign>,
-        uses: &[Use],
-    ) -> Result<Assigns, AllocError>
+    pub(crate) fn new(alloc: Global, list: Vec<Assign>, uses: &[Use]) -> Result<Assigns, AllocError>
         ensures { IfOk result (λ a. a ≡ assigns_of list.items) }
     {
         if list.is_empty() {

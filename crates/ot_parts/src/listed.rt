@@ -40,11 +40,7 @@ impl Listed {
     ghost use Rattle.ot_parts.specs.Steps.{deed_of, deeds_of};
 
     /// Those of a list, which these uses are for.
-    pub(crate) fn new(
-        alloc: Global,
-        list: Vec<Assign>,
-        uses: &[Use],
-    ) -> Result<Listed, AllocError>
+    pub(crate) fn new(alloc: Global, list: Vec<Assign>, uses: &[Use]) -> Result<Listed, AllocError>
         ensures { IfOk result (λ l. l ≡ assigns_of list.items) }
     {
         let bytes = bytes_of(alloc, &list)?;

@@ -52,7 +52,11 @@ fn value_steps(alloc: Global, value: &Expr, uses: &[Use]) -> Result<Vec<Step>, A
         Expr::Cell(cell) => alone(alloc, Step::Cell(place_of(uses, *cell), *cell)),
         Expr::Pick(section, chosen) => {
             let chosen = value_steps(alloc, chosen, uses)?;
-            chain(chosen, &[], Step::Pick(place_of(uses, first_cell(*section)), *section))
+            chain(
+                chosen,
+                &[],
+                Step::Pick(place_of(uses, first_cell(*section)), *section),
+            )
         }
         Expr::Op(op, one, two) => {
             let one = value_steps(alloc, one, uses)?;
