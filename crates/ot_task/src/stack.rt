@@ -44,7 +44,8 @@ impl Stack {
     /// Takes the number on top.
     pub(crate) fn pop(&mut self) -> u64
         requires { 0 < length self.old }
-        ensures { self.old ≡ result ∷ self.new }
+        ensures taken { self.old ≡ result ∷ self.new }
+        ensures room { length self.new < 64 }
     {
         self.height -= 1;
         self.numbers[self.height]
