@@ -2,19 +2,16 @@
 use Rattle.std.proofs.Common.{◌≡◌, ◌<◌, ℕ, zero, suc, List, [], ◌∷◌, length, get_or, refl, sym, ap, ◌∙◌, arith}
 use Rattle.std.specs.Prelude.{Some, IsSome, slice_get, option_map, if◌then◌else◌}
 use Rattle.std.proofs.lemmas.Option.{same_Some}
-use Rattle.ot_model.specs.Tree.{E, Literal, CellAt, Apply, PickFrom, S, Set, Fold, If, Task, Wait, Group, Body, End, Next, val, HasAll}
+use Rattle.ot_model.specs.Tree.{E, Literal, CellAt, Apply, PickFrom, Set, Fold, If, Task, Wait, Group, Body, End, Next, val, HasAll}
 use Rattle.ot_model.specs.Joining.{join_by}
 use Rattle.ot_model.specs.declared.expr.Cell.{Cell}
 use Rattle.ot_model.specs.declared.stmt.Use.{Use}
 use Rattle.ot_model.specs.Cells.{same_cell}
 use Rattle.ot_check.proofs.Cited.{value-same, read-weaker}
-use Rattle.ot_owner.specs.Lending.{value_at, MayChange, uses_of, use_of, Lease, lease_of}
+use Rattle.ot_owner.specs.Lending.{MayChange, uses_of, use_of, Lease, lease_of}
 use Rattle.ot_owner.specs.declared.lent.LentCell.{LentCell}
 use Rattle.ot_task.specs.Copies.{Look, with_copy, assigned}
 use Rattle.ot_check.specs.Offences.{EachRead}
-use Rattle.ot_task.specs.Assigns.{CanAssign, assign_of}
-use Rattle.ot_parts.specs.declared.assign.Assign.{Assign}
-use Rattle.ot_parts.specs.declared.assign.Assign.TheVariants as v
 
 pub read-all : (P : Cell → Type 0) → ((c : Cell) → P c) → (e : E) → EachRead P e
 read-all P h e = read-weaker (λ c. Unit {0}) P e (λ c u. h c) (units e)
@@ -65,38 +62,3 @@ change-kept lent now c same (k, l, within, is, both) = found now k (ap (λ (x : 
 
     found : (now : List LentCell) (k : ℕ) → uses_of now ≡ uses_of lent → k < length lent → get_or lent k l ≡ l → MayChange now c
     found now k e w i = any-at now k (ap (λ us. slice_get us k) e ∙ uses-at lent k l w i)
-
-pub can-kept : (b : Body) (lent now : List LentCell) → lease_of now ≡ lease_of lent → ((c : Cell) → IsSome (value_at lent c) → IsSome (value_at now c)) → CanAssign b lent → CanAssign b now
-can-kept (Next (Set c e) rest) lent now same kept h = (all-kept (value_at lent) (value_at now) e kept h.0, change-kept lent now c same h.1, can-kept rest lent now same kept h.2)
-can-kept (Next (Fold o c e) rest) lent now same kept h = (all-kept (value_at lent) (value_at now) e kept h.0, change-kept lent now c same h.1, can-kept rest lent now same kept h.2)
-can-kept End lent now same kept h = tt
-can-kept (Next (If e a b) rest) lent now same kept h = tt
-can-kept (Next (Task d b) rest) lent now same kept h = tt
-can-kept (Next (Wait w) rest) lent now same kept h = tt
-can-kept (Next (Group o cs b) rest) lent now same kept h = tt
-
-abbrev pub IsAssign : S → Type 0
-IsAssign (Set c e) = Unit {0}
-IsAssign (Fold o c e) = Unit {0}
-IsAssign x = ⊥
-
--- the first statement, and then the rest
-pub assigned-first : (x : S) (rest : Body) (look now : Look) → ((c : Cell) → now c ≡ assigned (Next x End) look c) → (c : Cell) → IsAssign x → assigned rest now c ≡ assigned (Next x rest) look c
-assigned-first (Set d e) rest look now made c is = assigned-same rest now (with_copy look d (λ _. val look e)) made c
-assigned-first (Fold o d e) rest look now made c is = assigned-same rest now (with_copy look d (λ n. join_by o n (val look e))) made c
-assigned-first (If e a b) rest look now made c is = absurd is
-assigned-first (Task d b) rest look now made c is = absurd is
-assigned-first (Wait w) rest look now made c is = absurd is
-assigned-first (Group o cs b) rest look now made c is = absurd is
-
-pub can-rest : (x : S) (rest : Body) (lent : List LentCell) → IsAssign x → CanAssign (Next x rest) lent → CanAssign rest lent
-can-rest (Set d e) rest lent is h = h.2
-can-rest (Fold o d e) rest lent is h = h.2
-can-rest (If e a b) rest lent is h = absurd is
-can-rest (Task d b) rest lent is h = absurd is
-can-rest (Wait w) rest lent is h = absurd is
-can-rest (Group o cs b) rest lent is h = absurd is
-
-pub is_assign : (a : Assign) → IsAssign (assign_of a)
-is_assign (v.Set c e) = tt
-is_assign (v.Fold o c e) = tt

@@ -1,5 +1,5 @@
 -- Numbers that lie one on the other in an array.
-use Rattle.std.proofs.Common.{◌≡◌, ◌<◌, ◌≤◌, ◌+◌, ℕ, zero, suc, List, [], ◌∷◌, length, get_or, set, refl, ap, ap₂, ◌∙◌, arith}
+use Rattle.std.proofs.Common.{◌≡◌, ◌<◌, ◌≤◌, ◌+◌, ℕ, zero, suc, List, ◌∷◌, length, set, refl, ap, ap₂, ◌∙◌, arith}
 use Rattle.std.proofs.lemmas.List.{get_or-set_same, get_or-set_other}
 use Rattle.ot_task.specs.Deeds.{piled}
 
@@ -16,8 +16,3 @@ pub pushed : (h : ℕ) (ns : List ℕ) (n : ℕ) → h < length ns → piled (h 
 pushed h ns n within =
     let more : h + 1 ≡ suc h = omega arith in
     ap (λ k. piled k (set ns h n)) more ∙ ap₂ ◌∷◌ (get_or-set_same ns h n 0 within) (piled-set h h ns n (omega arith))
-
-pub popped : (h k : ℕ) (ns : List ℕ) → h ≡ k + 1 → piled h ns ≡ get_or ns k 0 ∷ piled k ns
-popped h k ns is =
-    let less : h ≡ suc k = omega arith in
-    ap (λ j. piled j ns) less

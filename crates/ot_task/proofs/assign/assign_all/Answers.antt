@@ -4,8 +4,8 @@ use Rattle.std.specs.Prelude.{IsSome}
 use Rattle.ot_parts.specs.declared.step.Step.{Step}
 use Rattle.ot_parts.specs.declared.step.Step.TheVariants as v
 use Rattle.ot_parts.specs.Steps.{Deed, deed_of, deeds_of}
-use Rattle.ot_owner.specs.Lending.{value_at, lease_of}
-use Rattle.ot_task.specs.Copies.{Look, assigned}
+use Rattle.ot_owner.specs.Lending.{value_at}
+use Rattle.ot_task.specs.Copies.{Look}
 use Rattle.ot_task.specs.Deeds.{made, CanDoAll}
 use Rattle.ot_task.proofs.DeedLemmas.{can-assign, changed-some, made-assigned, none-left, rest-can, step-can, step-made}
 use Rattle.ot_task.proofs.assign.assign_all.Goals as goal

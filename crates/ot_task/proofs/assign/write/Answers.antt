@@ -1,5 +1,4 @@
 use Rattle.std.proofs.Common.{ap, sym, ◌∙◌}
-use Rattle.std.specs.Prelude.{Some}
 use Rattle.ot_parts.specs.Steps.{Write}
 use Rattle.ot_owner.specs.Lending.{value_at}
 use Rattle.ot_task.specs.Deeds.{stacked, changed}
