@@ -1,5 +1,5 @@
-use Rattle.std.proofs.Common.{◌∙◌, ap, refl, option_map}
-use Rattle.ot_job.proofs.Common.{expr_of, val, value_at, Body, assigned}
+use Rattle.std.proofs.Common.{◌∙◌, refl, option_map}
+use Rattle.ot_job.proofs.Common.{expr_of, val, value_at}
 use Rattle.ot_job.proofs.RunLemmas.{readable-still, through, made-of}
 use Rattle.ot_job.proofs.piece.Piece.run.Goals as goal
 
