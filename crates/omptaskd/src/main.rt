@@ -1,10 +1,11 @@
 //! omptaskd, a task server for many tenants.
 #![tactic(auto)]
 
-ghost use Rattle.std.specs.Prelude.{◌≡◌, ◌≢◌, option_map};
+ghost use Rattle.std.specs.Prelude.{◌≡◌, ◌≢◌, Err, IsOk, MatchResult, option_map};
 ghost use Rattle.std.specs.Process.{exit_status};
 ghost use Rattle.clap.specs.Words.{kind_of};
 ghost use Rattle.ot_serve.specs.Serving.{status_of, IsInRange};
+ghost use Rattle.ot_serve.specs.Starting.{front_fault};
 ghost use Rattle.omptaskd.specs.Faults.{name_of, sim_fault};
 
 pub mod asked;
@@ -16,7 +17,7 @@ use clap::error::ErrorKind;
 pub use command_line::words;
 use ot_book::{Book, Solo};
 use ot_commands::hold_standard;
-use ot_front::{Reading, Writing, serve};
+use ot_front::{End, FrontFault, Reading, Writing, serve};
 pub use ot_serve::{Fault, Serve, bad_name, fault_line, serve_socket};
 pub use ot_sim::{SimFault, sim_lines};
 use ot_store::{Limits, Store};
@@ -114,8 +115,17 @@ fn solo<R: Input + Print>(rt: &R, alloc: Global) -> Result<(), Fault> {
     };
     let mut source = Reading::new(rt.reader());
     let mut sink = Writing::new(io::writer(rt));
-    let _ended = serve(alloc, &mut book, &mut Solo, &mut source, &mut sink)?;
-    Ok(())
+    solo_ended(serve(alloc, &mut book, &mut Solo, &mut source, &mut sink))
+}
+
+/// What the end of the one session is to the program.
+fn solo_ended(ended: Result<End, FrontFault>) -> Result<(), Fault>
+    ensures { MatchResult ended (λ _. IsOk result) (λ fault. result ≡ Err (front_fault fault)) }
+{
+    match ended {
+        Ok(_) => Ok(()),
+        Err(fault) => Err(Fault::from(fault)),
+    }
 }
 
 /// Moves a world of tenants by the lines of standard input.
