@@ -1,0 +1,6 @@
+mod OutlineLemmas
+pub mod StepLemmas
+pub mod FollowLemmas
+mod ApartLemmas
+pub mod AskedLemmas
+pub mod SectionLemmas

@@ -1,0 +1,9 @@
+pub mod Tree
+pub mod Appended
+pub mod View
+pub mod Programs
+pub mod Happens
+pub mod Followed
+pub mod Ways
+pub mod Apart
+pub mod Laws

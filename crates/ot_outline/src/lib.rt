@@ -1,0 +1,17 @@
+//! Outlines: what a text does with cells and tasks, step by step.
+#![tactic(auto)]
+
+mod decided;
+mod following;
+pub mod laws;
+mod outline;
+mod program;
+mod reads;
+mod step;
+mod ways;
+
+pub use following::follow;
+pub use outline::outline_of;
+pub use program::{NoProgram, program_of};
+pub use step::Step;
+pub use ways::{Asks, OneWay, Told, race_of};

@@ -1,0 +1,116 @@
+//! Races on the ways of whatever asks questions: as a text in C, of which not all values are known.
+ghost use Rattle.std.specs.Prelude.{◌≡◌, ◌<◌, ◌≤◌, ◌^◌, ◌++◌, ◌∷◌, [], ℕ, Bool, IfOk, length};
+ghost use Rattle.ot_outline.specs.Tree.{Steps, size};
+ghost use Rattle.ot_outline.specs.View.{steps_in};
+ghost use Rattle.ot_outline.specs.Followed.{answered, Fits};
+ghost use Rattle.ot_outline.specs.Ways.{IsStable, TellsOf};
+
+use crate::following::follow;
+use crate::step::Step;
+use ot_corder::{Order, judge_by};
+use ot_race::Race;
+use std::alloc::{AllocError, Global};
+
+/// One way: its steps, and how many questions were asked.
+#[derive(Drop)]
+pub struct OneWay {
+    pub steps: Vec<Step>,
+    pub asked: usize,
+}
+
+/// What asks questions on its way.
+pub trait Asks {
+    ghost use Rattle.std.specs.Prelude.{ℕ, Bool};
+    ghost use Rattle.ot_outline.specs.Tree.{Steps};
+
+    /// The steps on the way of these answers, without branches.
+    ghost steps_by: { Self → (ℕ → Bool) → Steps };
+
+    /// How many questions are asked there.
+    ghost asked_by: { Self → (ℕ → Bool) → ℕ };
+
+    /// The way of these answers; to further questions the answer is no.
+    fn way(&self, alloc: Global, answers: &[bool]) -> Result<OneWay, AllocError>
+        ensures steps { IfOk result (λ way. steps_in way.steps.items ≡ steps_by self.now (answered answers.now)) }
+        ensures asked { IfOk result (λ way. way.asked ≡ asked_by self.now (answered answers.now)) }
+        ensures fits { IfOk result (λ way. Fits (steps_in way.steps.items)) }
+        ensures few { IfOk result (λ way. size (steps_in way.steps.items) < 2 ^ 32) };
+
+    /// No more than these answers matter.
+    ghost stable: { (w : Self) → IsStable (steps_by w) (asked_by w) };
+}
+
+/// What is told of ways.
+#[derive(Debug, Drop)]
+pub enum Told {
+    RacesNowhere,
+    /// The first race on the way of these answers.
+    RacesOn(Vec<bool>, Race),
+    /// There are too many ways, or too many questions on one.
+    TooMany,
+}
+
+/// The first race on a way that begins with these answers, where this orders tasks. At most so many more questions are answered, and
+/// `budget` falls by one for each way.
+pub fn race_of<W: Asks>(
+    alloc: Global,
+    order: Order,
+    asks: &W,
+    questions: u32,
+    budget: &mut u32,
+    given: &[bool],
+) -> Result<Told, AllocError>
+    ensures { IfOk result (TellsOf order (W.steps_by asks.now) given.now) }
+{
+    let way = asks.way(alloc, given)?;
+    if way.asked <= given.len() {
+        if *budget == 0 {
+            return Ok(Told::TooMany);
+        }
+        *budget -= 1;
+        return told_on(alloc, order, asks, way, given);
+    }
+    if questions == 0 {
+        return Ok(Told::TooMany);
+    }
+    let one = with(alloc, given, true)?;
+    match race_of(alloc, order, asks, questions - 1, budget, &one)? {
+        Told::RacesNowhere => {
+            let two = with(alloc, given, false)?;
+            race_of(alloc, order, asks, questions - 1, budget, &two)
+        }
+        told => Ok(told),
+    }
+}
+
+/// What is told of the way that these answers settle.
+fn told_on<W: Asks>(
+    alloc: Global,
+    order: Order,
+    asks: &W,
+    way: OneWay,
+    given: &[bool],
+) -> Result<Told, AllocError>
+    requires steps { steps_in way.steps.items ≡ W.steps_by asks.now (answered given.now) }
+    requires asked { way.asked ≡ W.asked_by asks.now (answered given.now) }
+    requires settled { way.asked ≤ length given.now }
+    requires fits { Fits (steps_in way.steps.items) }
+    requires few { size (steps_in way.steps.items) < 2 ^ 32 }
+    ensures { IfOk result (TellsOf order (W.steps_by asks.now) given.now) }
+{
+    let none = Vec::new(alloc);
+    let events = follow(alloc, &way.steps, &none)?;
+    match judge_by(alloc, order, events)? {
+        Some(race) => Ok(Told::RacesOn(given.to_vec(alloc)?, race)),
+        None => Ok(Told::RacesNowhere),
+    }
+}
+
+/// The answers with one more.
+fn with(alloc: Global, given: &[bool], next: bool) -> Result<Vec<bool>, AllocError>
+    ensures { IfOk result (λ more. more.items ≡ given.now ++ next ∷ []) }
+{
+    let mut more = given.to_vec(alloc)?;
+    more.push(next)?;
+    Ok(more)
+}
