@@ -1,7 +1,6 @@
 -- What happens on the way of some answers, in parts.
-use Rattle.std.proofs.Common.{◌≡◌, ◌∙◌, ◌+◌, ℕ, List, [], ◌∷◌, ◌++◌, length, map, refl, sym, ap, subst, arith}
-use Rattle.std.specs.Prelude.{Bool, true, false, ◌&&◌, if◌then◌else◌, Some}
-use Rattle.std.proofs.lemmas.List.{append_assoc}
+use Rattle.std.proofs.Common.{◌≡◌, ◌∙◌, ◌+◌, ℕ, List, [], ◌∷◌, ◌++◌, length, map, refl, sym, ap, arith}
+use Rattle.std.specs.Prelude.{Bool, true, false, if◌then◌else◌, Some}
 use Rattle.ot_model.specs.Tree.{E, Literal, CellAt, Apply, PickFrom, HasAll, cells_named}
 use Rattle.ot_model.specs.Cells.{cell_of}
 use Rattle.ot_model.specs.Serial.{State, bump, either}

@@ -1,6 +1,6 @@
 -- Steps of the code, and the steps that they stand for.
-use Rattle.std.proofs.Common.{◌≡◌, ◌<◌, ◌≤◌, ◌+◌, ℕ, List, [], ◌∷◌, ◌++◌, map, drop, length, get_or, refl, sym, ap, ◌∙◌}
-use Rattle.std.proofs.lemmas.List.{at_drop_more, drop_all}
+use Rattle.std.proofs.Common.{◌≡◌, ◌<◌, ◌+◌, ℕ, List, [], ◌∷◌, ◌++◌, map, drop, length, get_or, refl, sym, ap, ◌∙◌}
+use Rattle.std.proofs.lemmas.List.{at_drop_more}
 use Rattle.ot_model.specs.Tree as tree
 use Rattle.ot_model.specs.Tree.{Next}
 use Rattle.ot_model.specs.View.{stmt_of, stmts_of}

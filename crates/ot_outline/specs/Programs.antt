@@ -1,5 +1,5 @@
 -- Whether an outline is a program, and which.
-use Rattle.std.specs.Prelude.{◌≡◌, ◌<◌, ℕ, List, Option, Some, None}
+use Rattle.std.specs.Prelude.{◌≡◌, ◌<◌, List, Some, None}
 use Rattle.ot_model.specs.Tree as tree
 use Rattle.ot_model.specs.Programs.{Expanded}
 use Rattle.ot_model.specs.declared.expr.Section.{Section}
