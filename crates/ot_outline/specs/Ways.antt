@@ -1,5 +1,5 @@
 -- Ways by questions: what happens is told by the answers to the questions that are asked on the way, in their order.
-use Rattle.std.specs.Prelude.{◌≡◌, ◌<◌, ℕ, Bool, false, List, length}
+use Rattle.std.specs.Prelude.{◌≡◌, ◌<◌, ◌+◌, ◌++◌, ◌⊎◌, nat_le, if◌then◌else◌, All, ℕ, zero, suc, Bool, true, false, List, [], ◌∷◌, length}
 use Rattle.ot_corder.specs.Orders.{ordered_by}
 use Rattle.ot_corder.specs.declared.order.Order.{Order}
 use Rattle.ot_race.specs.Events.{Event}
@@ -21,8 +21,47 @@ events_of steps = events_by (λ k. false) steps
 abbrev pub Begins : List Bool → (ℕ → Bool) → Type 0
 Begins given answers = (k : ℕ) → k < length given → answers k ≡ answered given k
 
--- what is told of the ways that begin with these answers: nothing where they are too many
-abbrev pub TellsOf : Order → ((ℕ → Bool) → Steps) → List Bool → Told → Type 0
-TellsOf order steps given RacesNowhere = (answers : ℕ → Bool) → Begins given answers → NothingRaces (ordered_by order (events_of (steps answers)))
-TellsOf order steps given (RacesOn answers race) = IsFirstRace (ordered_by order (events_of (steps (answered answers.items)))) race.cell race.place race.later
-TellsOf order steps given TooMany = Unit {0}
+-- how questions end: all that are asked have these answers, or more are asked than may be answered
+pub data Ending : Type 0 where
+  Settled : List Bool → Ending
+  AsksMore : Ending
+
+-- the ends behind these answers, where at most so many more questions may be answered: those behind a yes come first
+abbrev pub endings : ((ℕ → Bool) → ℕ) → ℕ → List Bool → List Ending
+endings asked zero given = if nat_le (asked (answered given)) (length given) then Settled given ∷ [] else AsksMore ∷ []
+endings asked (suc more) given =
+    if nat_le (asked (answered given)) (length given) then Settled given ∷ []
+    else endings asked more (given ++ true ∷ []) ++ endings asked more (given ++ false ∷ [])
+
+-- questions end there, and nothing races on that way
+abbrev pub HasNoRace : Order → ((ℕ → Bool) → Steps) → Ending → Type 0
+HasNoRace order steps (Settled given) = NothingRaces (ordered_by order (events_of (steps (answered given))))
+HasNoRace order steps AsksMore = ⊥
+
+-- of the ends this is the first but for those without a race, each of which takes one from the budget
+pub record ComesTo (order : Order) (steps : (ℕ → Bool) → Steps) (ends : List Ending) (budget left : ℕ) (it : Ending) : Type 0 where
+  pub before : List Ending
+  pub behind : List Ending
+  pub ends_are : ends ≡ before ++ it ∷ behind
+  pub none : All (HasNoRace order steps) before
+  pub taken : budget ≡ left + length before
+
+-- what is told of these ends with this budget, and what is left of it then
+abbrev pub TellsOf : Order → ((ℕ → Bool) → Steps) → List Ending → (budget left : ℕ) → Told → Type 0
+TellsOf order steps ends budget left RacesNowhere = All (HasNoRace order steps) ends × (budget ≡ left + length ends)
+TellsOf order steps ends budget left (RacesOn answers race) =
+    ComesTo order steps ends budget (left + 1) (Settled answers.items)
+    × IsFirstRace (ordered_by order (events_of (steps (answered answers.items)))) race.cell race.place race.later
+TellsOf order steps ends budget left TooMany =
+    ComesTo order steps ends budget left AsksMore ⊎ ((given : List Bool) × ComesTo order steps ends budget 0 (Settled given) × (left ≡ 0))
+
+-- what is told of the way of these answers alone
+abbrev pub TellsAlone : Order → ((ℕ → Bool) → Steps) → List Bool → Told → Type 0
+TellsAlone order steps given RacesNowhere = NothingRaces (ordered_by order (events_of (steps (answered given))))
+TellsAlone order steps given (RacesOn answers race) =
+    (answers.items ≡ given) × IsFirstRace (ordered_by order (events_of (steps (answered given)))) race.cell race.place race.later
+TellsAlone order steps given TooMany = ⊥
+
+-- nothing races on any way that begins with these answers
+abbrev pub RacesOnNone : Order → ((ℕ → Bool) → Steps) → List Bool → Type 0
+RacesOnNone order steps given = (answers : ℕ → Bool) → Begins given answers → NothingRaces (ordered_by order (events_of (steps answers)))

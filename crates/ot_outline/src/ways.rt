@@ -1,9 +1,10 @@
 //! Races on the ways of whatever asks questions: as a text in C, of which not all values are known.
-ghost use Rattle.std.specs.Prelude.{◌≡◌, ◌<◌, ◌≤◌, ◌^◌, ◌++◌, ◌∷◌, [], ℕ, Bool, IfOk, length};
+ghost use Rattle.std.specs.Prelude.{◌≡◌, ◌<◌, ◌≤◌, ◌^◌, ◌++◌, ◌∷◌, [], ℕ, Bool, IfOk, Ok, length};
 ghost use Rattle.ot_outline.specs.Tree.{Steps, size};
 ghost use Rattle.ot_outline.specs.View.{steps_in};
 ghost use Rattle.ot_outline.specs.Followed.{answered, Fits};
-ghost use Rattle.ot_outline.specs.Ways.{IsStable, TellsOf};
+ghost use Rattle.ot_outline.specs.Ways.{IsStable, endings, TellsOf, TellsAlone, RacesOnNone};
+ghost use Rattle.ot_outline.specs.declared.ways.Told.TheVariants.{RacesNowhere};
 
 use crate::following::follow;
 use crate::step::Step;
@@ -44,14 +45,15 @@ pub trait Asks {
 #[derive(Debug, Drop)]
 pub enum Told {
     RacesNowhere,
-    /// The first race on the way of these answers.
+    /// The first race on the way of these answers, which settle all its questions.
     RacesOn(Vec<bool>, Race),
     /// There are too many ways, or too many questions on one.
     TooMany,
 }
 
-/// The first race on a way that begins with these answers, where this orders tasks. At most so many more questions are answered, and
-/// `budget` falls by one for each way.
+/// The first race on a way that begins with these answers, where this orders tasks. Ways on which a question is answered by yes come
+/// before those on which it is answered by no. At most so many more questions are answered, and each way that is judged takes one
+/// from `budget`.
 pub fn race_of<W: Asks>(
     alloc: Global,
     order: Order,
@@ -60,7 +62,8 @@ pub fn race_of<W: Asks>(
     budget: &mut u32,
     given: &[bool],
 ) -> Result<Told, AllocError>
-    ensures { IfOk result (TellsOf order (W.steps_by asks.now) given.now) }
+    ensures told { IfOk result (TellsOf order (W.steps_by asks.now) (endings (W.asked_by asks.now) questions given.now) budget.old budget.new) }
+    ensures nowhere { result ≡ Ok RacesNowhere → RacesOnNone order (W.steps_by asks.now) given.now }
 {
     let way = asks.way(alloc, given)?;
     if way.asked <= given.len() {
@@ -92,11 +95,9 @@ fn told_on<W: Asks>(
     given: &[bool],
 ) -> Result<Told, AllocError>
     requires steps { steps_in way.steps.items ≡ W.steps_by asks.now (answered given.now) }
-    requires asked { way.asked ≡ W.asked_by asks.now (answered given.now) }
-    requires settled { way.asked ≤ length given.now }
     requires fits { Fits (steps_in way.steps.items) }
     requires few { size (steps_in way.steps.items) < 2 ^ 32 }
-    ensures { IfOk result (TellsOf order (W.steps_by asks.now) given.now) }
+    ensures { IfOk result (TellsAlone order (W.steps_by asks.now) given.now) }
 {
     let none = Vec::new(alloc);
     let events = follow(alloc, &way.steps, &none)?;
