@@ -116,14 +116,16 @@ pub alone : (order : Order) (steps : (ℕ → Bool) → Steps) (given : List Boo
     → TellsAlone order steps given r → TellsOf order steps (Settled given ∷ []) budget left r
 alone order steps given budget left taken RacesNowhere none =
     (All-cons (HasNoRace order steps) (Settled given) [] none (All-nil (HasNoRace order steps)), taken)
-alone order steps given budget left taken (RacesOn answers race) told =
-    (record {
-      before = [];
-      behind = [];
-      ends_are = ap (λ (g : List Bool). Settled g ∷ []) (sym told.0);
-      none = All-nil (HasNoRace order steps);
-      taken = omega (arith, taken);
-    }, subst (λ (g : List Bool). IsFirstRace (ordered_by order (events_of (steps (answered g)))) race.cell race.place race.later) (sym told.0) told.1)
+alone order steps given budget left taken (RacesOn answers race) told = (
+  record {
+    before = [];
+    behind = [];
+    ends_are = ap (λ (g : List Bool). Settled g ∷ []) (sym told.0);
+    none = All-nil (HasNoRace order steps);
+    taken = omega (arith, taken);
+  },
+  subst (λ (g : List Bool). IsFirstRace (ordered_by order (events_of (steps (answered g)))) race.cell race.place race.later) (sym told.0) told.1,
+)
 alone order steps given budget left taken TooMany told = absurd told
 
 before_others : (order : Order) (steps : (ℕ → Bool) → Steps) (ones twos : List Ending) (budget left : ℕ) (it : Ending) → ComesTo order steps ones budget left it
