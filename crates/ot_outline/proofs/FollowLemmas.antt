@@ -1,24 +1,14 @@
 -- What happens on the way of some answers, in parts.
 use Rattle.std.proofs.Common.{◌≡◌, ◌∙◌, ◌+◌, ℕ, List, [], ◌∷◌, ◌++◌, length, map, refl, sym, ap, arith}
 use Rattle.std.specs.Prelude.{Bool, true, false, if◌then◌else◌, Some}
-use Rattle.ot_model.specs.Tree.{E, Literal, CellAt, Apply, PickFrom, HasAll, cells_named}
-use Rattle.ot_model.specs.Cells.{cell_of}
 use Rattle.ot_model.specs.Serial.{State, bump, either}
 use Rattle.ot_model.specs.declared.stmt.Mode.TheVariants.{Reads, Writes}
 use Rattle.ot_check.specs.Offences.{use_as, Declared}
-use Rattle.ot_check.proofs.Cited.{and_left, and_right}
 use Rattle.ot_race.specs.Events.{Event, event, Touches, Begins, Leaves}
+use Rattle.ot_ways.specs.Known.{may_read}
 use Rattle.ot_outline.specs.Tree.{Step, SetAt, FoldAt, TouchAt, IfAt, ChooseAt, TaskAt, WaitAt, GroupAt, Steps, Done, Then}
 use Rattle.ot_outline.specs.Happens.{happens, happens_one, after, after_one}
-use Rattle.ot_outline.specs.Followed.{reads_nothing, decided, number, by_answers, tasks, tasks_one, events, events_one}
-
--- a value that reads no cell has its value without any
-pub nothing_has : (e : E) → reads_nothing e ≡ true → HasAll (cell_of []) e
-nothing_has (Literal n) h = tt
-nothing_has (CellAt c) h = cc
-nothing_has (Apply o a b) h =
-    (nothing_has a (and_left (reads_nothing a) (reads_nothing b) h), nothing_has b (and_right (reads_nothing a) (reads_nothing b) h))
-nothing_has (PickFrom s e) h = cc
+use Rattle.ot_outline.specs.Followed.{decided, number, by_answers, tasks, tasks_one, events, events_one}
 
 -- ---- answers are a way
 
@@ -59,7 +49,7 @@ mutual
   one-way answers own me (FoldAt k o c e) s t same = refl
   one-way answers own me (TouchAt k us) s t same = refl
   one-way answers own me (IfAt k n e a b) s t same =
-      ap (λ es. event me k Touches (map (use_as Reads) (cells_named e)) ∷ es)
+      ap (λ es. event me k Touches (map (use_as Reads) (may_read e)) ∷ es)
       (chosen_events (decided answers n e) _ _ _ _ (way answers own me a (bump 0 1 s) t (no_more s.tasks ∙ same)) (way answers own me b (bump 0 1 s) t (no_more s.tasks ∙ same)))
   one-way answers own me (ChooseAt k n a b) s t same =
       chosen_events (answers n) _ _ _ _ (way answers own me a (bump 0 1 s) t (no_more s.tasks ∙ same)) (way answers own me b (bump 0 1 s) t (no_more s.tasks ∙ same))

@@ -3,4 +3,3 @@ pub mod StepLemmas
 pub mod FollowLemmas
 mod ApartLemmas
 pub mod AskedLemmas
-pub mod SectionLemmas

@@ -6,7 +6,6 @@ mod following;
 pub mod laws;
 mod outline;
 mod program;
-mod reads;
 mod step;
 mod ways;
 

@@ -4,7 +4,7 @@ ghost use Rattle.ot_model.specs.View.{stmt_of, stmts_of};
 ghost use Rattle.ot_model.specs.Tree.{size, size_one};
 ghost use Rattle.ot_ways.specs.Ways.{ways, ways_one};
 
-use crate::known::{known, ways_of_if};
+use crate::known::{known_number, ways_of_if};
 use ot_model::Stmt;
 
 /// One more than the ways that are judged. Ways are counted up to here.
@@ -33,7 +33,7 @@ pub(crate) fn extent_one(stmt: &Stmt) -> Extent
             let two = extent_all(two);
             Extent {
                 statements: 1 + one.statements + two.statements,
-                ways: few(ways_of_if(known(expr), one.ways, two.ways)),
+                ways: few(ways_of_if(known_number(expr), one.ways, two.ways)),
             }
         }
         Stmt::Task(_, body) | Stmt::Group(_, _, body) => {

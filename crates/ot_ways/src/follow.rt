@@ -8,7 +8,7 @@ ghost use Rattle.ot_ways.specs.Ways.{ways, ways_one};
 ghost use Rattle.ot_ways.specs.Numbered.{events_on, events_on_one, tasks_on, tasks_on_one, turns_on, turns_on_one};
 
 use crate::extent::{extent_all, extent_one};
-use crate::known::{known, left_for_second, takes_first};
+use crate::known::{known_number, left_for_second, takes_first};
 use crate::reads::note_reads;
 use crate::verdict::Turn;
 use ot_model::{Decl, Mode, Stmt, Use};
@@ -100,7 +100,7 @@ fn follow_one<'a>(
             note_reads(expr, &mut uses)?;
             put(trail, owner.task, place, Deed::Touches, uses)?;
             let extent = extent_all(one);
-            let decided = known(expr);
+            let decided = known_number(expr);
             let first = takes_first(decided, way, extent.ways);
             trail.turns.push(Turn { place, first })?;
             if first {

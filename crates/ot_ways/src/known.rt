@@ -6,8 +6,8 @@ ghost use Rattle.ot_ways.specs.Known.{known, names_none};
 
 use ot_model::{Cell, Expr, Look, value};
 
-/// The number of a value that names no cell. Whatever cells hold, it is the same.
-pub(crate) fn known(expr: &Expr) -> Option<u64>
+/// The number of a value that names no cell. Whatever cells hold, it is the same. Of any other value it is None.
+pub fn known_number(expr: &Expr) -> Option<u64>
     ensures { result ≡ known (expr_of expr.now) }
 {
     if names_none(expr) {

@@ -12,5 +12,7 @@ mod straight;
 mod verdict;
 
 pub use judging::any_way;
+pub use known::known_number;
+pub use reads::note_reads;
 pub use straight::is_straight;
 pub use verdict::{Turn, Verdict};

@@ -4,7 +4,7 @@ ghost use Rattle.ot_model.specs.View.{expr_of, stmt_of, stmts_of};
 ghost use Rattle.ot_ways.specs.Known.{choices, may_read};
 ghost use Rattle.ot_ways.specs.Naming.{named_in, named_in_one};
 
-use crate::known::known;
+use crate::known::known_number;
 use ot_model::{Expr, Section, Stmt};
 
 /// One more than the cells that may be named on all ways together. They are counted up to here.
@@ -44,7 +44,10 @@ fn named_by(expr: &Expr) -> u32
         Expr::Number(_) => 0,
         Expr::Cell(_) => 1,
         Expr::Op(_, one, two) => both(named_by(one), named_by(two)),
-        Expr::Pick(section, chosen) => both(choices(*section, known(chosen)), named_by(chosen)),
+        Expr::Pick(section, chosen) => both(
+            choices(*section, known_number(chosen)),
+            named_by(chosen),
+        ),
     }
 }
 

@@ -3,7 +3,7 @@ ghost use Rattle.std.specs.Prelude.{◌≡◌};
 ghost use Rattle.ot_model.specs.View.{expr_of, stmt_of, stmts_of};
 ghost use Rattle.ot_ways.specs.Straight.{is_fixed, is_straight, is_straight_one};
 
-use crate::known::{is_straight_if, known, names_none};
+use crate::known::{is_straight_if, known_number, names_none};
 use ot_model::{Expr, Stmt};
 
 /// Whether a body has no picks and no branches but those whose values and conditions name no cell: the way through it does what its
@@ -27,7 +27,7 @@ fn is_straight_one(stmt: &Stmt) -> bool
     match stmt {
         Stmt::Set(_, expr) | Stmt::Fold(_, _, expr) => is_fixed(expr),
         Stmt::If(expr, one, two) => {
-            is_straight_if(known(expr), is_straight(one), is_straight(two))
+            is_straight_if(known_number(expr), is_straight(one), is_straight(two))
         }
         Stmt::Wait(_) => true,
         Stmt::Task(_, body) | Stmt::Group(_, _, body) => is_straight(body),

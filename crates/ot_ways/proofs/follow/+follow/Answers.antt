@@ -95,7 +95,7 @@ follow_one-returns-then-first-clause-events t c =
     let told : c.takes_first-first.result ≡ true = c.if-first.true in
     let taken : takes_first (known (expr_of c.in-If.expr)) c.args.way (ways (stmts_of c.in-If.one.items)) ≡ true =
     sym (counted_takes (known (expr_of c.in-If.expr)) c.args.way c.extent_all-extent.result.ways (ways (stmts_of c.in-If.one.items)) (ways (stmts_of c.in-If.two.items))
-    c.extent_all-extent.ensures.ways few) ∙ ap (λ o. takes_first o c.args.way c.extent_all-extent.result.ways) (sym c.known-decided.ensures)
+    c.extent_all-extent.ensures.ways few) ∙ ap (λ o. takes_first o c.args.way c.extent_all-extent.result.ways) (sym c.known_number-decided.ensures)
     ∙ sym c.takes_first-first.ensures ∙ told in
     let reads = c.in_ok-note_reads-in-If.ensures ∙ ap (λ l. l ++ map (use_as Reads) (may_read (expr_of c.in-If.expr))) c.new-uses.ensures.items in
     on_ok_weaker c.follow_all.result
@@ -111,7 +111,7 @@ follow_one-returns-then-first-clause-turns t c =
     let told : c.takes_first-first.result ≡ true = c.if-first.true in
     let taken : takes_first (known (expr_of c.in-If.expr)) c.args.way (ways (stmts_of c.in-If.one.items)) ≡ true =
     sym (counted_takes (known (expr_of c.in-If.expr)) c.args.way c.extent_all-extent.result.ways (ways (stmts_of c.in-If.one.items)) (ways (stmts_of c.in-If.two.items))
-    c.extent_all-extent.ensures.ways few) ∙ ap (λ o. takes_first o c.args.way c.extent_all-extent.result.ways) (sym c.known-decided.ensures)
+    c.extent_all-extent.ensures.ways few) ∙ ap (λ o. takes_first o c.args.way c.extent_all-extent.result.ways) (sym c.known_number-decided.ensures)
     ∙ sym c.takes_first-first.ensures ∙ told in
     let put = c.in_ok-push-in-If.ensures.items ∙ ap (λ (v : Vec Turn Global). v.items ++ turn c.args.place c.takes_first-first.result ∷ []) c.in_ok-put-in-If.ensures.turns in
     on_ok_weaker c.follow_all.result (λ ran. turns_first _ _ _ _ c.args.way _ _ _ _ _ is put told ran taken) c.follow_all.ensures.turns
@@ -125,10 +125,10 @@ follow_one-returns-else-first-clause-events t c =
     let told : c.takes_first-first.result ≡ false = c.if-first.false in
     let taken : takes_first (known (expr_of c.in-If.expr)) c.args.way (ways (stmts_of c.in-If.one.items)) ≡ false =
     sym (counted_takes (known (expr_of c.in-If.expr)) c.args.way c.extent_all-extent.result.ways (ways (stmts_of c.in-If.one.items)) (ways (stmts_of c.in-If.two.items))
-    c.extent_all-extent.ensures.ways few) ∙ ap (λ o. takes_first o c.args.way c.extent_all-extent.result.ways) (sym c.known-decided.ensures)
+    c.extent_all-extent.ensures.ways few) ∙ ap (λ o. takes_first o c.args.way c.extent_all-extent.result.ways) (sym c.known_number-decided.ensures)
     ∙ sym c.takes_first-first.ensures ∙ told in
     let left : c.left_for_second-left.result ≡ left_for_second (known (expr_of c.in-If.expr)) c.args.way (ways (stmts_of c.in-If.one.items)) =
-    c.left_for_second-left.ensures ∙ ap (λ o. left_for_second o c.args.way c.extent_all-extent.result.ways) c.known-decided.ensures
+    c.left_for_second-left.ensures ∙ ap (λ o. left_for_second o c.args.way c.extent_all-extent.result.ways) c.known_number-decided.ensures
     ∙ counted_left (known (expr_of c.in-If.expr)) c.args.way c.extent_all-extent.result.ways (ways (stmts_of c.in-If.one.items)) (ways (stmts_of c.in-If.two.items))
     c.extent_all-extent.ensures.ways few in
     let reads = c.in_ok-note_reads-in-If.ensures ∙ ap (λ l. l ++ map (use_as Reads) (may_read (expr_of c.in-If.expr))) c.new-uses.ensures.items in
@@ -146,10 +146,10 @@ follow_one-returns-else-first-clause-turns t c =
     let told : c.takes_first-first.result ≡ false = c.if-first.false in
     let taken : takes_first (known (expr_of c.in-If.expr)) c.args.way (ways (stmts_of c.in-If.one.items)) ≡ false =
     sym (counted_takes (known (expr_of c.in-If.expr)) c.args.way c.extent_all-extent.result.ways (ways (stmts_of c.in-If.one.items)) (ways (stmts_of c.in-If.two.items))
-    c.extent_all-extent.ensures.ways few) ∙ ap (λ o. takes_first o c.args.way c.extent_all-extent.result.ways) (sym c.known-decided.ensures)
+    c.extent_all-extent.ensures.ways few) ∙ ap (λ o. takes_first o c.args.way c.extent_all-extent.result.ways) (sym c.known_number-decided.ensures)
     ∙ sym c.takes_first-first.ensures ∙ told in
     let left : c.left_for_second-left.result ≡ left_for_second (known (expr_of c.in-If.expr)) c.args.way (ways (stmts_of c.in-If.one.items)) =
-    c.left_for_second-left.ensures ∙ ap (λ o. left_for_second o c.args.way c.extent_all-extent.result.ways) c.known-decided.ensures
+    c.left_for_second-left.ensures ∙ ap (λ o. left_for_second o c.args.way c.extent_all-extent.result.ways) c.known_number-decided.ensures
     ∙ counted_left (known (expr_of c.in-If.expr)) c.args.way c.extent_all-extent.result.ways (ways (stmts_of c.in-If.one.items)) (ways (stmts_of c.in-If.two.items))
     c.extent_all-extent.ensures.ways few in
     let place : c.args.place + 1 + c.extent_all-extent.result.statements ≡ c.args.place + 1 + size (stmts_of c.in-If.one.items) = ap (λ n. c.args.place + 1 + n) c.extent_all-extent.ensures.statements in

@@ -12,7 +12,7 @@ returns-in-Pick t c =
     let sum : length (may_read (expr_of c.args.expr.now)) ≡ length (choices s (known chosen)) + length (may_read chosen) =
     ap (λ e. length (may_read (expr_of e))) c.in-Pick.is ∙ length-append (choices s (known chosen)) (may_read chosen) in
     let one : c.choices.result ≡ min (length (choices s (known chosen))) 20000001 =
-    c.choices.ensures ∙ ap (λ o. min (length (choices s o)) 20000001) (c.known.ensures ∙ ap (λ e. known (expr_of e)) c.deref-in-Pick.ensures) in
+    c.choices.ensures ∙ ap (λ o. min (length (choices s o)) 20000001) (c.known_number.ensures ∙ ap (λ e. known (expr_of e)) c.deref-in-Pick.ensures) in
     let other : c.named_by-in-Pick.result ≡ min (length (may_read chosen)) 20000001 =
     c.named_by-in-Pick.ensures ∙ ap (λ e. min (length (may_read (expr_of e))) 20000001) c.deref-in-Pick-2.ensures in
     omega (arith, sum, one, other, c.both-in-Pick.ensures)
