@@ -20,6 +20,7 @@ use Rattle.ot_cscope.specs.Kinds.{is_signed}
 use Rattle.ot_cscope.specs.Results.{Refusal, ◌>>=◌}
 use Rattle.ot_cscope.specs.Scopes.{Around, Run, sense, is_pointed, with_opening, with_portion}
 use Rattle.ot_cclause.specs.declared.clause.Heading.{Heading}
+use Rattle.ot_cclause.specs.declared.clause.Joined.{Joined}
 use Rattle.ot_cclause.specs.declared.own.Own.{Own}
 use Rattle.ot_cclause.specs.declared.own.Taking.{Taking}
 use Rattle.ot_cdeclare.specs.Each.{each}
@@ -37,7 +38,11 @@ pub record Head : Type 0 where
   pub taking : List Taking
 
 abbrev pub head_of : Heading → Head
-head_of h = record { clauses = map view h.clauses.items; around = h.scope; own = h.own.items; taking = h.taking.items }
+head_of h = record { clauses = map view h.clauses.items; around = h.scope; own = h.own; taking = h.taking.items }
+
+-- the same of what clauses say of reductions, before the others
+abbrev pub joined_of : Joined → Head
+joined_of j = record { clauses = map view j.clauses.items; around = j.scope; own = j.own.items; taking = j.taking.items }
 
 abbrev pub Headed : Type 0
 Headed = Result Head Refusal

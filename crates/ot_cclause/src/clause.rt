@@ -3,11 +3,11 @@ ghost use Rattle.std.specs.Prelude.{◌≡◌, ◌++◌, IfOk, map};
 ghost use Rattle.serde_json.specs.View.{view};
 ghost use Rattle.ot_cread.specs.Tree.{item_of, items_of, over_of, part_of, clause_of, clauses_of};
 ghost use Rattle.ot_cscope.specs.Results.{Gives};
-ghost use Rattle.ot_cclause.specs.Clauses.{Head, head_of};
+ghost use Rattle.ot_cclause.specs.Clauses.{Head, head_of, joined_of};
 ghost use Rattle.ot_cdeclare.specs.Each.{each};
 ghost use Rattle.ot_cclause.specs.Clauses as meant;
 
-use crate::own::{Own, Taking, are_named, is_run, name_all, own_count, taking_of};
+use crate::own::{Own, Owns, Taking, is_run, taking_of};
 use crate::portion::is_item;
 use crate::section::{cells_named, no_cells, part, pointed, section};
 use crate::words::{is_extreme, is_same, operation_word};
@@ -24,8 +24,17 @@ use std::alloc::{AllocError, Global};
 pub struct Heading<'a> {
     pub clauses: Vec<Value>,
     pub scope: Scope<'a>,
-    own: Vec<Own>,
+    own: Owns,
     pub taking: Vec<Taking>,
+}
+
+/// What clauses say of reductions, before the others.
+#[derive(Drop)]
+struct Joined<'a> {
+    clauses: Vec<Value>,
+    scope: Scope<'a>,
+    own: Vec<Own>,
+    taking: Vec<Taking>,
 }
 
 fn is_in(role: Role) -> bool
@@ -54,7 +63,7 @@ fn depends<'a>(
     ensures { Gives head_of result (meant.depends start (head_of heading.entry) role word.now (over_of over.now) (item_of item.now)) }
 {
     let cells = cells_named(&heading.scope, over, item);
-    let count = own_count(item.array, cells, &heading.own);
+    let count = heading.own.count(item.array, cells);
     if count == 0 {
         let section = section(alloc, &heading.scope, start, over, item)?;
         heading.clauses.push(json::form1(alloc, word, section)?)?;
@@ -66,7 +75,7 @@ fn depends<'a>(
     Ok(Heading {
         clauses: heading.clauses,
         scope: heading.scope,
-        own: name_all(alloc, item.array, cells, heading.own)?,
+        own: heading.own.name(alloc, item.array, cells)?,
         taking: heading.taking,
     })
 }
@@ -141,30 +150,30 @@ fn takes_part<'a>(
     alloc: Global,
     start: usize,
     operation: Operation,
-    mut heading: Heading<'a>,
+    mut joined: Joined<'a>,
     item: &Item,
-) -> Result<Heading<'a>, CFault>
-    ensures { Gives head_of result (meant.takes_part start operation (head_of heading.entry) (item_of item.now)) }
+) -> Result<Joined<'a>, CFault>
+    ensures { Gives joined_of result (meant.takes_part start operation (joined_of joined.entry) (item_of item.now)) }
 {
-    let Some(found) = may_join(heading.scope.sense(item.array), operation) else {
+    let Some(found) = may_join(joined.scope.sense(item.array), operation) else {
         return Err(CFault::Outside(start, Reason::NoGroup));
     };
-    if !is_item(&heading.scope, found, item) {
+    if !is_item(&joined.scope, found, item) {
         return Err(CFault::Outside(start, Reason::NoGroup));
     }
-    let section = part_or_cell(alloc, &heading.scope, start, found, item)?;
+    let section = part_or_cell(alloc, &joined.scope, start, found, item)?;
     let word = json::text(alloc, operation_word(operation))?;
-    heading
+    joined
         .clauses
         .push(json::form2(alloc, "red", word, section)?)?;
-    heading.taking.push(taking_of(found.0))?;
+    joined.taking.push(taking_of(found.0))?;
     let opening = opening(item.array, operation, true, found.0);
-    let scope = heading.scope.with_opening(alloc, opening)?;
-    Ok(Heading {
-        clauses: heading.clauses,
+    let scope = joined.scope.with_opening(alloc, opening)?;
+    Ok(Joined {
+        clauses: joined.clauses,
         scope,
-        own: with_own(heading.own, found.0)?,
-        taking: heading.taking,
+        own: with_own(joined.own, found.0)?,
+        taking: joined.taking,
     })
 }
 
@@ -379,30 +388,30 @@ fn joining<'a>(
     alloc: Global,
     start: usize,
     operation: Operation,
-    heading: Heading<'a>,
+    joined: Joined<'a>,
     items: &[Item],
-) -> Result<Heading<'a>, CFault>
-    ensures { Gives head_of result (each (meant.takes_part start operation) (head_of heading.entry) (items_of items.now)) }
+) -> Result<Joined<'a>, CFault>
+    ensures { Gives joined_of result (each (meant.takes_part start operation) (joined_of joined.entry) (items_of items.now)) }
 {
-    let mut heading = heading;
+    let mut joined = joined;
     for item in items {
-        heading = takes_part(alloc, start, operation, heading, item)?;
+        joined = takes_part(alloc, start, operation, joined, item)?;
     }
-    Ok(heading)
+    Ok(joined)
 }
 
 /// What a clause says of reductions, behind others.
 fn joining_step<'a>(
     alloc: Global,
     start: usize,
-    heading: Heading<'a>,
+    joined: Joined<'a>,
     clause: &Clause,
-) -> Result<Heading<'a>, CFault>
-    ensures { Gives head_of result (meant.joining_step start (head_of heading.entry) (clause_of clause.now)) }
+) -> Result<Joined<'a>, CFault>
+    ensures { Gives joined_of result (meant.joining_step start (joined_of joined.entry) (clause_of clause.now)) }
 {
     match reduced_by(clause.role) {
-        Some(operation) => joining(alloc, start, operation, heading, &clause.items),
-        None => Ok(heading),
+        Some(operation) => joining(alloc, start, operation, joined, &clause.items),
+        None => Ok(joined),
     }
 }
 
@@ -412,19 +421,19 @@ fn all_joining<'a>(
     start: usize,
     scope: Scope<'a>,
     clauses: &[Clause],
-) -> Result<Heading<'a>, CFault>
-    ensures { Gives head_of result (meant.all_joining start scope.entry (clauses_of clauses.now)) }
+) -> Result<Joined<'a>, CFault>
+    ensures { Gives joined_of result (meant.all_joining start scope.entry (clauses_of clauses.now)) }
 {
-    let mut heading = Heading {
+    let mut joined = Joined {
         clauses: Vec::new(alloc),
         scope,
         own: Vec::new(alloc),
         taking: Vec::new(alloc),
     };
     for clause in clauses {
-        heading = joining_step(alloc, start, heading, clause)?;
+        joined = joining_step(alloc, start, joined, clause)?;
     }
-    Ok(heading)
+    Ok(joined)
 }
 
 /// What clauses say apart from that, behind it.
@@ -443,6 +452,18 @@ fn others<'a>(
     Ok(heading)
 }
 
+/// What clauses say of reductions, with which the others are read.
+fn heading_of<'a>(alloc: Global, joined: Joined<'a>) -> Result<Heading<'a>, AllocError>
+    ensures { IfOk result (λ heading. head_of heading ≡ joined_of joined.entry) }
+{
+    Ok(Heading {
+        clauses: joined.clauses,
+        scope: joined.scope,
+        own: Owns::new(alloc, joined.own)?,
+        taking: joined.taking,
+    })
+}
+
 /// Clauses of a directive that begins at this byte, in this scope.
 pub fn headed<'a>(
     alloc: Global,
@@ -452,9 +473,10 @@ pub fn headed<'a>(
 ) -> Result<Heading<'a>, CFault>
     ensures { Gives head_of result (meant.heading start scope.entry (clauses_of clauses.now)) }
 {
-    let heading = all_joining(alloc, start, scope, clauses)?;
+    let joined = all_joining(alloc, start, scope, clauses)?;
+    let heading = heading_of(alloc, joined)?;
     let heading = others(alloc, start, heading, clauses)?;
-    if are_named(&heading.own) {
+    if heading.own.are_named() {
         Ok(heading)
     } else {
         Err(CFault::Outside(start, Reason::NoDependence))
