@@ -9,7 +9,7 @@ use Rattle.std.specs.BTreeSet as set
 use Rattle.std.specs.Ordering.{nat_cmp, ordering_then}
 use Rattle.std.specs.declared.cmp.Ordering.{Ordering}
 use Rattle.std.specs.declared.cmp.Ordering.TheVariants.{Less, Equal, Greater}
-use Rattle.std.proofs.lemmas.Bool.{cases_eq, cases_lt}
+use Rattle.std.proofs.lemmas.Bool.{cases_lt}
 use Rattle.std.proofs.lemmas.Bool.Decides.{nat_tests}
 use Rattle.std.proofs.lemmas.List.{take_more}
 use Rattle.std.proofs.lemmas.List.Folds.{list_any-append}
@@ -17,7 +17,7 @@ use Rattle.std.proofs.lemmas.List.Sums.{sum_by-append}
 use Rattle.ot_cscope.specs.declared.scope.Pointee.{Pointee}
 use Rattle.ot_cscope.specs.Scopes.{Run, is_among}
 use Rattle.ot_cclause.specs.declared.own.Own.{Own}
-use Rattle.ot_cclause.specs.Cells.{Key, key_cmp, is_at, marked, times_at, HasArrays, HasTimes, AreKept, HasRun}
+use Rattle.ot_cclause.specs.Cells.{Key, key_cmp, is_at, marked, times_at, HasArrays, HasTimes, HasRun}
 use Rattle.ot_cclause.specs.Owns.{is_of, name_if}
 
 -- ---- keys
