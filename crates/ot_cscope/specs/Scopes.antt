@@ -116,10 +116,6 @@ abbrev pub points_into : ℕ → Run → Option Pointee → Bool
 points_into x cells None = false
 points_into x cells (Some p) = p.array == x && is_among cells p.place
 
--- whether one of them is one of these cells of an array
-abbrev pub any_points_into : ℕ → Run → List Pointee → Bool
-any_points_into x cells pointees = list_any (λ p. points_into x cells (Some p)) pointees
-
 -- whether an open group combines, by a pointer, over one of these cells of an array
 abbrev pub is_pointed : Around → Name → Run → Bool
 is_pointed a (n.Known k) cells = false

@@ -1,11 +1,14 @@
 //! What groups combine over, each opening found by the name of its array or pointer.
-ghost use Rattle.std.specs.Prelude.{◌≡◌, ◌==◌, [], ◌∷◌, ◌++◌, find, option_to_list, IfOk};
+ghost use Rattle.std.specs.Prelude.{◌≡◌, ℕ, ◌==◌, ◌||◌, [], ◌∷◌, find, IfOk};
 ghost use Rattle.std.specs.List.{list_any};
+ghost use Rattle.ot_cscope.specs.Kept.{first_of, points_in};
 ghost use Rattle.ot_cscope.specs.Scopes as around;
+ghost use Rattle.ot_cscope.specs.Scopes.{Run};
 
 use crate::scope::{Opening, Pointee, points_into};
 use indexmap::IndexMap;
 use std::alloc::{AllocError, Global};
+use std::collections::BTreeSet;
 use std::marker::Model;
 
 /// Openings, of which the newest by each name is found at once.
@@ -14,8 +17,8 @@ pub(crate) struct Openings {
     /// In the order in which they were made.
     made: Vec<Opening>,
     newest: IndexMap<usize, Opening>,
-    /// The cells that pointers among them name.
-    cells: Vec<Pointee>,
+    /// The cells that pointers among them name, each by its array and its place.
+    cells: BTreeSet<(usize, u64)>,
 }
 
 impl Model for Openings {
@@ -27,7 +30,7 @@ impl Model for Openings {
 
     ghost view = { λ s. reverse s.made.items };
 
-    ghost invariant = { λ s. AreNewest s.newest s.cells.items (reverse s.made.items) };
+    ghost invariant = { λ s. AreNewest s.newest s.cells.keys (reverse s.made.items) };
 }
 
 impl Openings {
@@ -38,7 +41,7 @@ impl Openings {
         Openings {
             made: Vec::new(alloc),
             newest: IndexMap::new(alloc),
-            cells: Vec::new(alloc),
+            cells: BTreeSet::new(alloc),
         }
     }
 
@@ -76,26 +79,47 @@ impl Openings {
     pub(crate) fn point_into(&self, array: usize, cells: Option<(u64, u64)>) -> bool
         ensures { result ≡ list_any (λ o. around.points_into array cells o.pointee) self.now }
     {
-        any_points_into(&self.cells, array, cells)
+        are_pointed(&self.cells, array, cells)
     }
 }
 
-fn with_cell(mut cells: Vec<Pointee>, cell: Option<Pointee>) -> Result<Vec<Pointee>, AllocError>
-    ensures { IfOk result (λ v. v.items ≡ cells.items ++ option_to_list cell) }
+fn with_cell(
+    mut cells: BTreeSet<(usize, u64)>,
+    cell: Option<Pointee>,
+) -> Result<BTreeSet<(usize, u64)>, AllocError>
+    ensures { IfOk result (λ more. (x : ℕ) (run : Run) → points_in x run more.keys ≡ (around.points_into x run cell || points_in x run cells.keys)) }
 {
-    if let Some(cell) = cell {
-        cells.push(cell)?;
-    }
-    Ok(cells)
-}
-
-fn any_points_into(pointees: &[Pointee], array: usize, cells: Option<(u64, u64)>) -> bool
-    ensures { result ≡ around.any_points_into array cells pointees.now }
-{
-    for pointee in pointees {
-        if points_into(array, cells, Some(*pointee)) {
-            return true;
+    match cell {
+        None => Ok(cells),
+        Some(cell) => {
+            cells.insert((cell.array, cell.place))?;
+            Ok(cells)
         }
     }
-    false
+}
+
+/// Where the first of these cells of an array may stand.
+fn first_of(cells: Option<(u64, u64)>) -> u64
+    ensures { result ≡ first_of cells }
+{
+    match cells {
+        Some((first, _)) => first,
+        None => 0,
+    }
+}
+
+/// Whether one of these cells of an array is among those of pointers. It looks at one of those.
+fn are_pointed(pointees: &BTreeSet<(usize, u64)>, array: usize, cells: Option<(u64, u64)>) -> bool
+    ensures { result ≡ points_in array cells pointees.now.keys }
+{
+    match pointees.range((array, first_of(cells))..).next() {
+        Some((found, place)) => {
+            let pointee = Pointee {
+                array: *found,
+                place: *place,
+            };
+            points_into(array, cells, Some(pointee))
+        }
+        None => false,
+    }
 }
