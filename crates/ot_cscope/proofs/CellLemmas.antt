@@ -1,7 +1,7 @@
 -- Cells of pointers in their order: the first that may be one of some cells of an array tells whether one of them is.
 use Rattle.std.proofs.Common.{◌≡◌, ℕ, ◌-◌, Bool, true, false, cond, ◌&&◌, List, [], ◌∷◌, inl, inr, refl, sym, ap, ◌∙◌, arith, is_eq}
-use Rattle.std.specs.Prelude.{◌==◌, ◌||◌, nat_le, nat_lt, not, filter, Some, None}
-use Rattle.std.specs.List.{AllByRecursion, list_any}
+use Rattle.std.specs.Prelude.{◌==◌, ◌||◌, nat_le, nat_lt, filter, Some, None}
+use Rattle.std.specs.List.{AllByRecursion}
 use Rattle.std.specs.List.Sorted.{IsStrictlySortedBy}
 use Rattle.std.specs.Ordering.{nat_cmp, ordering_then, is_le, is_lt, match_ordering}
 use Rattle.std.specs.BTreeSet.{insert_key}
@@ -9,10 +9,10 @@ use Rattle.std.specs.BTreeMap.Range.{range_contains}
 use Rattle.std.specs.declared.cmp.Ordering.{Ordering}
 use Rattle.std.specs.declared.cmp.Ordering.TheVariants.{Less, Equal, Greater}
 use Rattle.std.specs.declared.ops.Bound.TheVariants.{Included, Unbounded}
-use Rattle.std.proofs.lemmas.Bool.{cases_eq, cases_lt}
+use Rattle.std.proofs.lemmas.Bool.{cases_lt}
 use Rattle.std.proofs.lemmas.Bool.Decides.{nat_tests}
 use Rattle.ot_cscope.specs.Kept.{cell_at, points_in, first_of}
-use Rattle.ot_cscope.specs.Scopes.{Run, is_among, points_into}
+use Rattle.ot_cscope.specs.Scopes.{Run, points_into}
 
 -- a cell: its array, and its place
 abbrev Key : Type 0
