@@ -27,8 +27,12 @@ pub record Arr : Type 0 where
   pub name : List ℕ
   pub cells : List ℕ
 
+-- cells, and so many zeros behind them
+abbrev pub with_zeros : List ℕ → ℕ → List ℕ
+with_zeros cells n = cells ++ replicate n 0
+
 abbrev pub array_of : CArray → Arr
-array_of a = record { name = string_bytes a.name; cells = a.cells.items }
+array_of a = record { name = string_bytes a.name; cells = with_zeros a.cells.items a.zeros }
 
 -- what names mean, and the arrays in their order
 pub record D : Type 0 where
@@ -90,7 +94,7 @@ numbers a at k es = each (number_step a at k) [] es
 
 -- the first cells of an array, and zeros behind them (C17, section 6.7.9)
 abbrev pub filled : ℕ → List ℕ → ℕ → Result (List ℕ) Refusal
-filled at cells n = if nat_lt n (count_in cells) then Err (at, why.NoLength) else Ok (cells ++ replicate (n - count_in cells) 0)
+filled at cells n = if nat_lt n (count_in cells) then Err (at, why.NoLength) else Ok (with_zeros cells (n - count_in cells))
 
 -- the cells of a variable or an array of a type as it begins
 abbrev pub begun : Around → ℕ → IntegerType → Option ℕ → Start → Result (List ℕ) Refusal

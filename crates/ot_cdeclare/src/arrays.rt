@@ -1,10 +1,10 @@
 //! What a file declares.
-ghost use Rattle.std.specs.Prelude.{◌≡◌, map, string_bytes};
+ghost use Rattle.std.specs.Prelude.{◌≡◌, IfOk, length, map, string_bytes};
 ghost use Rattle.ot_cread.specs.Tree.{expr_of};
 ghost use Rattle.ot_cstatement.specs.Tree.{exprs_of, index_of};
 ghost use Rattle.ot_cfile.specs.Program.{initial_of, variable_of, variables_of, declaration_of};
 ghost use Rattle.ot_cscope.specs.Results.{Gives};
-ghost use Rattle.ot_cdeclare.specs.Arrays.{array_of, declared_of};
+ghost use Rattle.ot_cdeclare.specs.Arrays.{array_of, declared_of, with_zeros};
 ghost use Rattle.ot_cdeclare.specs.Arrays as meant;
 ghost use Rattle.ot_cdeclare.specs.Each.{each};
 
@@ -16,15 +16,34 @@ use ot_cscope::kind::{holds, holds_below, is_signed};
 use ot_cscope::{CFault, Meaning, Reason, Scope, constant};
 use ot_program::is_name;
 use ot_words::{IntegerType, Name};
-use std::alloc::Global;
+use std::alloc::{AllocError, Global};
 
 const MAX_CELLS: u64 = 65_536;
 
-/// An array of the program, with its cells as it begins; numbers below zero stand modulo 2^64.
+/// An array of the program, with its cells as it begins: those that the text gives numbers to, and so many zeros behind
+/// them. Numbers below zero stand modulo 2^64.
 #[derive(Debug, Drop)]
 pub struct CArray {
     pub name: String,
     pub cells: Vec<u64>,
+    pub zeros: u32,
+}
+
+/// How many cells an array has.
+pub fn cell_count(array: &CArray) -> usize
+    ensures { result ≡ length (array_of array.now).cells }
+{
+    array.cells.len() + array.zeros as usize
+}
+
+/// All cells of an array as it begins.
+pub fn all_cells(alloc: Global, array: &CArray) -> Result<Vec<u64>, AllocError>
+    ensures { IfOk result (λ cells. cells.items ≡ (array_of array.now).cells) }
+{
+    let mut cells = array.cells.clone()?;
+    let zeros = vec![in alloc; 0u64; array.zeros as usize]?;
+    cells.extend_from_slice(&zeros)?;
+    Ok(cells)
 }
 
 /// What a file has declared so far: what its names mean, and its arrays in their order.
@@ -140,24 +159,35 @@ fn numbers(
     Ok(cells)
 }
 
-/// The first cells of an array, and zeros behind them.
-fn filled(
-    alloc: Global,
-    start: usize,
-    mut cells: Vec<u64>,
-    count: usize,
-) -> Result<Vec<u64>, CFault>
-    ensures { Gives (λ v. v.items) result (meant.filled start cells.items count) }
+/// The first cells of an array, and how many zeros stand behind them. None is made here, where no limit has been looked at. An array
+/// has fewer than 2^32 cells.
+fn filled(start: usize, cells: Vec<u64>, count: usize) -> Result<(Vec<u64>, u32), CFault>
+    ensures { Gives (λ x. with_zeros x.0.items x.1) result (meant.filled start cells.items count) }
 {
     if cells.len() > count {
         return Err(CFault::Outside(start, Reason::NoLength));
     }
-    let zeros = vec![in alloc; 0u64; count - cells.len()]?;
-    cells.extend_from_slice(&zeros)?;
-    Ok(cells)
+    match u32::try_from(count - cells.len()) {
+        Ok(zeros) => Ok((cells, zeros)),
+        Err(_) => Err(CFault::Memory),
+    }
 }
 
-/// The cells of a variable or an array as it begins.
+/// The only cell of a variable.
+fn only(
+    scope: &Scope<'_>,
+    start: usize,
+    kind: IntegerType,
+    cells: Vec<u64>,
+    expr: &Expr,
+) -> Result<(Vec<u64>, u32), CFault>
+    ensures { Gives (λ x. with_zeros x.0.items x.1) result (meant.number_step scope.now start kind cells.items (expr_of expr.now)) }
+{
+    let cells = number_step(scope, start, kind, cells, expr)?;
+    Ok((cells, 0))
+}
+
+/// The cells of a variable or an array as it begins, the first ones and how many zeros.
 fn begun(
     alloc: Global,
     scope: &Scope<'_>,
@@ -165,16 +195,16 @@ fn begun(
     kind: IntegerType,
     length: Option<usize>,
     initial: &Initial,
-) -> Result<Vec<u64>, CFault>
-    ensures { Gives (λ v. v.items) result (meant.begun scope.now start kind length (initial_of initial.now)) }
+) -> Result<(Vec<u64>, u32), CFault>
+    ensures { Gives (λ x. with_zeros x.0.items x.1) result (meant.begun scope.now start kind length (initial_of initial.now)) }
 {
     match (length, initial) {
-        (None, Initial::Nothing) => filled(alloc, start, Vec::new(alloc), 1),
-        (Some(count), Initial::Nothing) => filled(alloc, start, Vec::new(alloc), count),
-        (None, Initial::Value(expr)) => number_step(scope, start, kind, Vec::new(alloc), expr),
+        (None, Initial::Nothing) => filled(start, Vec::new(alloc), 1),
+        (Some(count), Initial::Nothing) => filled(start, Vec::new(alloc), count),
+        (None, Initial::Value(expr)) => only(scope, start, kind, Vec::new(alloc), expr),
         (Some(count), Initial::Values(exprs)) => {
             let cells = numbers(alloc, scope, start, kind, exprs)?;
-            filled(alloc, start, cells, count)
+            filled(start, cells, count)
         }
         (None, Initial::Values(_)) | (Some(_), Initial::Value(_)) => {
             Err(CFault::Outside(start, Reason::NoConstant))
@@ -182,7 +212,7 @@ fn begun(
     }
 }
 
-/// How many cells a variable has, and these.
+/// How many cells a variable has, and these, the first ones and how many zeros.
 fn cells_of(
     alloc: Global,
     names: &IndexSet<String>,
@@ -190,8 +220,8 @@ fn cells_of(
     start: usize,
     kind: IntegerType,
     variable: &Variable,
-) -> Result<(Option<usize>, Vec<u64>), CFault>
-    ensures { Gives (λ x. (x.0, x.1.items)) result (meant.cells_of names.now.keys meanings.now start kind (variable_of variable.now)) }
+) -> Result<(Option<usize>, (Vec<u64>, u32)), CFault>
+    ensures { Gives (λ x. (x.0, with_zeros x.1.0.items x.1.1)) result (meant.cells_of names.now.keys meanings.now start kind (variable_of variable.now)) }
 {
     let scope = Scope::new(alloc, names, meanings, false);
     let length = length(&scope, start, &variable.length)?;
@@ -263,9 +293,10 @@ fn variable_step(
 {
     let number = number_of(start, variable.name)?;
     let name = name_of(alloc, names, start, &declared.arrays, number)?;
-    let (length, cells) = cells_of(alloc, names, &declared.meanings, start, kind, variable)?;
+    let (length, begun) = cells_of(alloc, names, &declared.meanings, start, kind, variable)?;
+    let (cells, zeros) = begun;
     let mut declared = named(start, declared, number, Meaning::Cells(kind, length))?;
-    declared.arrays.push(CArray { name, cells })?;
+    declared.arrays.push(CArray { name, cells, zeros })?;
     Ok(declared)
 }
 

@@ -5,6 +5,6 @@ mod arrays;
 mod place;
 mod pointer;
 
-pub use arrays::{CArray, Declared, declaration, named, number_of};
+pub use arrays::{CArray, Declared, all_cells, cell_count, declaration, named, number_of};
 pub use place::byte_of;
 pub use pointer::pointers;
