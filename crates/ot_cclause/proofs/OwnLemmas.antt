@@ -1,6 +1,6 @@
 -- Cells that a task folds into by pointers, found by what is kept beside them.
-use Rattle.std.proofs.Common.{◌≡◌, ℕ, ◌+◌, ◌-◌, ◌≤◌, ◌<◌, Bool, true, false, true≢false, cond, ◌&&◌, List, [], ◌∷◌, ◌++◌, length, map, take, get_or, refl, sym, ap, ◌∙◌, arith, is_eq, inl, inr}
-use Rattle.std.specs.Prelude.{◌==◌, ◌||◌, nat_le, nat_lt, Option, Some, None, unwrap_or}
+use Rattle.std.proofs.Common.{◌≡◌, ℕ, ◌+◌, ◌-◌, ◌≤◌, ◌<◌, Bool, true, false, true≢false, cond, ◌&&◌, List, [], ◌∷◌, length, map, take, get_or, refl, sym, ap, ◌∙◌, arith, is_eq, inl, inr}
+use Rattle.std.specs.Prelude.{◌==◌, ◌||◌, nat_le, nat_lt, Option, Some, unwrap_or}
 use Rattle.std.specs.List.{count_by, list_any}
 use Rattle.std.specs.BTreeMap.{BTreeMap, get}
 use Rattle.std.specs.BTreeMap as tree
