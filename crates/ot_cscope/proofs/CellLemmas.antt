@@ -82,10 +82,6 @@ any_beyond x a p b q from none above = grind (arith, nat_tests)
 -- ---- cells
 
 module _ (x : ℕ) where
-  -- whether it is one of these cells of the array
-  one : Run → Key → Bool
-  one run c = points_into x run (Some (cell_at c))
-
   before : (run : Run) (c : Key) → is_le (key_cmp (x, first_of run) c) ≡ false → points_into x run (Some (cell_at c)) ≡ false
   before None c h = any_before x c.0 c.1 (sym (key_le (x, 0) c) ∙ h)
   before (Some r) c h = some_before x r.0 r.1 c.0 c.1 (sym (key_le (x, r.0) c) ∙ h)
