@@ -111,9 +111,7 @@ impl<L: Ledger> Locked<L> {
         let claimed = self.hub.claim(alloc, turn, worker);
         let is_over = self.is_over(client);
         let is_aborted = claimed.is_aborted();
-        let is_short = claimed.is_short();
-        let is_back_soon = at_once && is_short;
-        let calls = self.calls_others(is_back_soon);
+        let calls = self.calls_others(at_once, &claimed);
         let tells = is_over || is_aborted || calls;
         if tells {
             self.worker_waits = false;
@@ -170,15 +168,15 @@ impl<L: Ledger> Locked<L> {
         !self.hub.is_pending(tenant)
     }
 
-    // As `calls_workers`, where the worker that asks isn't back soon: one that is finds the task in its next hold, or asks
-    // there again.
-    fn calls_others(&mut self, is_back_soon: bool) -> bool
-        ensures calls { IsTrue result ↔ CallsWorkers ((self.old.worker_waits && self.old.lookers == 0) && not is_back_soon) self.old.hub }
+    // As `calls_workers`, where what a worker got is no short piece that it runs at once: then it is back soon, and finds the task in
+    // its next hold, or asks there again.
+    fn calls_others(&mut self, at_once: bool, got: &Claimed) -> bool
+        ensures calls { IsTrue result ↔ CallsWorkers ((self.old.worker_waits && self.old.lookers == 0) && not (at_once && is_short_piece got.now)) self.old.hub }
         ensures mark { self.new.worker_waits ≡ (self.old.worker_waits && not result) }
         ensures lookers { self.new.lookers ≡ self.old.lookers }
         ensures hub { self.new.hub ≡ self.old.hub }
     {
-        if is_back_soon {
+        if at_once && got.is_short() {
             return false;
         }
         self.calls_workers()
