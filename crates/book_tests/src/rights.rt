@@ -58,14 +58,14 @@ fn lend(
     Ok(owners.lease(cells, slip))
 }
 
-/// Writes 9 to the second cell by a lease: its value before and after, the value that it was lent
+/// Writes 9 to the second cell by a lease, which is looked for first where no cell is: its value before and after, the value that it was lent
 /// with, its value and that of the first cell in the lease, and all cells once it has come back.
 fn written(alloc: Global, owners: &mut Owners, cells: &mut Cells) -> Result<String, AllocError>
     requires { cells.old ≡ (1 ∷ 2 ∷ 3 ∷ []) ∷ [] }
 {
     let mut lent = lend(alloc, owners, cells, Mode::Writes, 1, 1)?;
     let before = lent.at(cell(1));
-    lent.set(cell(1), 9);
+    lent.set(7, cell(1), 9);
     let after = lent.at(cell(1));
     let told = [
         lent.first(cell(1)),

@@ -135,7 +135,7 @@ impl Groups {
         ensures { IsPermutation self.old (loan_of worker lent ∷ self.new) }
     {
         let mut lent = lent;
-        lent.set(cell(index), number);
+        lent.set(0, cell(index), number);
         self.back(lent, index, worker);
     }
 
@@ -181,7 +181,7 @@ impl Groups {
         ensures { OnOk result (self.new ≡ []) }
     {
         let mut lent = self.lend(alloc, 0, 1)?;
-        lent.set(cell(0), 5);
+        lent.set(0, cell(0), 5);
         self.owners.drop_right(lent, 1);
         Ok(())
     }
