@@ -110,9 +110,10 @@ class Ahead:
     """The requests of a session, which are sent and not waited for: each gives an `Answer`.
 
     They mean what the session's methods of the same names do. What is refused is raised by `Answer.result()`, and so is that the
-    session has ended or broken off; a request that can't be sent, since its line is too long or a number is none, raises at once. At most 64 requests
-    are on their way, and at most 4,096 bytes of them, or one that is longer: where there would be more, the first replies are read
-    before the next request is sent, and kept for their answers.
+    session has ended or broken off; a request that can't be sent, since its line is too long or a number is none, raises at once.
+
+    At most 64 requests are on their way, and at most 4,096 bytes of them, or one that is longer: where there would be more, the
+    first replies are read before the next request is sent, and kept for their answers.
     """
 
     def __init__(self, session: Session) -> None:
