@@ -8,7 +8,7 @@ use Rattle.ot_check.specs.declared.fault.Offence.{Offence}
 use Rattle.ot_check.specs.declared.fault.Offence.TheVariants.{NotDeclared, ChildBeyond, ReductionMisuse, ConflictsWithChild, EndsWithChildren}
 use Rattle.ot_corder.specs.declared.order.Order.{Order}
 use Rattle.ot_program.specs.declared.fault.Refusal.{Refusal}
-use Rattle.ot_cjudge.specs.Start.{shape_of, cells_of}
+use Rattle.ot_cjudge.specs.Start.{numbers_of, shape_of, cells_of}
 use Rattle.ot_cjudge.specs.Sites.{Source, Site}
 use Rattle.ot_cjudge.specs.Lacks.{lacks_by}
 use Rattle.ot_cjudge.specs.Reports.{ReportsRead, here_line, other_line, warning_line, outside_line}
@@ -21,7 +21,7 @@ if_both (Err e) P Q R f h k = h
 
 pub same_lengths : (arrays : List CArray) → lengths (cells_of arrays) ≡ array_lengths (shape_of arrays)
 same_lengths [] = refl
-same_lengths (a ∷ others) = ap (λ ls. length a.cells.items ∷ ls) (same_lengths others)
+same_lengths (a ∷ others) = ap (λ ls. length (numbers_of a) ∷ ls) (same_lengths others)
 
 pub none_lacks : (offence : Offence) → lacks_by offence None ≡ None
 none_lacks NotDeclared = refl

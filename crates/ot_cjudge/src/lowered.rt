@@ -2,11 +2,12 @@
 use ot_corder::Order;
 use serde_json::Value;
 
-/// An array of a C program, and its numbers at the start.
+/// An array of a C program, and its numbers at the start: the first ones, and so many zeros behind them.
 #[derive(Drop)]
 pub struct CArray {
     pub name: String,
     pub cells: Vec<u64>,
+    pub zeros: u32,
 }
 
 /// A C program as a program of the language.

@@ -11,5 +11,5 @@ mod statements;
 mod turns;
 
 pub use lowered::{Lowered, Reductions, lower, lower_by_turns};
-pub use ot_cdeclare::CArray;
+pub use ot_cdeclare::{CArray, all_cells, cell_count};
 pub use ot_cscope::{CFault, Reason};

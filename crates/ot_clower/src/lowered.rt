@@ -17,7 +17,7 @@ use crate::region::region;
 use crate::statements::{Became, Called, Loops, Source};
 use crate::turns::{written, written_body};
 use ot_cclause::Taking;
-use ot_cdeclare::{CArray, Declared, byte_of, declaration, named, number_of, pointers};
+use ot_cdeclare::{CArray, Declared, byte_of, cell_count, declaration, named, number_of, pointers};
 use ot_cfile::{File, Step, Top};
 use ot_cread::Expr;
 use ot_cscope::{CFault, Meaning, Reason, Scope, constant, json};
@@ -327,7 +327,7 @@ fn shown(alloc: Global, array: &CArray) -> Result<Value, CFault>
     ensures { Gives (λ v. view v) result (Ok (meant.shown (array_of array.now))) }
 {
     let name = json::text(alloc, array.name.as_str())?;
-    let count = Value::from(array.cells.len());
+    let count = Value::from(cell_count(array));
     Ok(json::three(alloc, name, Value::from(0u64), count)?)
 }
 

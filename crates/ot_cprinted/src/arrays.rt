@@ -1,9 +1,9 @@
 //! The arrays that come back.
-ghost use Rattle.std.specs.Prelude.{◌≡◌, ◌<◌, ◌^◌, ◌↔◌, IfOk, IsTrue, map};
+ghost use Rattle.std.specs.Prelude.{◌≡◌, ◌<◌, ◌^◌, ◌↔◌, IfOk, IsTrue, length, map, replicate};
 ghost use Rattle.ot_model.specs.Programs.{arrays_of, expanded_of};
 ghost use Rattle.ot_c.specs.Programs.{declared, lists_of};
 ghost use Rattle.ot_c.specs.Programs as written;
-ghost use Rattle.ot_cdeclare.specs.Arrays.{array_of};
+ghost use Rattle.ot_cdeclare.specs.Arrays.{array_of, with_zeros};
 ghost use Rattle.ot_cprinted.specs.Printed.{begun, named, over};
 
 use ot_c::names;
@@ -44,7 +44,33 @@ pub(crate) fn same_arrays(
 fn is_array(back: &CArray, array: &ArrayShape, numbers: &[u64]) -> bool
     ensures { IsTrue result ↔ array_of back.now ≡ begun (declared (written.array_of array.now) numbers.now) }
 {
-    back.name.as_str() == array.name.as_str() && back.cells.as_slice() == numbers
+    back.name.as_str() == array.name.as_str() && are_cells(&back.cells, back.zeros, numbers)
+}
+
+/// Whether these numbers are cells and so many zeros behind them.
+fn are_cells(cells: &[u64], zeros: u32, numbers: &[u64]) -> bool
+    ensures { IsTrue result ↔ with_zeros cells.now zeros ≡ numbers.now }
+{
+    let count = cells.len();
+    if numbers.len() != count + zeros as usize {
+        return false;
+    }
+    if !are_same(&numbers[..count], cells) {
+        return false;
+    }
+    are_zeros(&numbers[count..])
+}
+
+fn are_same(one: &[u64], two: &[u64]) -> bool
+    ensures { IsTrue result ↔ one.now ≡ two.now }
+{
+    one == two
+}
+
+fn are_zeros(numbers: &[u64]) -> bool
+    ensures { IsTrue result ↔ replicate (length numbers.now) 0 ≡ numbers.now }
+{
+    numbers.iter().all(|number| *number == 0)
 }
 
 /// How many task statements a program may have: no fewer than statements.

@@ -5,6 +5,7 @@ use Rattle.ot_file.specs.Positions.{position_of}
 use Rattle.ot_corder.specs.declared.order.Order.{Order}
 use Rattle.ot_corder.specs.declared.order.Order.TheVariants.{OfC, OfCByPointers}
 use Rattle.ot_cjudge.specs.Reports.{Reports, outside_line}
+use Rattle.ot_cjudge.specs.Start.{numbers_of}
 use Rattle.ot_cjudge.specs.declared.lowered.CArray.{CArray}
 use Rattle.ot_cjudge.specs.declared.lowered.Lowered.{Lowered}
 use Rattle.ot_cjudge.specs.declared.report.Verdict.{Verdict}
@@ -17,7 +18,7 @@ use Rattle.ot_ctext.specs.Reading.{Meant, Means}
 use Rattle.ot_ctext.specs.Reasons.{mixed_reason}
 
 abbrev pub judged_array : CArray → Arr
-judged_array a = record { name = string_bytes a.name; cells = a.cells.items }
+judged_array a = record { name = string_bytes a.name; cells = numbers_of a }
 
 -- this program is judged, where this orders its tasks
 pub record IsJudged (by : Order) (p : Program) (l : Lowered) : Type 0 where

@@ -92,5 +92,6 @@ fn judged_array(array: ot_clower::CArray) -> ot_cjudge::CArray
     ot_cjudge::CArray {
         name: array.name,
         cells: array.cells,
+        zeros: array.zeros,
     }
 }

@@ -5,7 +5,7 @@ ghost use Rattle.ot_cdeclare.specs.Arrays.{array_of};
 ghost use Rattle.ot_clower.specs.Files.{lowered_of};
 ghost use Rattle.ot_ctext.specs.Requests as meant;
 
-use ot_clower::{CArray, Lowered};
+use ot_clower::{CArray, Lowered, all_cells};
 use ot_cscope::json;
 use serde_json::Value;
 use std::alloc::{AllocError, Global};
@@ -38,7 +38,8 @@ fn with_array(alloc: Global, requests: Vec<Value>, array: &CArray) -> Result<Vec
     ensures { IfOk result (λ rs. map view rs.items ≡ map view requests.items ++ meant.requests_for (array_of array.now)) }
 {
     let name = array.name.as_str();
-    let cells = array.cells.as_slice();
+    let all = all_cells(alloc, array)?;
+    let cells = all.as_slice();
     let mut requests = requests;
     requests.push(new_of(alloc, name, cells.len())?)?;
     with_pieces(alloc, requests, name, cells, cells.len() / PIECE + 1)

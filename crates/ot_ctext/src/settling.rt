@@ -6,7 +6,7 @@ ghost use Rattle.ot_clower.specs.Files.{lowered_of, lowered_by_turns};
 ghost use Rattle.ot_ctext.specs.Settling as meant;
 
 use ot_cfile::File;
-use ot_clower::{CArray, CFault, Lowered, lower_by_turns};
+use ot_clower::{CArray, CFault, Lowered, cell_count, lower_by_turns};
 use ot_model::{ArrayShape, Shape};
 use ot_program::{ProgramFault, Refusal, read_program};
 use ot_words::{Known, Name, Word, Words};
@@ -86,7 +86,7 @@ fn shape_of(alloc: Global, arrays: &[CArray]) -> Result<Shape, AllocError>
 {
     let mut named = Vec::new(alloc);
     for array in arrays {
-        let Ok(len) = u32::try_from(array.cells.len()) else {
+        let Ok(len) = u32::try_from(cell_count(array)) else {
             return Err(AllocError);
         };
         let name = String::from_str(alloc, array.name.as_str())?;
