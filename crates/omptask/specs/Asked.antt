@@ -1,10 +1,15 @@
 -- What the words ask for.
-use Rattle.std.specs.Prelude.{◌≡◌, ◌≢◌, true, ℕ, List, [], map, Option, Some, IfSome, codes, nat_eq, Bool, option_map, slice_get, string_bytes, unwrap_or}
+use Rattle.std.specs.Prelude.{◌≡◌, ◌≢◌, true, ℕ, List, [], map, Option, Some, None, IfSome, codes, nat_eq, bytes_eq, Bool, ◌||◌, if◌then◌else◌, option_map, slice_get, string_bytes, unwrap_or}
 use Rattle.std.specs.List.{ends_with}
 use Rattle.clap.specs.Words.{Row, Text, all_of, first_of, one_of}
 use Rattle.ot_commands.specs.Rules.{IsRead, IsSaid, entered_name, entered_rows}
+use Rattle.ot_diagnosis.specs.declared.format.Format.{Format}
+use Rattle.ot_diagnosis.specs.declared.format.Format.TheVariants.{Text as AsText, Json, Sarif, Github}
+use Rattle.ot_diagnosis.specs.declared.paint.Paint.{Paint}
 use Rattle.omptask.specs.declared.asked.Ask.{Ask}
 use Rattle.omptask.specs.declared.asked.Check.{Check}
+use Rattle.omptask.specs.declared.asked.Kind.{Kind}
+use Rattle.omptask.specs.declared.asked.Kind.TheVariants.{InC, InCpp, Requests}
 use Rattle.omptask.specs.declared.asked.Manner.{Manner}
 use Rattle.omptask.specs.declared.asked.Words.{Words}
 use Rattle.omptask.specs.declared.asked.Words.TheVariants as asked
@@ -25,6 +30,9 @@ pub record AsksManner (rows : List Row) (manner : Manner) : Type 0 where
 pub record AsksFiles (rows : List Row) (check : Check) : Type 0 where
   pub defined : map string_bytes check.defined.items ≡ unwrap_or (all_of (codes "define") rows) []
   pub lines : IsSaid (one_of (codes "lines") rows) check.lines
+  pub quiet : IsSaid (one_of (codes "quiet") rows) check.quiet
+  pub races_only : IsSaid (one_of (codes "races-only") rows) check.races_only
+  pub format : string_bytes check.format ≡ unwrap_or (first_of (codes "format") rows) []
   pub name : string_bytes check.name ≡ unwrap_or (first_of (codes "name") rows) []
   pub files : map string_bytes check.files.items ≡ unwrap_or (all_of (codes "file") rows) []
 
@@ -35,9 +43,21 @@ pub record AsksLines (rows : List Row) (check : Check) : Type 0 where
   pub name : string_bytes check.name ≡ unwrap_or (first_of (codes "name") rows) []
   pub files : map string_bytes check.files.items ≡ unwrap_or (all_of (codes "file") rows) []
 
--- a file of this name is in C
+-- a file of this name is in C, in C++, or has requests
 abbrev pub is_c : List ℕ → Bool
 is_c name = ends_with nat_eq name (codes ".c")
+
+abbrev pub is_cpp : List ℕ → Bool
+is_cpp name = ends_with nat_eq name (codes ".cpp") || ends_with nat_eq name (codes ".cc") || ends_with nat_eq name (codes ".cxx") || ends_with nat_eq name (codes ".C")
+
+abbrev pub kind_of : List ℕ → Kind
+kind_of name = if is_c name then InC else (if is_cpp name then InCpp else Requests)
+
+-- the format that a word asks for, none where there is no such format; text has colours or none
+abbrev pub format_of : List ℕ → Paint → Option Format
+format_of word paint =
+    if bytes_eq word [] || bytes_eq word (codes "text") then Some (AsText paint)
+    else (if bytes_eq word (codes "json") then Some Json else (if bytes_eq word (codes "sarif") then Some Sarif else (if bytes_eq word (codes "github") then Some Github else None)))
 
 -- what a subcommand asks for
 abbrev pub AsksFor : Option (Text × List Row) → Words → Type 0
@@ -74,6 +94,7 @@ socket_of other = []
 -- the word of which a fault tells, empty where there is none
 abbrev pub word_of : Words → Fault → List ℕ
 word_of (asked.Check check) (of.BadDefinition place) = unwrap_or (option_map string_bytes (slice_get check.defined.items place)) []
+word_of (asked.Check check) of.BadFormat = string_bytes check.format
 word_of (asked.Check check) (of.Unread place want) = unwrap_or (option_map string_bytes (slice_get check.files.items place)) []
 word_of (asked.Lines check) (of.Unread place want) = unwrap_or (option_map string_bytes (slice_get check.files.items place)) []
 word_of words fault = socket_of words

@@ -8,6 +8,8 @@ use Rattle.ot_ask.specs.declared.asked.Asked.{Asked}
 use Rattle.ot_ask.specs.declared.asked.Asked.TheVariants as asked
 use Rattle.ot_cjudge.specs.declared.report.Verdict.{Verdict}
 use Rattle.ot_cjudge.specs.declared.report.Verdict.TheVariants as verdict
+use Rattle.ot_diagnosis.specs.declared.summary.Outcome.{Outcome}
+use Rattle.ot_diagnosis.specs.declared.summary.Outcome.TheVariants as o
 use Rattle.ot_front.specs.declared.fault.FrontFault.{FrontFault}
 use Rattle.ot_front.specs.declared.fault.FrontFault.TheVariants as front
 use Rattle.ot_keep.specs.declared.fault.KeepFault.{KeepFault}
@@ -61,7 +63,7 @@ want_text want.NoPath = codes "no path of a file"
 want_text want.Other = codes "read failed"
 
 -- The line on standard error. Behind that of a bad or a refused line stands its number, and behind that of a server that isn't
--- reached the path and the cause. Behind that of a bad definition stands the word, and behind that of a file that isn't read the path
+-- reached the path and the cause. Behind that of a bad definition or format stands the word, and behind that of a file that isn't read the path
 -- and why.
 abbrev pub line_of : Fault → List ℕ
 line_of of.Busy = codes "omptask: busy"
@@ -83,6 +85,7 @@ line_of of.Memory = codes "omptask: no memory"
 line_of of.TooManyReads = codes "omptask: too many reads"
 line_of of.Stranger = codes "omptask: stranger"
 line_of (of.BadDefinition place) = codes "omptask: bad definition"
+line_of of.BadFormat = codes "omptask: bad format"
 line_of (of.Unread place want) = codes "omptask:"
 
 -- the program's fault where a session with a server failed
@@ -129,12 +132,21 @@ ended_of asked.AllTaken = Well
 ended_of asked.SomeRefused = Refused
 ended_of asked.CutShort = Refused
 
--- how it ends by a verdict on a text in C
-abbrev pub ended_by : Verdict → Ended
-ended_by verdict.Clean = Well
-ended_by verdict.OnlyRun = OnlyRun
-ended_by verdict.Races = Refused
-ended_by verdict.Outside = Outside
+-- how the judging of a text in C ended, by its verdict
+abbrev pub outcome_of : Verdict → Outcome
+outcome_of verdict.Clean = o.Clean
+outcome_of verdict.OnlyRun = o.OnlyRun
+outcome_of verdict.Races = o.Races
+outcome_of verdict.Outside = o.Outside
+
+-- how it ends where a file ended so
+abbrev pub ended_by : Outcome → Ended
+ended_by o.Races = Refused
+ended_by o.Refused = Refused
+ended_by o.Outside = Outside
+ended_by o.OnlyRun = OnlyRun
+ended_by o.Clean = Well
+ended_by o.Taken = Well
 
 -- how much an end outweighs others: most of all that something was refused, or races, then that something isn't judged, and then
 -- that only the run of something was
@@ -149,11 +161,12 @@ abbrev pub worse_of : Ended → Ended → Ended
 worse_of one other = if nat_lt (weight_of one) (weight_of other) then other else one
 
 -- the status of a fault: where another session is there it can be tried again, and where a line was refused it can't; a bad
--- definition is a word of the command line that can't be read
+-- definition or format is a word of the command line that can't be read
 abbrev pub status_of_fault : Fault → ℕ
 status_of_fault of.Busy = 4
 status_of_fault (of.RefusedLine number) = 3
 status_of_fault (of.BadDefinition place) = 2
+status_of_fault of.BadFormat = 2
 status_of_fault fault = 1
 
 -- the status where nothing went wrong

@@ -40,8 +40,17 @@ define_rule = record (new_rule (codes "define")) { long = Some (codes "define");
 unfoldable pub call_rule : Rule
 call_rule = record (new_rule (codes "name")) { long = Some (codes "name"); value_names = 1 }
 
+-- in which format is told what is found
+unfoldable pub format_rule : Rule
+format_rule = record (new_rule (codes "format")) { long = Some (codes "format"); value_names = 1 }
+
+-- what is judged, but the files
+unfoldable pub judging_words : App
+judging_words = with_rule (with_rule (with_rule (new_app (codes "check")) define_rule) (flag_rule (codes "lines"))) call_rule
+
 unfoldable pub check_words : Shape
-check_words = (with_rule (with_rule (with_rule (with_rule (new_app (codes "check")) define_rule) (flag_rule (codes "lines"))) call_rule) (names_rule (codes "file"))).top
+check_words =
+    (with_rule (with_rule (with_rule (with_rule judging_words format_rule) (flag_rule (codes "quiet"))) (flag_rule (codes "races-only"))) (names_rule (codes "file"))).top
 
 unfoldable pub lines_words : Shape
 lines_words = (with_rule (with_rule (new_app (codes "lines")) call_rule) (names_rule (codes "file"))).top

@@ -1,6 +1,19 @@
--- What is written of a text that is judged, or written as lines, and how the program ends.
-use Rattle.std.specs.Prelude.{◌≡◌, ℕ, zero, suc, List, [], Option, Ok, length}
+-- What is told of a text that is judged, or written as lines, and how that ends.
+use Rattle.std.specs.Prelude.{◌≡◌, ℕ, Bool, true, false, List, [], ◌∷◌, ◌++◌, map, codes, Option, None, Ok, if◌then◌else◌}
 use Rattle.std.specs.Io.KnownBytes.{Appends}
+use Rattle.serde_json.specs.Data.{Data}
+use Rattle.serde_json.specs.Written.{has_float}
+use Rattle.ot_diagnosis.specs.Diagnoses.{Diagnosis}
+use Rattle.ot_diagnosis.specs.DiagnosisView.{diagnosis_by}
+use Rattle.ot_diagnosis.specs.Formats.{found_text, without_refusals, document_text}
+use Rattle.ot_diagnosis.specs.Sarif.{document_value}
+use Rattle.ot_diagnosis.specs.Summaries.{summary_text}
+use Rattle.ot_diagnosis.specs.declared.diagnosis.Code.TheVariants as code
+use Rattle.ot_diagnosis.specs.declared.diagnosis.Severity.TheVariants.{Error}
+use Rattle.ot_diagnosis.specs.declared.format.Format.{Format}
+use Rattle.ot_diagnosis.specs.declared.format.Format.TheVariants.{Text, Json, Sarif, Github}
+use Rattle.ot_diagnosis.specs.declared.summary.Outcome.{Outcome}
+use Rattle.ot_diagnosis.specs.declared.summary.Outcome.TheVariants as o
 use Rattle.ot_file.specs.Comments.{blanked}
 use Rattle.ot_store.specs.Arrays.{Named}
 use Rattle.ot_judge.specs.Judging.{refusals_in, finds, made}
@@ -9,31 +22,66 @@ use Rattle.ot_cjudge.specs.declared.report.Verdict.{Verdict}
 use Rattle.ot_ctext.specs.Judging.{Judges}
 use Rattle.ot_ctext.specs.declared.session.Session.{Session}
 use Rattle.ot_ctext.specs.declared.session.Session.TheVariants as session
-use Rattle.omptask.specs.Faults.{ended_by}
+use Rattle.omptask.specs.Faults.{outcome_of}
 use Rattle.omptask.specs.declared.ended.Ended.{Ended}
-use Rattle.omptask.specs.declared.ended.Ended.TheVariants.{Well, Refused, Outside}
+use Rattle.omptask.specs.declared.ended.Ended.TheVariants.{Well, Outside}
+use Rattle.omptask.specs.declared.judging.Judged.{Judged}
 
--- Of a text in C of this name a report is written behind what was there, and it ends by the report's verdict.
-abbrev pub TellsC : List ℕ → List ℕ → Option (List ℕ) → Option (List ℕ) → Ended → Type 0
-TellsC name text old new ended = (verdict : Verdict) × (out : List ℕ) × Judges name text verdict out × Appends old new out × (ended ≡ ended_by verdict)
+-- what is told, where of a text in C only its races are to be
+abbrev pub kept_where : Bool → List Diagnosis → List Diagnosis
+kept_where true found = without_refusals found
+kept_where false found = found
 
--- how it ends where so many requests are refused
-abbrev pub ended_after : ℕ → Ended
-ended_after zero = Well
-ended_after (suc more) = Refused
+-- A text in C of this name is judged: what is found is told, and it ends by the verdict.
+abbrev pub JudgesC : Bool → List ℕ → List ℕ → Judged → Type 0
+JudgesC races_only name text judged =
+    (verdict : Verdict) × (found : List Diagnosis) × Judges name text verdict found
+    × (map diagnosis_by judged.found.items ≡ kept_where races_only found) × (judged.outcome ≡ outcome_of verdict)
 
--- Of a file of requests of this name, where these arrays are there before it, a report is written, and it ends by whether any is
--- refused.
-abbrev pub TellsRequests : List ℕ → List ℕ → List (List ℕ × ℕ) → Option (List ℕ) → Option (List ℕ) → Ended → Type 0
-TellsRequests name text arrays old new ended =
-    (now : List Named) × (out : List ℕ) × (made [] arrays ≡ Ok now) × Reports name (blanked text) (refusals_in (finds now) (blanked text)) out
-    × Appends old new out × (ended ≡ ended_after (length (refusals_in (finds now) (blanked text))))
+-- how it ends where these requests are refused
+abbrev pub outcome_after : List Diagnosis → Outcome
+outcome_after [] = o.Taken
+outcome_after (one ∷ others) = o.Refused
+
+-- A file of requests is judged, where these arrays are there before it: each that is refused is told, and it ends by whether any is.
+abbrev pub JudgesRequests : List ℕ → List (List ℕ × ℕ) → Judged → Type 0
+JudgesRequests text arrays judged =
+    (now : List Named) × (found : List Diagnosis) × (made [] arrays ≡ Ok now) × Reports (blanked text) (refusals_in (finds now) (blanked text)) found
+    × (map diagnosis_by judged.found.items ≡ found) × (judged.outcome ≡ outcome_after found)
+
+-- a text in C++ isn't judged
+abbrev pub in_cpp : Diagnosis
+in_cpp = record {
+  severity = Error;
+  code = code.Outside;
+  told = record { place = None; turns = []; message = codes "this is C++, which isn't read" };
+  notes = [];
+}
+
+-- what was judged of a file of this name is written in the format
+abbrev pub Tells : Format → List ℕ → List ℕ → Judged → Option (List ℕ) → Option (List ℕ) → Type 0
+Tells format name text judged old new = Appends old new (found_text format name text (map diagnosis_by judged.found.items))
+
+-- the document of SARIF with these results is written (of one that had a number with a fraction, the text isn't said)
+unfoldable pub PutsDocument : List Data → List ℕ → List ℕ → Type 0
+PutsDocument results old new = has_float (document_value results) ≡ false → new ≡ old ++ document_text results
+
+-- at the end of all files: how many ended how, unless that isn't asked for, or a document of results
+abbrev pub PutsEnd : Format → Bool → List Outcome → List Data → List ℕ → List ℕ → Type 0
+PutsEnd (Text paint) quiet outcomes results old new = new ≡ (if quiet then old else old ++ summary_text outcomes)
+PutsEnd Json quiet outcomes results old new = new ≡ old
+PutsEnd Sarif quiet outcomes results old new = PutsDocument results old new
+PutsEnd Github quiet outcomes results old new = new ≡ old
+
+abbrev pub TellsEnd : Format → Bool → List Outcome → List Data → Option (List ℕ) → Option (List ℕ) → Type 0
+TellsEnd format quiet outcomes results old new =
+    (text : List ℕ) × PutsEnd format quiet outcomes results [] text × Appends old new text
 
 -- the lines that are written of a text in C, and how it ends: there are none of one that isn't judged
 abbrev pub lines_of : Session → List ℕ
 lines_of (session.Lines lines) = lines.items
-lines_of (session.Outside line) = []
+lines_of (session.Outside found) = []
 
 abbrev pub ended_with : Session → Ended
 ended_with (session.Lines lines) = Well
-ended_with (session.Outside line) = Outside
+ended_with (session.Outside found) = Outside

@@ -47,8 +47,25 @@ pub struct Check {
     pub defined: Vec<String>,
     /// Whether the requests are to be written, one a line, and nothing is judged.
     pub lines: bool,
+    /// Whether no line is to tell at the end how many files ended how.
+    pub quiet: bool,
+    /// Whether of texts in C it isn't to be told what a server refuses.
+    pub races_only: bool,
+    /// The format; empty where that isn't said.
+    pub format: String,
     /// What standard input is called; empty where that isn't said.
     pub name: String,
     /// The paths of the files; `-` is standard input.
     pub files: Vec<String>,
+}
+
+/// What a file has, by its name.
+#[derive(Clone, Copy, Debug, PartialEq, Eq)]
+pub enum Kind {
+    /// A text in C.
+    InC,
+    /// A text in C++.
+    InCpp,
+    /// Requests.
+    Requests,
 }

@@ -1,16 +1,21 @@
 //! Files that are judged, or written as lines.
 ghost use Rattle.std.specs.Prelude.{◌≡◌};
-ghost use Rattle.omptask.specs.Faults.{weight_of, worse_of};
-ghost use Rattle.omptask.specs.Asked.{is_c};
+ghost use Rattle.omptask.specs.Faults.{ended_by, weight_of, worse_of};
+ghost use Rattle.omptask.specs.Asked.{format_of, is_c, is_cpp, kind_of};
 
-use crate::asked::Check;
+use crate::asked::{Check, Kind};
 use crate::ended::Ended;
 use crate::fault::{Fault, want_for};
-use crate::judging::{judge_c, judge_requests, write_lines, write_session};
+use crate::folder::{files_below, is_folder};
+use crate::judging::{
+    Judged, judge_c, judge_cpp, judge_requests, tell, tell_end, write_lines, write_session,
+};
 use ot_ctext::{Session, session_of};
+use ot_diagnosis::{Format, Outcome, Paint, Source, put_diagnosis, put_results};
 use ot_front::Writing;
 use ot_model::ArrayShape;
-use std::alloc::Global;
+use serde_json::Value;
+use std::alloc::{AllocError, Global};
 use std::fs::File;
 use std::io;
 use std::io::Read;
@@ -19,21 +24,114 @@ use std::rt::Files;
 /// What is told of standard input in the place of a file's name.
 const STDIN_NAME: &str = "<stdin>";
 
+/// What is asked for of each file.
+#[derive(Drop)]
+struct Order<'a> {
+    check: &'a Check,
+    format: Format,
+    arrays: &'a [ArrayShape],
+}
+
+/// What the files so far came to.
+#[derive(Drop)]
+struct Tally {
+    ended: Ended,
+    outcomes: Vec<Outcome>,
+    results: Vec<Value>,
+}
+
 /// Judges the files that are asked for, one after another, or writes their requests as lines.
-pub(crate) fn check_files<R: Input + Print + Eprint + Files>(
+pub(crate) fn check_files<R: Input + Print + Eprint + Files + AllocGlobal + Clone + Drop>(
     rt: &R,
     alloc: Global,
     check: &Check,
+    paint: Paint,
 ) -> Result<Ended, Fault> {
+    let Some(format) = format_of(check.format.as_str(), paint) else {
+        return Err(Fault::BadFormat);
+    };
     let arrays = arrays_of(alloc, check.defined.as_slice())?;
-    let mut ended = Ended::Well;
+    let order = Order {
+        check,
+        format,
+        arrays: arrays.as_slice(),
+    };
+    let mut tally = Tally {
+        ended: Ended::Well,
+        outcomes: Vec::new(alloc),
+        results: Vec::new(alloc),
+    };
     for (place, path) in check.files.iter().enumerate() {
-        let text = text_of(rt, alloc, path.as_str(), place)?;
-        let name = name_of(path.as_str(), check.name.as_str());
-        let one = check_text(rt, alloc, check, name, text.as_slice(), arrays.as_slice())?;
-        ended = worse_of(ended, one);
+        check_path(rt, alloc, &order, path.as_str(), place, &mut tally)?;
+    }
+    end(rt, alloc, &order, tally)
+}
+
+/// Tells at the end of all files what is to be told there.
+fn end<R: Print>(rt: &R, alloc: Global, order: &Order<'_>, tally: Tally) -> Result<Ended, Fault> {
+    let Tally {
+        ended,
+        outcomes,
+        results,
+    } = tally;
+    if !order.check.lines {
+        let mut to = Writing::new(io::writer(rt));
+        let quiet = order.check.quiet;
+        tell_end(
+            alloc,
+            order.format,
+            quiet,
+            outcomes.as_slice(),
+            results,
+            &mut to,
+        )?;
     }
     Ok(ended)
+}
+
+/// Judges a file, or all files in C below a folder.
+fn check_path<R: Input + Print + Eprint + Files + AllocGlobal + Clone + Drop>(
+    rt: &R,
+    alloc: Global,
+    order: &Order<'_>,
+    path: &str,
+    place: usize,
+    tally: &mut Tally,
+) -> Result<(), Fault> {
+    if !is_folder(rt, path) {
+        return check_file(rt, alloc, order, path, place, tally);
+    }
+    let files = match files_below(rt, alloc, path) {
+        Ok(files) => files,
+        Err(error) => return Err(unread(place, &error)),
+    };
+    for file in &files {
+        check_file(rt, alloc, order, file.as_str(), place, tally)?;
+    }
+    Ok(())
+}
+
+/// Judges a file, or writes its requests as lines.
+fn check_file<R: Input + Print + Eprint + Files>(
+    rt: &R,
+    alloc: Global,
+    order: &Order<'_>,
+    path: &str,
+    place: usize,
+    tally: &mut Tally,
+) -> Result<(), Fault> {
+    let text = text_of(rt, alloc, path, place)?;
+    let source = Source {
+        name: name_of(path, order.check.name.as_str()),
+        text: text.as_slice(),
+    };
+    let ended = if order.check.lines {
+        write_text(rt, alloc, source)?
+    } else {
+        check_text(rt, alloc, order, source, tally)?
+    };
+    tally.ended = worse_of(tally.ended, ended);
+    Ok(())
 }
 
 /// What a file is called.
@@ -48,10 +146,63 @@ fn name_of<'a>(path: &'a str, given: &'a str) -> &'a str {
 }
 
 /// Whether a file of this name is in C.
-fn is_c(name: &str) -> bool
+pub(crate) fn is_c(name: &str) -> bool
     ensures { result ≡ is_c name.now }
 {
     name.as_bytes().ends_with(b".c".as_slice())
+}
+
+/// Whether a file of this name is in C++.
+fn is_cpp(name: &str) -> bool
+    ensures { result ≡ is_cpp name.now }
+{
+    let name = name.as_bytes();
+    name.ends_with(b".cpp".as_slice())
+        || name.ends_with(b".cc".as_slice())
+        || name.ends_with(b".cxx".as_slice())
+        || name.ends_with(b".C".as_slice())
+}
+
+/// What a file of this name has.
+fn kind_of(name: &str) -> Kind
+    ensures { result ≡ kind_of name.now }
+{
+    if is_c(name) {
+        Kind::InC
+    } else if is_cpp(name) {
+        Kind::InCpp
+    } else {
+        Kind::Requests
+    }
+}
+
+/// The format that a word asks for, none where there is no such format.
+fn format_of(word: &str, paint: Paint) -> Option<Format>
+    ensures { result ≡ format_of word.now paint }
+{
+    if word.is_empty() || word == "text" {
+        Some(Format::Text(paint))
+    } else if word == "json" {
+        Some(Format::Json)
+    } else if word == "sarif" {
+        Some(Format::Sarif)
+    } else if word == "github" {
+        Some(Format::Github)
+    } else {
+        None
+    }
+}
+
+/// How the program ends where a file ended so.
+fn ended_by(outcome: Outcome) -> Ended
+    ensures { result ≡ ended_by outcome }
+{
+    match outcome {
+        Outcome::Races | Outcome::Refused => Ended::Refused,
+        Outcome::Outside => Ended::Outside,
+        Outcome::OnlyRun => Ended::OnlyRun,
+        Outcome::Clean | Outcome::Taken => Ended::Well,
+    }
 }
 
 /// How the program ends where one file ends so, and another so.
@@ -78,37 +229,117 @@ fn weight_of(ended: Ended) -> u8
     }
 }
 
-/// Judges the text of a file, or writes it as lines, on standard output. Why a text in C has no lines goes to standard error.
-fn check_text<R: Print + Eprint>(
+/// Writes the text of a file as lines, on standard output. Why a text in C has no lines goes to standard error.
+fn write_text<R: Print + Eprint>(
     rt: &R,
     alloc: Global,
-    check: &Check,
-    name: &str,
-    text: &[u8],
-    arrays: &[ArrayShape],
+    source: Source<'_>,
 ) -> Result<Ended, Fault> {
     let mut to = Writing::new(io::writer(rt));
-    match (check.lines, is_c(name)) {
-        (true, true) => {
-            let Ok(session) = session_of(alloc, name, text) else {
-                return Err(Fault::Memory);
-            };
-            tell_outside(rt, &session);
-            write_session(&session, &mut to)
-        }
-        (true, false) => write_lines(alloc, text, &mut to),
-        (false, true) => judge_c(alloc, name, text, &mut to),
-        (false, false) => judge_requests(alloc, name, text, arrays, &mut to),
+    if !is_c(source.name) {
+        return write_lines(alloc, source.text, &mut to);
     }
+    let Ok(session) = session_of(alloc, source.text) else {
+        return Err(Fault::Memory);
+    };
+    if tell_outside(rt, alloc, source, &session).is_err() {
+        return Err(Fault::Memory);
+    }
+    write_session(&session, &mut to)
 }
 
 /// Tells why there is no session, where standard error takes it.
-fn tell_outside(rt: &impl Eprint, session: &Session) {
-    if let Session::Outside(line) = session {
-        if let Ok(line) = str::from_utf8(line.as_slice()) {
-            let _ = eprint!(rt; "{line}");
-        }
+fn tell_outside(
+    rt: &impl Eprint,
+    alloc: Global,
+    source: Source<'_>,
+    session: &Session,
+) -> Result<(), AllocError> {
+    let Session::Outside(found) = session else {
+        return Ok(());
+    };
+    let mut out = Vec::new(alloc);
+    put_diagnosis(alloc, Paint::Plain, source, found, &mut out)?;
+    say(rt, out.as_slice());
+    Ok(())
+}
+
+/// Writes a text to standard error, where that takes it.
+fn say(rt: &impl Eprint, text: &[u8]) {
+    if let Ok(text) = str::from_utf8(text) {
+        let _ = eprint!(rt; "{text}");
     }
+}
+
+/// Judges the text of a file, on standard output.
+fn check_text<R: Print + Eprint>(
+    rt: &R,
+    alloc: Global,
+    order: &Order<'_>,
+    source: Source<'_>,
+    tally: &mut Tally,
+) -> Result<Ended, Fault> {
+    let judged = judged_text(alloc, order, source)?;
+    let mut to = Writing::new(io::writer(rt));
+    tell(alloc, order.format, source, &judged, &mut to)?;
+    tell_hint(rt, source);
+    match keep(alloc, order.format, source.name, &judged, tally) {
+        Ok(()) => Ok(ended_by(judged.outcome)),
+        Err(_) => Err(Fault::Memory),
+    }
+}
+
+/// Tells how C on standard input is read as C, where standard error takes it.
+fn tell_hint(rt: &impl Eprint, source: Source<'_>) {
+    if source.name == STDIN_NAME && has_directives(source.text) {
+        let _ = eprintln!(rt; "omptask: C on standard input is read with --name FILE.c");
+    }
+}
+
+/// Keeps for the end how a file ended, and what was found where that is written there.
+fn keep(
+    alloc: Global,
+    format: Format,
+    name: &str,
+    judged: &Judged,
+    tally: &mut Tally,
+) -> Result<(), AllocError> {
+    tally.outcomes.push(judged.outcome)?;
+    match format {
+        Format::Sarif => put_results(alloc, name, judged.found.as_slice(), &mut tally.results),
+        _ => Ok(()),
+    }
+}
+
+/// Judges the text of a file, by what its name says it has.
+fn judged_text(alloc: Global, order: &Order<'_>, source: Source<'_>) -> Result<Judged, Fault> {
+    let judged = match kind_of(source.name) {
+        Kind::InC => judge_c(
+            alloc,
+            order.check.races_only,
+            order.check.defined.as_slice(),
+            source.name,
+            source.text,
+        ),
+        Kind::InCpp => judge_cpp(alloc),
+        Kind::Requests => return judge_requests(alloc, source.text, order.arrays),
+    };
+    match judged {
+        Ok(judged) => Ok(judged),
+        Err(_) => Err(Fault::Memory),
+    }
+}
+
+/// Whether a line of a text begins with `#`, as directives of C do.
+fn has_directives(text: &[u8]) -> bool {
+    let mut begins = true;
+    for byte in text {
+        if begins && *byte == b'#' {
+            return true;
+        }
+        begins = *byte == b'\n';
+    }
+    false
 }
 
 /// The text of a file; `-` is standard input.
@@ -131,8 +362,16 @@ fn text_of<R: Input + Files>(
         Ok(_) => Ok(text),
         Err(error) if error.kind() == io::ErrorKind::OutOfMemory => Err(Fault::Memory),
         Err(_) if path == "-" => Err(Fault::ReadFailed),
-        Err(error) => Err(Fault::Unread(place, want_for(error.kind()))),
+        Err(error) => Err(unread(place, &error)),
     }
+}
+
+/// That the file at this place among those that are named isn't read.
+fn unread(place: usize, error: &io::Error) -> Fault {
+    if error.kind() == io::ErrorKind::OutOfMemory {
+        return Fault::Memory;
+    }
+    Fault::Unread(place, want_for(error.kind()))
 }
 
 /// The arrays of words `NAME=LEN`.

@@ -86,6 +86,9 @@ fn check_of(alloc: Global, found: &ArgMatches<'_>) -> Result<Check, AllocError>
     Ok(Check {
         defined: texts(alloc, found, "define")?,
         lines: flag(found, "lines"),
+        quiet: flag(found, "quiet"),
+        races_only: flag(found, "races-only"),
+        format: text(alloc, found, "format")?,
         name: text(alloc, found, "name")?,
         files: texts(alloc, found, "file")?,
     })
@@ -98,6 +101,9 @@ fn lines_of(alloc: Global, found: &ArgMatches<'_>) -> Result<Check, AllocError>
     Ok(Check {
         defined: Vec::new(alloc),
         lines: true,
+        quiet: true,
+        races_only: false,
+        format: String::new(alloc),
         name: text(alloc, found, "name")?,
         files: texts(alloc, found, "file")?,
     })

@@ -2,7 +2,7 @@
 ghost use Rattle.std.specs.Prelude.{◌≡◌, IfOk, false};
 ghost use Rattle.clap.specs.Words.{app_of, rule_of, shape_of};
 ghost use Rattle.clap.specs.declared.builder.command.Command.TheViews.{out-Command as fields_of};
-ghost use Rattle.omptask.specs.Grammar.{program_words, session_words, explain_words, ask_words, save_words, restore_words, graph_words, c_words, check_words, lines_words, call_rule, code_rule, name_rule, define_rule};
+ghost use Rattle.omptask.specs.Grammar.{program_words, session_words, explain_words, ask_words, save_words, restore_words, graph_words, c_words, judging_words, check_words, lines_words, call_rule, format_rule, code_rule, name_rule, define_rule};
 
 use clap::{Arg, ArgAction, Command, value_parser};
 use ot_commands::{flag_arg, names_arg, socket_arg, with_subcommand};
@@ -57,12 +57,13 @@ The status is 1 where a line isn't taken, behind the last run too, or none runs 
 
 /// What `check` reads and writes.
 const CHECK_HELP: &str = "\
-A FILE whose name ends in .c is C with OpenMP: it is told whether two touches race as its tasks run with its numbers.
+A FILE whose name ends in .c is C with OpenMP: it is told which touches race as its tasks run with its numbers.
 Any other FILE has requests over any number of lines, and comments from `//` to a line's end; what begins with \"program\"
-or \"program2\" stands for the `run` of it. `-` is standard input. No program is run. For each request that is refused
-a line `FILE:LINE:COLUMN: error: CODE: ..` is written, and behind it lines `FILE:LINE:COLUMN: note: ..`. Each such FILE
-begins with the arrays of --define; it makes others by its own requests.
-The status is 3 where anything was refused or races, else 1 where a FILE couldn't be judged.";
+or \"program2\" stands for the `run` of it. `-` is standard input, and a folder stands for each .c file below it.
+No program is run. What is found is told with its line of the source, in colours at a terminal unless NO_COLOR is set.
+A FILE of requests begins with the arrays of --define; it makes others by its own requests.
+The status is 3 where anything was refused or races, else 1 where a FILE couldn't be judged, else 4 where only the
+run of a FILE was judged.";
 
 /// What `lines` writes.
 const LINES_HELP: &str = "\
@@ -180,6 +181,27 @@ fn check_command<'a>(alloc: Global) -> Result<Command<'a>, AllocError>
     ensures words { IfOk result (λ command. shape_of command ≡ check_words) }
     ensures own { IfOk result (λ command. (fields_of command).has_globals ≡ false) }
 {
+    judging_command(alloc)?
+        .arg(format_arg(alloc))?
+        .arg(flag_arg(alloc, "quiet", "Don't tell at the end how many files race"))?
+        .arg(flag_arg(
+            alloc,
+            "races-only",
+            "Don't tell what omptaskd refuses of a file in C that has no race",
+        ))?
+        .arg(names_arg(
+            alloc,
+            "file",
+            "FILE",
+            "The files or folders; - is standard input",
+        ))
+}
+
+/// The words of `check` that say what is judged, but the files.
+fn judging_command<'a>(alloc: Global) -> Result<Command<'a>, AllocError>
+    ensures words { IfOk result (λ command. app_of command ≡ judging_words) }
+    ensures own { IfOk result (λ command. (fields_of command).has_globals ≡ false) }
+{
     Command::new(alloc, "check")
         .about("Say where files in C race, and requests are refused, with no program run")
         .after_help(CHECK_HELP)
@@ -189,8 +211,7 @@ fn check_command<'a>(alloc: Global) -> Result<Command<'a>, AllocError>
             "lines",
             "Write the requests of the files, one a line, and judge nothing",
         ))?
-        .arg(call_arg(alloc))?
-        .arg(names_arg(alloc, "file", "FILE", "The files; - is standard input"))
+        .arg(call_arg(alloc))
 }
 
 fn lines_command<'a>(alloc: Global) -> Result<Command<'a>, AllocError>
@@ -201,7 +222,12 @@ fn lines_command<'a>(alloc: Global) -> Result<Command<'a>, AllocError>
         .about("Write the requests of files, one a line, also of files in C")
         .after_help(LINES_HELP)
         .arg(call_arg(alloc))?
-        .arg(names_arg(alloc, "file", "FILE", "The files; - is standard input"))
+        .arg(names_arg(
+            alloc,
+            "file",
+            "FILE",
+            "The files or folders; - is standard input",
+        ))
 }
 
 fn code_arg<'a>(alloc: Global) -> Arg<'a>
@@ -232,6 +258,16 @@ fn call_arg<'a>(alloc: Global) -> Arg<'a>
         .long("name")
         .value_name("NAME")
         .help("What standard input is called, as race.c")
+}
+
+fn format_arg<'a>(alloc: Global) -> Arg<'a>
+    ensures rule { rule_of result ≡ format_rule }
+    ensures own { result.global ≡ false }
+{
+    Arg::new(alloc, "format")
+        .long("format")
+        .value_name("FORMAT")
+        .help("How it is told: text, json, sarif or github")
 }
 
 fn define_arg<'a>(alloc: Global) -> Arg<'a>

@@ -50,6 +50,8 @@ pub enum Fault {
     Stranger,
     /// A word of `--define` is no array that can be made: its place among them, from 0.
     BadDefinition(usize),
+    /// The word of `--format` is no format.
+    BadFormat,
     /// A file can't be read: its place among those that are named, from 0.
     Unread(usize, Want),
 }
@@ -186,6 +188,7 @@ pub fn fault_line(fault: &Fault) -> &'static str
         Fault::TooManyReads => "omptask: too many reads",
         Fault::Stranger => "omptask: stranger",
         Fault::BadDefinition(_) => "omptask: bad definition",
+        Fault::BadFormat => "omptask: bad format",
         Fault::Unread(_, _) => "omptask:",
     }
 }

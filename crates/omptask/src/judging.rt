@@ -1,21 +1,37 @@
 //! A text, judged, or written as lines.
-ghost use Rattle.std.specs.Prelude.{◌≡◌, IfOk, OnOk, flat_map};
+ghost use Rattle.std.specs.Prelude.{◌≡◌, [], ◌∷◌, ◌++◌, map, if◌then◌else◌, IfOk, OnOk, flat_map};
+ghost use Rattle.ot_diagnosis.specs.Summaries.{summary_text};
 ghost use Rattle.std.specs.Io.KnownBytes.{Appends};
+ghost use Rattle.serde_json.specs.View.{view};
 ghost use Rattle.ot_model.specs.Programs.{arrays_of};
+ghost use Rattle.ot_diagnosis.specs.DiagnosisView.{diagnosis_by};
 ghost use Rattle.ot_judge.specs.Judging.{lines_in, with_end};
-ghost use Rattle.omptask.specs.Faults.{ended_by};
+ghost use Rattle.omptask.specs.Faults.{outcome_of};
 ghost use Rattle.omptask.specs.declared.ended.Ended.TheVariants.{Well};
-ghost use Rattle.omptask.specs.Judged.{TellsC, TellsRequests, ended_after, ended_with, lines_of};
+ghost use Rattle.omptask.specs.Judged as meant;
 
 use crate::ended::Ended;
 use crate::fault::Fault;
 use ot_cjudge::Verdict;
+use ot_crun::judge_run;
 use ot_ctext::{Session, judge_text};
+use ot_diagnosis::{
+    Code, Diagnosis, Format, Outcome, Remark, Severity, Source, put_document, put_found,
+    put_summary, without_refusals,
+};
 use ot_front::{Sink, write_whole};
 use ot_judge::{JudgeFault, lines_of};
 use ot_model::ArrayShape;
 use ot_report::report_on;
-use std::alloc::Global;
+use serde_json::Value;
+use std::alloc::{AllocError, Global};
+
+/// What is found in a file, and how its judging ended.
+#[derive(Drop)]
+pub(crate) struct Judged {
+    pub(crate) outcome: Outcome,
+    pub(crate) found: Vec<Diagnosis>,
+}
 
 /// Writes the requests of a file, one a line.
 pub(crate) fn write_lines<W: Sink>(alloc: Global, text: &[u8], to: &mut W) -> Result<Ended, Fault>
@@ -31,8 +47,8 @@ pub(crate) fn write_lines<W: Sink>(alloc: Global, text: &[u8], to: &mut W) -> Re
 
 /// Writes the session that runs a text in C, where there is one.
 pub(crate) fn write_session<W: Sink>(session: &Session, to: &mut W) -> Result<Ended, Fault>
-    ensures lines { OnOk result (Appends (W.contents to.old) (W.contents to.new) (lines_of session.now)) }
-    ensures ended { IfOk result (λ ended. ended ≡ ended_with session.now) }
+    ensures lines { OnOk result (Appends (W.contents to.old) (W.contents to.new) (meant.lines_of session.now)) }
+    ensures ended { IfOk result (λ ended. ended ≡ meant.ended_with session.now) }
 {
     let (lines, ended): (&[u8], Ended) = match session {
         Session::Lines(lines) => (lines.as_slice(), Ended::Well),
@@ -42,66 +58,216 @@ pub(crate) fn write_session<W: Sink>(session: &Session, to: &mut W) -> Result<En
     Ok(ended)
 }
 
-/// Judges a text in C of this name, and writes what is found.
-pub(crate) fn judge_c<W: Sink>(
+/// Judges a text in C of this name; where only its races are to be told, nothing else is kept. Behind definitions it is executed.
+pub(crate) fn judge_c(
     alloc: Global,
+    races_only: bool,
+    defined: &[String],
     name: &str,
     text: &[u8],
-    to: &mut W,
-) -> Result<Ended, Fault>
-    ensures { IfOk result (λ ended. TellsC name.now text.now (W.contents to.old) (W.contents to.new) ended) }
+) -> Result<Judged, AllocError>
+    ensures { IfOk result (λ judged. defined.now ≡ [] → meant.JudgesC races_only name.now text.now judged) }
 {
-    let Ok(found) = judge_text(alloc, name, text) else {
-        return Err(Fault::Memory);
-    };
-    write(to, found.text.as_slice())?;
-    Ok(ended_by(found.verdict))
+    if !defined.is_empty() {
+        return executed(alloc, defined, name, text);
+    }
+    judge_as_it_stands(alloc, races_only, name, text)
 }
 
-/// How the program ends by a verdict.
-fn ended_by(verdict: Verdict) -> Ended
-    ensures { result ≡ ended_by verdict }
+/// Judges a text in C of this name, to which no definitions are added.
+fn judge_as_it_stands(
+    alloc: Global,
+    races_only: bool,
+    name: &str,
+    text: &[u8],
+) -> Result<Judged, AllocError>
+    ensures { IfOk result (meant.JudgesC races_only name.now text.now) }
+{
+    let report = judge_text(alloc, name, text)?;
+    Ok(Judged {
+        outcome: outcome_of(report.verdict),
+        found: kept_where(alloc, races_only, report.found)?,
+    })
+}
+
+/// What is told of a text that is executed.
+fn executed(
+    alloc: Global,
+    defined: &[String],
+    name: &str,
+    text: &[u8],
+) -> Result<Judged, AllocError> {
+    let told = judge_run(alloc, name, defined, text)?;
+    let outcome = match told.verdict {
+        ot_crun::Verdict::Clean => Outcome::Clean,
+        ot_crun::Verdict::OnlyRun => Outcome::OnlyRun,
+        ot_crun::Verdict::Races => Outcome::Races,
+        ot_crun::Verdict::Outside => Outcome::Outside,
+    };
+    Ok(Judged {
+        outcome,
+        found: told.found,
+    })
+}
+
+fn kept_where(
+    alloc: Global,
+    races_only: bool,
+    found: Vec<Diagnosis>,
+) -> Result<Vec<Diagnosis>, AllocError>
+    ensures { IfOk result (λ kept. map diagnosis_by kept.items ≡ meant.kept_where races_only (map diagnosis_by found.items)) }
+{
+    if races_only {
+        without_refusals(alloc, found)
+    } else {
+        Ok(found)
+    }
+}
+
+/// How the judging of a text in C ended, by its verdict.
+fn outcome_of(verdict: Verdict) -> Outcome
+    ensures { result ≡ outcome_of verdict }
 {
     match verdict {
-        Verdict::Clean => Ended::Well,
-        Verdict::OnlyRun => Ended::OnlyRun,
-        Verdict::Races => Ended::Refused,
-        Verdict::Outside => Ended::Outside,
+        Verdict::Clean => Outcome::Clean,
+        Verdict::OnlyRun => Outcome::OnlyRun,
+        Verdict::Races => Outcome::Races,
+        Verdict::Outside => Outcome::Outside,
     }
 }
 
-/// Judges a file of requests of this name, where these arrays are there before it, and writes what is refused.
-pub(crate) fn judge_requests<W: Sink>(
+/// Judges a file of requests, where these arrays are there before it.
+pub(crate) fn judge_requests(
     alloc: Global,
-    name: &str,
     text: &[u8],
     arrays: &[ArrayShape],
-    to: &mut W,
-) -> Result<Ended, Fault>
-    ensures { IfOk result (λ ended. TellsRequests name.now text.now (arrays_of arrays.now) (W.contents to.old) (W.contents to.new) ended) }
+) -> Result<Judged, Fault>
+    ensures { IfOk result (meant.JudgesRequests text.now (arrays_of arrays.now)) }
 {
-    let report = match report_on(alloc, name, text, arrays) {
-        Ok(report) => report,
-        Err(JudgeFault::Array(place)) => return Err(Fault::BadDefinition(place)),
-        Err(JudgeFault::Memory) => return Err(Fault::Memory),
-    };
-    write(to, report.text.as_slice())?;
-    Ok(ended_after(report.refused))
+    match report_on(alloc, text, arrays) {
+        Ok(found) => Ok(Judged {
+            outcome: outcome_after(found.as_slice()),
+            found,
+        }),
+        Err(JudgeFault::Array(place)) => Err(Fault::BadDefinition(place)),
+        Err(JudgeFault::Memory) => Err(Fault::Memory),
+    }
 }
 
-/// How the program ends where so many requests are refused.
-fn ended_after(refused: usize) -> Ended
-    ensures { result ≡ ended_after refused }
+/// How it ended where these requests are refused.
+fn outcome_after(found: &[Diagnosis]) -> Outcome
+    ensures { result ≡ meant.outcome_after (map diagnosis_by found.now) }
 {
-    if refused == 0 {
-        Ended::Well
-    } else {
-        Ended::Refused
+    match found {
+        [] => Outcome::Taken,
+        [_, ..] => Outcome::Refused,
     }
+}
+
+/// What is told of a text in C++.
+pub(crate) fn judge_cpp(alloc: Global) -> Result<Judged, AllocError>
+    ensures found { IfOk result (λ judged. map diagnosis_by judged.found.items ≡ meant.in_cpp ∷ []) }
+    ensures outcome { IfOk result (λ judged. judged.outcome ≡ Outcome.Outside) }
+{
+    let mut found = Vec::new(alloc);
+    found.push(in_cpp(alloc)?)?;
+    Ok(Judged {
+        outcome: Outcome::Outside,
+        found,
+    })
+}
+
+fn in_cpp(alloc: Global) -> Result<Diagnosis, AllocError>
+    ensures { IfOk result (λ found. diagnosis_by found ≡ meant.in_cpp) }
+{
+    Ok(Diagnosis {
+        severity: Severity::Error,
+        code: Code::Outside,
+        told: Remark {
+            place: None,
+            turns: Vec::new(alloc),
+            message: String::from_str(alloc, "this is C++, which isn't read")?,
+        },
+        notes: Vec::new(alloc),
+    })
+}
+
+/// Writes what was judged of a file.
+pub(crate) fn tell<W: Sink>(
+    alloc: Global,
+    format: Format,
+    source: Source<'_>,
+    judged: &Judged,
+    to: &mut W,
+) -> Result<(), Fault>
+    ensures { OnOk result (meant.Tells format source.entry.name.now source.entry.text.now judged.now (W.contents to.old) (W.contents to.new)) }
+{
+    let mut out = Vec::new(alloc);
+    match put_found(alloc, format, source, judged.found.as_slice(), &mut out) {
+        Ok(()) => write(to, out.as_slice()),
+        Err(_) => Err(Fault::Memory),
+    }
+}
+
+/// Writes what is told at the end of all files.
+pub(crate) fn tell_end<W: Sink>(
+    alloc: Global,
+    format: Format,
+    quiet: bool,
+    outcomes: &[Outcome],
+    results: Vec<Value>,
+    to: &mut W,
+) -> Result<(), Fault>
+    ensures { OnOk result (meant.TellsEnd format quiet outcomes.now (map (λ r. view r) results.items) (W.contents to.old) (W.contents to.new)) }
+{
+    match end_text(alloc, format, quiet, outcomes, results) {
+        Ok(out) => write(to, out.as_slice()),
+        Err(_) => Err(Fault::Memory),
+    }
+}
+
+/// What is told at the end of all files.
+fn end_text(
+    alloc: Global,
+    format: Format,
+    quiet: bool,
+    outcomes: &[Outcome],
+    results: Vec<Value>,
+) -> Result<Vec<u8>, AllocError>
+    ensures { IfOk result (λ text. meant.PutsEnd format quiet outcomes.now (map (λ r. view r) results.items) [] text.items) }
+{
+    let mut out = Vec::new(alloc);
+    match format {
+        Format::Text(_) => put_summary_unless(alloc, quiet, outcomes, &mut out)?,
+        Format::Sarif => put_sarif(alloc, results, &mut out)?,
+        Format::Json | Format::Github => {}
+    }
+    Ok(out)
+}
+
+fn put_summary_unless(
+    alloc: Global,
+    quiet: bool,
+    outcomes: &[Outcome],
+    out: &mut Vec<u8>,
+) -> Result<(), AllocError>
+    ensures { OnOk result (out.new.items ≡ (if quiet then out.old.items else out.old.items ++ summary_text outcomes.now)) }
+{
+    if quiet {
+        return Ok(());
+    }
+    put_summary(alloc, outcomes, out)
+}
+
+/// Writes the document of SARIF with these results.
+fn put_sarif(alloc: Global, results: Vec<Value>, out: &mut Vec<u8>) -> Result<(), AllocError>
+    ensures { OnOk result (meant.PutsDocument (map (λ r. view r) results.items) out.old.items out.new.items) }
+{
+    put_document(alloc, results, out)
 }
 
 /// Writes a text.
-pub(crate) fn write<W: Sink>(to: &mut W, text: &[u8]) -> Result<(), Fault>
+fn write<W: Sink>(to: &mut W, text: &[u8]) -> Result<(), Fault>
     ensures { OnOk result (Appends (W.contents to.old) (W.contents to.new) text.now) }
 {
     match write_whole(to, text) {

@@ -14,11 +14,12 @@ mod commands;
 pub mod ended;
 mod explaining;
 pub mod fault;
+mod folder;
 mod judging;
 mod prompt;
 pub mod reaching;
 
-pub use asked::{Ask, Check, Manner, Words};
+pub use asked::{Ask, Check, Kind, Manner, Words};
 use checking::check_files;
 use clap::error::ErrorKind;
 pub use command_line::words;
@@ -28,6 +29,7 @@ pub use fault::{Fault, Want, fault_line, want_text};
 use ot_ask::{Asked, LineSource, LinesOf, Tally, ask};
 use ot_commands::hold_standard;
 use ot_cprinted::{NoC, c_checked};
+use ot_diagnosis::Paint;
 use ot_explain::{Explained, explain, explain_quietly};
 use ot_front::{Reading, Sink, Writing, write_whole};
 use ot_graph::draw;
@@ -58,7 +60,7 @@ fn main(rt: HostRuntime) -> ExitCode {
     };
     let given: Result<Vec<&str>, _> = owned.iter().map(|word| word.as_str()).collect(alloc);
     match given {
-        Ok(given) => run(&rt, alloc, given.as_slice(), rt.stdin().is_terminal()),
+        Ok(given) => run(&rt, alloc, given.as_slice(), terminal_of(&rt)),
         Err(_) => tell(&rt, "", &Fault::Memory),
     }
 }
@@ -77,26 +79,52 @@ fn refuse(rt: &impl Eprint, error: &io::Error) -> ExitCode {
     ExitCode::from(2)
 }
 
-/// Does what the words ask for, and answers the status. Standard input is typed where it is a terminal.
-fn run<R: Input + Print + Eprint + Files + Net>(
+/// What is a terminal.
+#[derive(Clone, Copy, Debug)]
+struct Terminal {
+    /// Whether standard input is typed.
+    is_typed: bool,
+    /// Whether standard output has colours.
+    paint: Paint,
+}
+
+/// Standard output has colours where it is a terminal, unless NO_COLOR is set, and isn't empty.
+fn terminal_of(rt: &HostRuntime) -> Terminal {
+    let is_plain = match env::var(rt, "NO_COLOR") {
+        Ok(text) => !text.is_empty(),
+        Err(_) => false,
+    };
+    let paint = if rt.stdout().is_terminal() && !is_plain {
+        Paint::Coloured
+    } else {
+        Paint::Plain
+    };
+    Terminal {
+        is_typed: rt.stdin().is_terminal(),
+        paint,
+    }
+}
+
+/// Does what the words ask for, and answers the status.
+fn run<R: Input + Print + Eprint + Files + Net + AllocGlobal + Clone + Drop>(
     rt: &R,
     alloc: Global,
     given: &[&str],
-    is_typed: bool,
+    terminal: Terminal,
 ) -> ExitCode {
     let asked = match words(alloc, given) {
         Ok(asked) => asked,
         Err(error) => return show(rt, &error),
     };
     let ended = match &asked {
-        Words::Ask(asked, manner) => ask_server(rt, alloc, asked, *manner, is_typed),
+        Words::Ask(asked, manner) => ask_server(rt, alloc, asked, *manner, terminal.is_typed),
         Words::Save(asked) => save_tenant(rt, alloc, asked),
         Words::Restore(asked, replace) => restore_tenant(rt, alloc, asked, *replace),
         Words::Explain(None, quiet) => explain_session(rt, alloc, *quiet),
         Words::Explain(Some(code), _) => explain_code(rt, alloc, *code),
         Words::Graph => draw_run(rt, alloc),
         Words::C => write_run(rt, alloc),
-        Words::Check(asked) | Words::Lines(asked) => check_files(rt, alloc, asked),
+        Words::Check(asked) | Words::Lines(asked) => check_files(rt, alloc, asked, terminal.paint),
     };
     match ended {
         Ok(ended) => status_of(ended),
@@ -110,6 +138,7 @@ fn word_of<'a>(asked: &'a Words, fault: &Fault) -> &'a str
 {
     match (asked, fault) {
         (Words::Check(check), Fault::BadDefinition(place)) => word_at(&check.defined, *place),
+        (Words::Check(check), Fault::BadFormat) => check.format.as_str(),
         (Words::Check(check) | Words::Lines(check), Fault::Unread(place, _)) => {
             word_at(&check.files, *place)
         }
@@ -401,14 +430,16 @@ fn tell(rt: &impl Eprint, path: &str, fault: &Fault) -> ExitCode
         Fault::BadLine(number, answer) => tell_bad_line(rt, line, *number, *answer),
         Fault::RefusedLine(number) => eprintln!(rt; "{line} {number}"),
         Fault::Unreached(cause) => eprintln!(rt; "{line} {path}: {}", cause_text(*cause)),
-        Fault::BadDefinition(_) => eprintln!(rt; "{line} {path}, see omptask check --help"),
+        Fault::BadDefinition(_) | Fault::BadFormat => {
+            eprintln!(rt; "{line} {path}, see omptask check --help")
+        }
         Fault::Unread(_, want) => eprintln!(rt; "{line} {path}: {}", want_text(*want)),
         _ => eprintln!(rt; "{line}"),
     };
     match fault {
         Fault::Busy => ExitCode::from(4),
         Fault::RefusedLine(_) => ExitCode::from(3),
-        Fault::BadDefinition(_) => ExitCode::from(2),
+        Fault::BadDefinition(_) | Fault::BadFormat => ExitCode::from(2),
         _ => ExitCode::from(1),
     }
 }

@@ -1,12 +1,19 @@
 -- What is found where no way races.
-use Rattle.std.proofs.Common.{◌≡◌, ◌∙◌, inl, inr, refl, sym, ℕ, List, true, false, true≢false}
+use Rattle.std.proofs.Common.{◌≡◌, ◌∙◌, inl, inr, refl, sym, ap, ℕ, List, [], ◌∷◌, length, take, true, false, true≢false, arith}
+use Rattle.std.specs.Prelude.{slice_get}
 use Rattle.std.proofs.lemmas.Bool.{both_ways}
 use Rattle.ot_model.specs.Tree.{Body, val}
 use Rattle.ot_model.specs.Cells.{cell_of, lengths}
 use Rattle.ot_model.specs.Names.{NamedIn}
 use Rattle.ot_corder.specs.declared.order.Order.{Order}
 use Rattle.ot_ways.specs.Laws.{RunsAreWays, StraightWaysAreRuns}
-use Rattle.ot_race.specs.Races.{NothingRaces}
+use Rattle.ot_race.specs.Events.{Event}
+use Rattle.ot_race.specs.Races.{NothingRaces, TellsFirst}
+use Rattle.ot_race.specs.declared.race.Race.{Race}
+use Rattle.ot_races.specs.AllRaces.{IsMore, TellsAll}
+use Rattle.ot_races.specs.declared.races.More.{More}
+use Rattle.ot_races.specs.declared.races.More.TheVariants.{Exactly, AtLeast}
+use Rattle.ot_races.specs.declared.races.Races.{Races}
 use Rattle.ot_ways.specs.Straight.{is_straight}
 use Rattle.ot_ways.specs.Verdicts.{AreFew, NoWayRaces, Tells}
 use Rattle.ot_ways.specs.declared.verdict.Verdict.{Verdict}
@@ -38,3 +45,17 @@ pub finds_told : (order : Order) (body : Body) (cells : List (List ℕ)) (told :
 finds_told order body cells RacesOnNoWay bends none tells refused = (none, inl tells.0, tells.1)
 finds_told order body cells (RacesOnWay taken race) bends none tells refused = (none, tells.0, taken.items, tells.1)
 finds_told order body cells TooManyWays bends none tells refused = (none, unknown order body bends tells refused)
+
+-- ---- all races of a list
+
+first_told : (es : List Event) (rest : ℕ) (all : List Race) (more : More) → IsMore es all rest more → TellsFirst es (slice_get all 0)
+first_told es rest all (Exactly count) is = is.0.first
+first_told es rest all (AtLeast count) is = is.0.1.first
+
+nothing_told : (es : List Event) (all : List Race) → TellsFirst es (slice_get all 0) → length (take 20 all) ≡ 0 → NothingRaces es
+nothing_told es [] first none = first
+nothing_told es (race ∷ others) first none = absurd (omega (arith, none))
+
+-- where none is told, nothing races
+pub none_told : (es : List Event) (races : Races) → TellsAll es 20 races → length races.told.items ≡ 0 → NothingRaces es
+none_told es races tells none = nothing_told es tells.0 (first_told es _ tells.0 races.more tells.2) (sym (ap length tells.1) ∙ none)

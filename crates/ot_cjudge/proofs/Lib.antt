@@ -1,6 +1,5 @@
 pub mod OrderLemmas
 pub mod FoundLemmas
 pub mod LacksLemmas
-pub mod WritingLemmas
 pub mod FindingLemmas
 pub mod ReportLemmas

@@ -9,9 +9,10 @@ use Rattle.ot_check.specs.declared.fault.Offence.TheVariants.{NotDeclared, Child
 use Rattle.ot_corder.specs.declared.order.Order.{Order}
 use Rattle.ot_program.specs.declared.fault.Refusal.{Refusal}
 use Rattle.ot_cjudge.specs.Start.{numbers_of, shape_of, cells_of}
-use Rattle.ot_cjudge.specs.Sites.{Source, Site}
+use Rattle.ot_cjudge.specs.Sites.{Source}
 use Rattle.ot_cjudge.specs.Lacks.{lacks_by}
-use Rattle.ot_cjudge.specs.Reports.{ReportsRead, here_line, other_line, warning_line, outside_line}
+use Rattle.ot_diagnosis.specs.Diagnoses.{Diagnosis}
+use Rattle.ot_cjudge.specs.Reports.{ReportsRead}
 use Rattle.ot_cjudge.specs.declared.lowered.CArray.{CArray}
 use Rattle.ot_cjudge.specs.declared.report.Verdict.{Verdict}
 
@@ -36,30 +37,7 @@ source name text order request arrays bytes = record { name = name; text = text;
 pub same_source : (name text : List ℕ) (o : Order) (d e : Data) (a b : List (List ℕ × ℕ)) (m n : List ℕ) → d ≡ e → a ≡ b → m ≡ n → source name text o d a m ≡ source name text o e b n
 same_source name text o d e a b m n p q r = ap (λ x. source name text o x a m) p ∙ ap (λ x. source name text o e x m) q ∙ ap (λ x. source name text o e b x) r
 
-pub same_reports : (s z : Source) (cells start : List (List ℕ)) (r q : Result Expanded Refusal) (told : Verdict) (t : List ℕ) → s ≡ z → cells ≡ start → r ≡ q
+pub same_reports : (s z : Source) (cells start : List (List ℕ)) (r q : Result Expanded Refusal) (told : Verdict) (t : List Diagnosis) → s ≡ z → cells ≡ start → r ≡ q
     → ReportsRead s cells r told t → ReportsRead z start q told t
 same_reports s z cells start r q told t same begun is h =
     subst (λ x. ReportsRead z start x told t) is (subst (λ c. ReportsRead z c r told t) begun (subst (λ y. ReportsRead y cells r told t) same h))
-
--- ---- texts that begin empty
-
-pub race_is : (name cell known k l m t u z : List ℕ) (here other h o : Site) → k ≡ [] → l ≡ k ++ cell → m ≡ l → t ≡ [] → u ≡ t ++ here_line name m here other
-    → z ≡ u ++ other_line name other known → here ≡ h → other ≡ o → z ≡ here_line name cell h o ++ other_line name o known
-race_is name cell known k l m t u z here other h o none put same empty first second hh oo =
-    let is : m ≡ cell = same ∙ put ∙ ap (λ x. x ++ cell) none in
-    second ∙ ap (λ x. x ++ other_line name other known) (first ∙ ap (λ x. x ++ here_line name m here other) empty)
-    ∙ ap (λ x. here_line name x here other ++ other_line name other known) is
-    ∙ ap (λ x. here_line name cell x other ++ other_line name other known) hh
-    ∙ ap (λ x. here_line name cell h x ++ other_line name x known) oo
-
-pub warning_is : (name known words k l m t u : List ℕ) (site z : Site) (code number : ℕ) → k ≡ [] → l ≡ k ++ words → m ≡ l → t ≡ [] → u ≡ t ++ warning_line name site known m code
-    → site ≡ z → code ≡ number → u ≡ warning_line name z known words number
-warning_is name known words k l m t u site z code number none put same empty wrote at is =
-    let said : m ≡ words = same ∙ put ∙ ap (λ x. x ++ words) none in
-    wrote ∙ ap (λ x. x ++ warning_line name site known m code) empty ∙ ap (λ x. warning_line name site known x code) said
-    ∙ ap (λ x. warning_line name x known words code) at ∙ ap (λ x. warning_line name z known words x) is
-
-pub outside_is : (name reason why t u : List ℕ) (site z : Site) → t ≡ [] → u ≡ t ++ outside_line name site.position reason → site ≡ z → reason ≡ why
-    → u ≡ outside_line name z.position why
-outside_is name reason why t u site z empty wrote at is =
-    wrote ∙ ap (λ x. x ++ outside_line name site.position reason) empty ∙ ap (λ (x : Site). outside_line name x.position reason) at ∙ ap (λ x. outside_line name z.position x) is

@@ -1,9 +1,11 @@
 -- Which races are looked for in what stands for a C text: in its run, and then on all ways through its branches.
-use Rattle.std.specs.Prelude.{◌≡◌, ◌⊎◌, List, ℕ, Bool, true, false}
+use Rattle.std.specs.Prelude.{◌≡◌, ◌⊎◌, List, [], ℕ, Bool, true, false, Option, Some, None}
 use Rattle.ot_model.specs.Tree.{Body}
 use Rattle.ot_check.specs.Discipline.{OffendsNowhere}
 use Rattle.ot_race.specs.Events.{Event, this_way, events_of}
-use Rattle.ot_race.specs.Races.{NothingRaces, IsFirstRace}
+use Rattle.ot_race.specs.Races.{NothingRaces}
+use Rattle.ot_races.specs.AllRaces.{TellsAll}
+use Rattle.ot_races.specs.declared.races.Races.{Races}
 use Rattle.ot_corder.specs.Orders.{ordered_by, is_alike}
 use Rattle.ot_corder.specs.declared.order.Order.{Order}
 use Rattle.ot_ways.specs.Straight.{is_straight}
@@ -30,10 +32,15 @@ IsStraight body = is_straight body ≡ true
 abbrev pub AreKnown : Order → Body → Type 0
 AreKnown order body = AreFew body ⊎ (IsAccepted order body ⊎ IsStraight body)
 
--- the first race of the run; where nothing races in it, the first race of a way, from any cells; or that no way races, or that
+-- of a list of events all races are told, but no more than 20, and how many more there are; or nothing races
+abbrev pub TellsRun : List Event → Option Races → Type 0
+TellsRun es None = NothingRaces es
+TellsRun es (Some races) = TellsAll es 20 races × (races.told.items ≡ [] → ⊥)
+
+-- the races of the run; where nothing races in it, the first race of a way, from any cells; or that no way races, or that
 -- there are too many ways to know
 abbrev pub Finds : Order → Body → List (List ℕ) → Finding → Type 0
-Finds order body cells (InRun race) = IsFirstRace (events_by order body cells) race.cell race.place race.later
+Finds order body cells (InRun races) = TellsRun (events_by order body cells) (Some races)
 Finds order body cells (OnWay race) =
     NothingRaces (events_by order body cells) × AreFew body × (taken : List Turn) × ((from : List (List ℕ)) → IsRaceOn order body taken race from)
 Finds order body cells Nowhere = NothingRaces (events_by order body cells) × AreKnown order body × NoWayRaces order body

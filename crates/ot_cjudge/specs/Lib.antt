@@ -6,5 +6,6 @@ pub mod Lines
 pub mod Fits
 pub mod Lacks
 pub mod FoundView
+pub mod Doing
 pub mod Findings
 pub mod Reports

@@ -1,13 +1,8 @@
--- Lines about a C text in the form of compilers.
+-- Parts of what is said of a C text.
 use Rattle.std.specs.Prelude.{ℕ, ◌==◌, List, [], ◌∷◌, ◌++◌, slice_get, codes, if◌then◌else◌, Option, Some, None}
 use Rattle.std.specs.Fmt.{decimal}
 use Rattle.ot_model.specs.declared.expr.Cell.{Cell}
-use Rattle.ot_file.specs.declared.position.Position.{Position}
 use Rattle.ot_program.specs.Meanings.{Bindings}
-
--- `NAME:LINE:COLUMN`
-abbrev pub place_text : List ℕ → Position → List ℕ
-place_text name p = name ++ (codes ":" ++ (decimal p.line ++ (codes ":" ++ decimal p.column)))
 
 -- `i = 1`
 abbrev pub turn_text : List ℕ × ℕ → List ℕ

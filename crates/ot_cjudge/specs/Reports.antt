@@ -1,5 +1,5 @@
--- What is written of a C text, from the first byte to the last.
-use Rattle.std.specs.Prelude.{◌≡◌, ℕ, Bool, true, false, List, [], ◌++◌, codes, Option, Some, None, option_map, unwrap_or, Result, Ok, Err}
+-- What is told of a C text.
+use Rattle.std.specs.Prelude.{◌≡◌, ℕ, Bool, true, false, ◌==◌, List, [], ◌∷◌, ◌++◌, map, reverse, codes, if◌then◌else◌, Option, Some, None, option_map, unwrap_or, Result, Ok, Err}
 use Rattle.std.specs.Fmt.{decimal}
 use Rattle.serde_json.specs.Data.{Data, string, array, no_items, item}
 use Rattle.serde_json.specs.View.{view}
@@ -12,18 +12,28 @@ use Rattle.ot_check.specs.Offences.{code_of, Offends, IsFirstOf}
 use Rattle.ot_check.specs.declared.fault.Offence.{Offence}
 use Rattle.ot_check.specs.declared.fault.Offence.TheVariants.{NotDeclared, ChildBeyond, ReductionMisuse, ConflictsWithChild, EndsWithChildren}
 use Rattle.ot_fault.specs.Whys.{first_fault}
-use Rattle.ot_file.specs.declared.position.Position.{Position}
+use Rattle.ot_diagnosis.specs.Diagnoses.{Remark, Diagnosis}
+use Rattle.ot_diagnosis.specs.Texts.{place_text}
+use Rattle.ot_diagnosis.specs.declared.diagnosis.Code.{Code}
+use Rattle.ot_diagnosis.specs.declared.diagnosis.Code.TheVariants as code
+use Rattle.ot_diagnosis.specs.declared.diagnosis.Place.{Place}
+use Rattle.ot_diagnosis.specs.declared.diagnosis.Severity.{Severity}
+use Rattle.ot_diagnosis.specs.declared.diagnosis.Severity.TheVariants.{Error, Note}
 use Rattle.ot_program.specs.Programs.{program_of}
 use Rattle.ot_program.specs.declared.fault.Refusal.{Refusal}
 use Rattle.ot_program.specs.declared.fault.Refusal.TheVariants.{Form, Size, UnknownArray, OutOfRange, EmptySection, TooLarge, TooManyTasks, MixedReduction}
 use Rattle.ot_race.specs.declared.race.Race.{Race}
+use Rattle.ot_races.specs.declared.races.More.{More}
+use Rattle.ot_races.specs.declared.races.More.TheVariants.{Exactly, AtLeast}
+use Rattle.ot_races.specs.declared.races.Races.{Races}
+use Rattle.ot_cjudge.specs.Doing.{done_at}
 use Rattle.ot_overlap.specs.Items.{items_of, ground}
 use Rattle.ot_overlap.specs.Overlaps.{IsFirst}
 use Rattle.ot_corder.specs.declared.order.Order.{Order}
 use Rattle.ot_corder.specs.declared.order.Order.TheVariants.{OfLanguage, OfC, OfCByPointers}
 use Rattle.ot_cjudge.specs.Start.{named, shape_by, shape_of, cells_of}
 use Rattle.ot_cjudge.specs.Sites.{Source, Site, site_of, entry_site}
-use Rattle.ot_cjudge.specs.Lines.{place_text, turns_text, cell_text}
+use Rattle.ot_cjudge.specs.Lines.{turns_text, cell_text}
 use Rattle.ot_cjudge.specs.Lacks.{lacks}
 use Rattle.ot_cjudge.specs.Findings.{Finds}
 use Rattle.ot_cjudge.specs.declared.finding.Finding.{Finding}
@@ -34,12 +44,21 @@ use Rattle.ot_cjudge.specs.declared.report.Verdict.TheVariants as v
 
 -- ---- a race
 
--- `NAME:LINE:COLUMN: error: m[5] is touched here while it may be touched at NAME:LINE:COLUMN (i = 1, j = 2) [race]`, with the turns
--- of the touch here
-abbrev pub here_line : List ℕ → List ℕ → Site → Site → List ℕ
-here_line name cell here other =
-    place_text name here.position ++ (codes ": error: " ++ (cell ++ (codes " is touched here while it may be touched at "
-    ++ (place_text name other.position ++ (turns_text here.turns ++ codes " [race]\n")))))
+-- words about a site, with its turns
+abbrev pub at_site : Site → List ℕ → Remark
+at_site site message = record { place = Some site.place; turns = reverse site.turns; message = message }
+
+-- what has no notes
+abbrev pub alone : Severity → Code → Remark → Diagnosis
+alone severity kind told = record { severity = severity; code = kind; told = told; notes = [] }
+
+-- `m[5] is written here while it may be read at NAME:LINE:COLUMN (i = 1, j = 2)`, with the turns of the touch here
+abbrev pub here_words : List ℕ → List ℕ → Site → List ℕ → Site → List ℕ → List ℕ
+here_words name cell here one other two =
+    cell ++ (codes " is " ++ (one ++ (codes " here while it may be " ++ (two ++ (codes " at " ++ (place_text name (Some other.place) ++ turns_text here.turns))))))
+
+abbrev pub here_told : List ℕ → List ℕ → Site → List ℕ → Site → List ℕ → Remark
+here_told name cell here one other two = at_site here (here_words name cell here one other two)
 
 -- what is known of the two: in the run nothing orders them; or an `if` may go so that both touch the cell and nothing does
 abbrev pub in_run : List ℕ
@@ -48,14 +67,40 @@ in_run = codes "with these numbers nothing orders the two"
 abbrev pub on_path : List ℕ
 on_path = codes "some path has both"
 
--- `NAME:LINE:COLUMN: note: the other touch (i = 0, j = 2); with these numbers nothing orders the two`
-abbrev pub other_line : List ℕ → Site → List ℕ → List ℕ
-other_line name other known =
-    place_text name other.position ++ (codes ": note: the other touch" ++ (turns_text other.turns ++ (codes "; " ++ (known ++ codes "\n"))))
+-- `the other touch (i = 0, j = 2); with these numbers nothing orders the two`
+abbrev pub other_told : Site → List ℕ → Remark
+other_told other known = at_site other (codes "the other touch" ++ (turns_text other.turns ++ (codes "; " ++ known)))
 
-abbrev pub race_text : Source → List ℕ → Race → List ℕ
-race_text s known told =
-    here_line s.name (cell_text s.arrays told.cell) (site_of s told.later) (site_of s told.place) ++ other_line s.name (site_of s told.place) known
+-- what is said of a race whose touches stand at these sites
+abbrev pub race_told : Source → Body → Site → Site → Race → Remark
+race_told s body here other told =
+    here_told s.name (cell_text s.arrays told.cell) here (done_at body told.later told.cell) other (done_at body told.place told.cell)
+
+-- the touch that comes later in the serial run, and the other one as its note
+abbrev pub raced : Remark → Site → List ℕ → Diagnosis
+raced told other known = record { severity = Error; code = code.Race; told = told; notes = other_told other known ∷ [] }
+
+abbrev pub race_found : Source → Body → List ℕ → Race → Diagnosis
+race_found s body known told = raced (race_told s body (site_of s told.later) (site_of s told.place) told) (site_of s told.place) known
+
+-- words about the whole file
+abbrev pub of_file : Code → List ℕ → Diagnosis
+of_file kind message = alone Note kind (record { place = None; turns = []; message = message })
+
+-- `3 more races`, where they aren't told
+abbrev pub is_none : More → Bool
+is_none (Exactly count) = count == 0
+is_none (AtLeast count) = false
+
+abbrev pub more_words : More → List ℕ
+more_words (Exactly count) = if count == 1 then codes "1 more race" else decimal count ++ codes " more races"
+more_words (AtLeast count) = codes "at least " ++ (decimal count ++ codes " more races")
+
+abbrev pub more_found : More → List Diagnosis
+more_found more = if is_none more then [] else of_file code.MoreRaces (more_words more) ∷ []
+
+abbrev pub races_found : Source → Body → Races → List Diagnosis
+races_found s body races = map (race_found s body in_run) races.told.items ++ more_found races.more
 
 -- ---- what the server would refuse
 
@@ -85,26 +130,26 @@ no_race = codes "no race"
 abbrev pub none_in_run : List ℕ
 none_in_run = codes "with these numbers nothing races"
 
--- `NAME:LINE:COLUMN: warning: no race, but omptaskd refuses it: the task lacks depend(in: m[5]) (i = 1, j = 2) [425]`
-abbrev pub warning_line : List ℕ → Site → List ℕ → List ℕ → ℕ → List ℕ
-warning_line name site known words code =
-    place_text name site.position ++ (codes ": warning: " ++ (known ++ (codes ", but omptaskd refuses it: "
-    ++ (words ++ (turns_text site.turns ++ (codes " [" ++ (decimal code ++ codes "]\n")))))))
+-- `no race, but omptaskd refuses it: the task lacks depend(in: m[5]) (i = 1, j = 2)`
+abbrev pub refused_words : Site → List ℕ → List ℕ → List ℕ
+refused_words site known words = known ++ (codes ", but omptaskd refuses it: " ++ (words ++ turns_text site.turns))
+
+abbrev pub refused : Site → List ℕ → List ℕ → ℕ → Diagnosis
+refused site known words number = alone Note (code.Refused number) (at_site site (refused_words site known words))
 
 -- of the first offence; nothing where there is none
-abbrev pub warning_text : Source → Body → List ℕ → Option (ℕ × Offence) → List ℕ
-warning_text s body known None = []
-warning_text s body known (Some first) =
-    warning_line s.name (site_of s first.0) known (advice s.arrays first.1 (lacks body first.0 first.1)) (code_of first.1)
+abbrev pub refusals : Source → Body → List ℕ → Option (ℕ × Offence) → List Diagnosis
+refusals s body known None = []
+refusals s body known (Some first) =
+    refused (site_of s first.0) known (advice s.arrays first.1 (lacks body first.0 first.1)) (code_of first.1) ∷ []
 
-abbrev pub Warns : Source → Body → List ℕ → List ℕ → Type 0
-Warns s body known text = (first : Option (ℕ × Offence)) × IsFirstOf (Offends body) first × (text ≡ warning_text s body known first)
+abbrev pub TellsRefusal : Source → Body → List ℕ → List Diagnosis → Type 0
+TellsRefusal s body known found = (first : Option (ℕ × Offence)) × IsFirstOf (Offends body) first × (found ≡ refusals s body known first)
 
 -- ---- where there are too many ways
 
--- `NAME: note: only the run with these numbers was judged: there are too many paths`
-abbrev pub only_run_line : List ℕ → List ℕ
-only_run_line name = name ++ codes ": note: only the run with these numbers was judged: there are too many paths\n"
+abbrev pub only_run : Diagnosis
+only_run = of_file code.OnlyRun (codes "only the run with these numbers was judged: there are too many paths")
 
 -- ---- what isn't judged
 
@@ -121,23 +166,22 @@ reason_of MixedReduction = codes "a cell is in a reduction and in a clause besid
 abbrev pub overlaps : List ℕ
 overlaps = codes "an item of a depend clause overlaps in part with another one of this task or of a sibling"
 
--- `NAME:LINE:COLUMN: error: REASON [outside]`
-abbrev pub outside_line : List ℕ → Position → List ℕ → List ℕ
-outside_line name p reason = place_text name p ++ (codes ": error: " ++ (reason ++ codes " [outside]\n"))
+abbrev pub outside : Place → List ℕ → Diagnosis
+outside place reason = alone Error code.Outside (record { place = Some place; turns = []; message = reason })
 
 -- ---- the whole
 
 -- of what is found
-abbrev pub ReportsFinding : Source → Body → Finding → Verdict → List ℕ → Type 0
-ReportsFinding s body (InRun race) verdict text = (verdict ≡ v.Races) × (text ≡ race_text s in_run race)
-ReportsFinding s body (OnWay race) verdict text = (verdict ≡ v.Races) × (text ≡ race_text s on_path race)
-ReportsFinding s body Nowhere verdict text = (verdict ≡ v.Clean) × Warns s body no_race text
-ReportsFinding s body OnlyRun verdict text =
-    (verdict ≡ v.OnlyRun) × (warning : List ℕ) × Warns s body none_in_run warning × (text ≡ warning ++ only_run_line s.name)
+abbrev pub ReportsFinding : Source → Body → Finding → Verdict → List Diagnosis → Type 0
+ReportsFinding s body (InRun races) verdict found = (verdict ≡ v.Races) × (found ≡ races_found s body races)
+ReportsFinding s body (OnWay race) verdict found = (verdict ≡ v.Races) × (found ≡ race_found s body on_path race ∷ [])
+ReportsFinding s body Nowhere verdict found = (verdict ≡ v.Clean) × TellsRefusal s body no_race found
+ReportsFinding s body OnlyRun verdict found =
+    (verdict ≡ v.OnlyRun) × (refusal : List Diagnosis) × TellsRefusal s body none_in_run refusal × (found ≡ refusal ++ only_run ∷ [])
 
 -- of a program that begins with these cells
-abbrev pub ReportsRun : Source → List (List ℕ) → Body → Verdict → List ℕ → Type 0
-ReportsRun s cells body verdict text = (finding : Finding) × Finds s.order body cells finding × ReportsFinding s body finding verdict text
+abbrev pub ReportsRun : Source → List (List ℕ) → Body → Verdict → List Diagnosis → Type 0
+ReportsRun s cells body verdict found = (finding : Finding) × Finds s.order body cells finding × ReportsFinding s body finding verdict found
 
 -- whether `red` is an item of a `depend` clause: where tasks take part in reductions by pointers it stands for `depend(in: ..)` too
 abbrev pub has_red_items : Order → Bool
@@ -146,13 +190,13 @@ has_red_items OfC = false
 has_red_items OfCByPointers = true
 
 -- of one of which an item of a `depend` clause overlaps in part with one that writes, or none does
-abbrev pub ReportsItems : Source → List (List ℕ) → Body → Option ℕ → Verdict → List ℕ → Type 0
-ReportsItems s cells body (Some entry) verdict text = (verdict ≡ v.Outside) × (text ≡ outside_line s.name (entry_site s entry).position overlaps)
-ReportsItems s cells body None verdict text = ReportsRun s cells body verdict text
+abbrev pub ReportsItems : Source → List (List ℕ) → Body → Option ℕ → Verdict → List Diagnosis → Type 0
+ReportsItems s cells body (Some entry) verdict found = (verdict ≡ v.Outside) × (found ≡ outside (entry_site s entry).place overlaps ∷ [])
+ReportsItems s cells body None verdict found = ReportsRun s cells body verdict found
 
-abbrev pub ReportsProgram : Source → List (List ℕ) → Body → Verdict → List ℕ → Type 0
-ReportsProgram s cells body verdict text =
-    (first : Option ℕ) × IsFirst (items_of (ground s.arrays (has_red_items s.order)) s.request) first × ReportsItems s cells body first verdict text
+abbrev pub ReportsProgram : Source → List (List ℕ) → Body → Verdict → List Diagnosis → Type 0
+ReportsProgram s cells body verdict found =
+    (first : Option ℕ) × IsFirst (items_of (ground s.arrays (has_red_items s.order)) s.request) first × ReportsItems s cells body first verdict found
 
 -- the request that runs a program
 abbrev pub run_of : Data → Data
@@ -163,16 +207,16 @@ unfoldable pub faulty : Source → ℕ
 faulty s = unwrap_or (option_map (λ found. found.0) (first_fault (shape_by s.arrays) s.request)) 0
 
 -- of a program that was read, or wasn't
-abbrev pub ReportsRead : Source → List (List ℕ) → Result Expanded Refusal → Verdict → List ℕ → Type 0
-ReportsRead s cells (Ok program) verdict text = ReportsProgram s cells program.body verdict text
-ReportsRead s cells (Err refusal) verdict text =
-    (verdict ≡ v.Outside) × (text ≡ outside_line s.name (entry_site s (faulty s)).position (reason_of refusal))
+abbrev pub ReportsRead : Source → List (List ℕ) → Result Expanded Refusal → Verdict → List Diagnosis → Type 0
+ReportsRead s cells (Ok program) verdict found = ReportsProgram s cells program.body verdict found
+ReportsRead s cells (Err refusal) verdict found =
+    (verdict ≡ v.Outside) × (found ≡ outside (entry_site s (faulty s)).place (reason_of refusal) ∷ [])
 
 abbrev pub source_of : List ℕ → List ℕ → Lowered → Source
 source_of name text lowered =
     record { name = name; text = text; request = run_of (view lowered.program); arrays = named lowered.arrays.items; bytes = lowered.places.items; order = lowered.order }
 
 -- of what stands for a C text
-abbrev pub Reports : List ℕ → List ℕ → Lowered → Verdict → List ℕ → Type 0
-Reports name text lowered verdict out =
-    ReportsRead (source_of name text lowered) (cells_of lowered.arrays.items) (program_of (shape_of lowered.arrays.items) (view lowered.program)) verdict out
+abbrev pub Reports : List ℕ → List ℕ → Lowered → Verdict → List Diagnosis → Type 0
+Reports name text lowered verdict found =
+    ReportsRead (source_of name text lowered) (cells_of lowered.arrays.items) (program_of (shape_of lowered.arrays.items) (view lowered.program)) verdict found

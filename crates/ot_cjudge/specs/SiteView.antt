@@ -12,4 +12,4 @@ source_by source =
     record { name = source.name.now; text = source.text.now; request = view source.request.now; arrays = arrays_of source.arrays.now; bytes = source.places.now; order = source.order }
 
 abbrev pub site_by : Site → s.Site
-site_by site = record { position = site.position; turns = map turn_by site.turns.items }
+site_by site = record { place = site.place; turns = map turn_by site.turns.items }

@@ -2,8 +2,8 @@
 use Rattle.std.specs.Prelude.{ℕ, List, [], slice_get, Option, Some, None, option_map, unwrap_or}
 use Rattle.serde_json.specs.Data.{Data}
 use Rattle.ot_corder.specs.declared.order.Order.{Order}
-use Rattle.ot_file.specs.Positions.{position_of}
-use Rattle.ot_file.specs.declared.position.Position.{Position}
+use Rattle.ot_diagnosis.specs.Diagnoses.{place_in}
+use Rattle.ot_diagnosis.specs.declared.diagnosis.Place.{Place}
 use Rattle.ot_program.specs.Meanings.{Bindings}
 use Rattle.ot_place.specs.Spots.{Path, place_at, spots_of, statements_of, numbered}
 use Rattle.ot_cjudge.specs.TextOrder.{told_of}
@@ -21,12 +21,12 @@ pub record Source : Type 0 where
 
 -- a place in the text, and the turns of the loops around it, the innermost first
 pub record Site : Type 0 where
-  pub position : Position
+  pub place : Place
   pub turns : Bindings
 
 abbrev pub site_at : Source → Option (Path × Bindings) → Site
-site_at s None = record { position = position_of s.text 0; turns = [] }
-site_at s (Some place) = record { position = position_of s.text (unwrap_or (told_of s.bytes s.request place.0) 0); turns = place.1 }
+site_at s None = record { place = place_in s.text 0; turns = [] }
+site_at s (Some place) = record { place = place_in s.text (unwrap_or (told_of s.bytes s.request place.0) 0); turns = place.1 }
 
 -- that of the C statement that stands for the statement of this number
 abbrev pub site_of : Source → ℕ → Site

@@ -5,22 +5,26 @@ ghost use Rattle.ot_model.specs.Cells.{lengths};
 ghost use Rattle.ot_model.specs.Names.{NamedIn};
 ghost use Rattle.ot_check.specs.Discipline.{OffendsNowhere};
 ghost use Rattle.ot_check.specs.Offences.{Offends, IsFirstOf};
-ghost use Rattle.ot_cjudge.specs.Findings.{Finds, IsAccepted, is_clean, events_by, finding_of};
+ghost use Rattle.ot_cjudge.specs.Findings.{Finds, TellsRun, IsAccepted, is_clean, events_by, finding_of};
 
 use ot_check::Offence;
-use ot_corder::{Order, is_alike, judge_by};
+use ot_corder::{Order, is_alike, races_by};
 use ot_model::{Cells, Program};
 use ot_race::{Race, run_events};
 use ot_raceless::laws::accepted_races_on_no_way_by;
+use ot_races::Races;
 use ot_ways::laws::{runs_are_ways, straight_ways_are_runs};
 use ot_ways::{Verdict as WaysVerdict, any_way, is_straight};
 use std::alloc::{AllocError, Global};
 
+/// How many races of a run are told.
+const MOST_RACES: usize = 20;
+
 /// What is found of a program that begins with the C's numbers.
-#[derive(Clone, Copy, Debug, PartialEq, Eq)]
+#[derive(Debug, Drop)]
 pub(crate) enum Finding {
     /// Its run races.
-    InRun(Race),
+    InRun(Races),
     /// Its run doesn't race, but another way through its branches does.
     OnWay(Race),
     /// No way races.
@@ -76,13 +80,15 @@ fn find_in_refused(
     requires { NamedIn (lengths cells) (stmts_of program.now.body.items) }
     ensures { (IsAccepted order (stmts_of program.now.body.items) → ⊥) → IfOk result (Finds order (stmts_of program.now.body.items) cells) }
 {
-    match race_in_run(alloc, order, program, cells)? {
-        Some(race) => Ok(Finding::InRun(race)),
+    match races_in_run(alloc, order, program, cells)? {
+        Some(races) => Ok(Finding::InRun(races)),
         None => find_on_ways(alloc, order, program),
     }
 }
 
-ghost use Rattle.ot_race.specs.Races.{NothingRaces, TellsFirst};
+ghost use Rattle.ot_race.specs.Events.{Event};
+ghost use Rattle.ot_race.specs.Races.{NothingRaces};
+ghost use Rattle.ot_races.specs.AllRaces.{TellsAll};
 
 /// Looks on the ways of a program whose run doesn't race. Where it is straight they do what the run does, and none is judged.
 fn find_on_ways(alloc: Global, order: Order, program: &Program) -> Result<Finding, AllocError>
@@ -118,8 +124,8 @@ fn find_race(
     if is_clean(&told) {
         return Ok(Finding::Nowhere);
     }
-    match race_in_run(alloc, order, program, cells)? {
-        Some(race) => Ok(Finding::InRun(race)),
+    match races_in_run(alloc, order, program, cells)? {
+        Some(races) => Ok(Finding::InRun(races)),
         None => Ok(finding_of(told)),
     }
 }
@@ -131,17 +137,30 @@ fn is_clean(told: &WaysVerdict) -> bool
     matches!(told, WaysVerdict::RacesOnNoWay)
 }
 
-fn race_in_run(
+/// The races of the run that begins with these cells, where this orders tasks.
+fn races_in_run(
     alloc: Global,
     order: Order,
     program: &Program,
     cells: Cells,
-) -> Result<Option<Race>, AllocError>
+) -> Result<Option<Races>, AllocError>
     requires { NamedIn (lengths cells) (stmts_of program.now.body.items) }
-    ensures { IfOk result (TellsFirst (events_by order (stmts_of program.now.body.items) cells)) }
+    ensures { IfOk result (TellsRun (events_by order (stmts_of program.now.body.items) cells)) }
 {
     let events = run_events(alloc, program, cells)?;
-    judge_by(alloc, order, events)
+    let races = races_by(alloc, order, events, MOST_RACES)?;
+    Ok(some_of(races))
+}
+
+/// Races, where there are some.
+fn some_of(races: Races) -> Option<Races>
+    ensures { (es : List Event) → TellsAll es 20 races → TellsRun es result }
+{
+    if races.told.is_empty() {
+        None
+    } else {
+        Some(races)
+    }
 }
 
 /// What the ways tell of a program whose run doesn't race.

@@ -1,51 +1,56 @@
 //! A C text, judged over the program that stands for it.
-ghost use Rattle.std.specs.Prelude.{◌≡◌, ◌++◌, ℕ, List, IfOk, Some, Result};
+ghost use Rattle.std.specs.Prelude.{◌≡◌, ◌++◌, [], ◌∷◌, ℕ, List, map, IfOk, Some, Result, string_bytes};
 ghost use Rattle.serde_json.specs.View.{view};
 ghost use Rattle.ot_model.specs.View.{stmts_of};
 ghost use Rattle.ot_model.specs.Cells.{lengths};
 ghost use Rattle.ot_model.specs.Programs.{Expanded, IsNamedIn, expanded_of, array_lengths};
 ghost use Rattle.ot_check.specs.Offences.{Offends, IsFirstOf};
-ghost use Rattle.ot_file.specs.Positions.{position_of};
+ghost use Rattle.ot_diagnosis.specs.Diagnoses.{place_in};
+ghost use Rattle.ot_diagnosis.specs.DiagnosisView.{remark_by, diagnosis_by};
 ghost use Rattle.ot_program.specs.Programs.{program_of};
 ghost use Rattle.ot_program.specs.Returned.{Fails, Gives};
 ghost use Rattle.ot_program.specs.declared.fault.Refusal.{Refusal};
 ghost use Rattle.ot_cjudge.specs.Sites.{entry_site};
-ghost use Rattle.ot_cjudge.specs.SiteView.{source_by};
+ghost use Rattle.ot_cjudge.specs.SiteView.{site_by, source_by};
 ghost use Rattle.ot_cjudge.specs.Fits.{Fits};
 ghost use Rattle.ot_cjudge.specs.Start.{cells_of as begun};
 ghost use Rattle.ot_cjudge.specs.Lacks.{lacks};
-ghost use Rattle.ot_cjudge.specs.Reports.{Reports, ReportsRead, ReportsProgram, ReportsRun, ReportsFinding, race_text, warning_text, only_run_line, none_in_run, has_red_items, faulty, outside_line, overlaps, reason_of, run_of};
+ghost use Rattle.ot_cjudge.specs.Reports.{Reports, ReportsRead, ReportsProgram, ReportsRun, ReportsFinding, has_red_items, faulty, overlaps, run_of};
+ghost use Rattle.ot_cjudge.specs.Reports as meant;
 
+use crate::doing::done_at;
 use crate::finding::{Finding, find};
 use crate::found::find_in;
 use crate::lacks::lacks_by;
-use crate::line::put_cell;
+use crate::line::cell_text;
 use crate::lowered::{CArray, Lowered};
 use crate::report::{Report, Verdict};
-use crate::source::{Source, position_at};
+use crate::source::{Site, Source};
 use crate::start::{MAX_TASKS, cells_of, shape_of};
 use crate::telling::{
-    put_advice, put_here, put_only_run, put_other, put_outside, put_warning, reason_of,
+    advice, here_told, more_races, only_run, other_told, outside, reason_of, refused,
 };
 use ot_check::{Offence, first_offence};
 use ot_corder::Order;
+use ot_diagnosis::{Code, Diagnosis, Place, Remark, Severity};
 use ot_fault::first_fault;
 use ot_model::{Cells, Program, Shape, Use};
 use ot_overlap::first_overlap;
 use ot_program::{ProgramFault, Refusal, read_program};
 use ot_race::Race;
+use ot_races::Races;
 use serde_json::Value;
 use std::alloc::{AllocError, Global};
 
 /// Judges a C text of this name over the program that stands for it, as it runs with the C's numbers and on all ways through its
-/// branches, and writes what is found.
+/// branches, and tells what is found.
 pub fn report_c(
     alloc: Global,
     name: &str,
     text: &[u8],
     lowered: Lowered,
 ) -> Result<Report, AllocError>
-    ensures { IfOk result (λ report. Reports name.now text.now lowered report.verdict report.text.items) }
+    ensures { IfOk result (λ report. Reports name.now text.now lowered report.verdict (map diagnosis_by report.found.items)) }
 {
     let Lowered {
         arrays,
@@ -70,7 +75,7 @@ pub fn report_c(
     report_read(alloc, &source, &shape, arrays, read)
 }
 
-/// What is written of a program over these arrays, where it is read. Of one that isn't, the cells aren't asked for.
+/// What is told of a program over these arrays, where it is read. Of one that isn't, the cells aren't asked for.
 fn report_read(
     alloc: Global,
     source: &Source<'_>,
@@ -80,7 +85,7 @@ fn report_read(
 ) -> Result<Report, AllocError>
     requires named { IfOk read (λ program. IsNamedIn (array_lengths shape.now) (expanded_of program)) }
     requires cells { lengths (begun arrays.items) ≡ array_lengths shape.now }
-    ensures { (program : Result Expanded Refusal) → Gives expanded_of read program → IfOk result (λ report. ReportsRead (source_by source.now) (begun arrays.items) program report.verdict report.text.items) }
+    ensures { (program : Result Expanded Refusal) → Gives expanded_of read program → IfOk result (λ report. ReportsRead (source_by source.now) (begun arrays.items) program report.verdict (map diagnosis_by report.found.items)) }
 {
     match read {
         Ok(program) => report_with_cells(alloc, source, shape, program, arrays),
@@ -88,7 +93,7 @@ fn report_read(
     }
 }
 
-/// What is written of a program over these arrays, which begins with their cells.
+/// What is told of a program over these arrays, which begins with their cells.
 fn report_with_cells(
     alloc: Global,
     source: &Source<'_>,
@@ -98,19 +103,19 @@ fn report_with_cells(
 ) -> Result<Report, AllocError>
     requires named { IsNamedIn (array_lengths shape.now) (expanded_of program) }
     requires cells { lengths (begun arrays.items) ≡ array_lengths shape.now }
-    ensures { IfOk result (λ report. ReportsProgram (source_by source.now) (begun arrays.items) (stmts_of program.body.items) report.verdict report.text.items) }
+    ensures { IfOk result (λ report. ReportsProgram (source_by source.now) (begun arrays.items) (stmts_of program.body.items) report.verdict (map diagnosis_by report.found.items)) }
 {
     let cells = cells_of(alloc, arrays)?;
     report_program(alloc, source, shape, program, cells)
 }
 
-/// What is written of a program that isn't read.
+/// What is told of a program that isn't read.
 fn report_unread(
     alloc: Global,
     source: &Source<'_>,
     fault: ProgramFault,
 ) -> Result<Report, AllocError>
-    ensures { (cells : List (List ℕ)) (program : Result Expanded Refusal) → Fails fault program → IfOk result (λ report. ReportsRead (source_by source.now) cells program report.verdict report.text.items) }
+    ensures { (cells : List (List ℕ)) (program : Result Expanded Refusal) → Fails fault program → IfOk result (λ report. ReportsRead (source_by source.now) cells program report.verdict (map diagnosis_by report.found.items)) }
 {
     match fault {
         ProgramFault::Refused(refusal) => report_refused(alloc, source, refusal),
@@ -126,7 +131,7 @@ fn run_of(alloc: Global, program: Value) -> Result<Value, AllocError>
     Ok(Value::Array(vec![in alloc; word, program]?))
 }
 
-/// What is written of a program over these arrays that begins with these cells.
+/// What is told of a program over these arrays that begins with these cells.
 fn report_program(
     alloc: Global,
     source: &Source<'_>,
@@ -136,7 +141,7 @@ fn report_program(
 ) -> Result<Report, AllocError>
     requires named { IsNamedIn (array_lengths shape.now) (expanded_of program) }
     requires cells { lengths cells ≡ array_lengths shape.now }
-    ensures { IfOk result (λ report. ReportsProgram (source_by source.now) cells (stmts_of program.body.items) report.verdict report.text.items) }
+    ensures { IfOk result (λ report. ReportsProgram (source_by source.now) cells (stmts_of program.body.items) report.verdict (map diagnosis_by report.found.items)) }
 {
     match first_overlap(
         alloc,
@@ -159,27 +164,32 @@ fn has_red_items(order: Order) -> bool
     }
 }
 
-/// What is written of a program of which this entry has an item that overlaps in part with one that writes.
+/// What is told of a program of which this entry has an item that overlaps in part with one that writes.
 fn report_overlap(alloc: Global, source: &Source<'_>, entry: u32) -> Result<Report, AllocError>
     ensures verdict { IfOk result (λ report. report.verdict ≡ Verdict.Outside) }
-    ensures text { IfOk result (λ report. report.text.items ≡ outside_line source.now.name.now (entry_site (source_by source.now) entry).position overlaps) }
+    ensures found { IfOk result (λ report. map diagnosis_by report.found.items ≡ meant.outside (entry_site (source_by source.now) entry).place overlaps ∷ []) }
 {
     let site = source.entry_site(alloc, entry)?;
-    let mut text = Vec::new(alloc);
-    put_outside(
-        alloc,
-        source.name,
-        site.position,
-        "an item of a depend clause overlaps in part with another one of this task or of a sibling",
-        &mut text,
-    )?;
+    let reason =
+        "an item of a depend clause overlaps in part with another one of this task or of a sibling";
+    let found = outside(alloc, site.place, reason)?;
+    report_of(alloc, Verdict::Outside, found)
+}
+
+/// A verdict, and the one thing that is found.
+fn report_of(alloc: Global, verdict: Verdict, found: Diagnosis) -> Result<Report, AllocError>
+    ensures verdict { IfOk result (λ report. report.verdict ≡ verdict) }
+    ensures found { IfOk result (λ report. map diagnosis_by report.found.items ≡ diagnosis_by found ∷ []) }
+{
+    let mut all = Vec::new(alloc);
+    all.push(found)?;
     Ok(Report {
-        verdict: Verdict::Outside,
-        text,
+        verdict,
+        found: all,
     })
 }
 
-/// What is written of a program in which no items of which one writes overlap in part. What a server refuses is asked first: a
+/// What is told of a program in which no items of which one writes overlap in part. What a server refuses is asked first: a
 /// program that isn't refused may race nowhere.
 fn report_run(
     alloc: Global,
@@ -190,14 +200,14 @@ fn report_run(
 ) -> Result<Report, AllocError>
     requires named { IsNamedIn (array_lengths shape.now) (expanded_of program.now) }
     requires cells { lengths cells ≡ array_lengths shape.now }
-    ensures { IfOk result (λ report. ReportsRun (source_by source.now) cells (stmts_of program.now.body.items) report.verdict report.text.items) }
+    ensures { IfOk result (λ report. ReportsRun (source_by source.now) cells (stmts_of program.now.body.items) report.verdict (map diagnosis_by report.found.items)) }
 {
     let first = first_offence(alloc, program, shape)?;
     let finding = find(alloc, source.order, program, cells, first)?;
     report_finding(alloc, source, program, first, finding)
 }
 
-/// What is written of what is found, and of the first offence, with its place.
+/// What is told of what is found, and of the first offence, with its place.
 fn report_finding(
     alloc: Global,
     source: &Source<'_>,
@@ -207,58 +217,118 @@ fn report_finding(
 ) -> Result<Report, AllocError>
     requires { Fits (stmts_of program.now.body.items) }
     ensures { IsFirstOf (Offends (stmts_of program.now.body.items)) first
-        → IfOk result (λ report. ReportsFinding (source_by source.now) (stmts_of program.now.body.items) finding report.verdict report.text.items) }
+        → IfOk result (λ report. ReportsFinding (source_by source.now) (stmts_of program.now.body.items) finding report.verdict (map diagnosis_by report.found.items)) }
 {
     match finding {
-        Finding::InRun(race) => report_race(
-            alloc,
-            source,
-            "with these numbers nothing orders the two",
-            race,
-        ),
-        Finding::OnWay(race) => report_race(alloc, source, "some path has both", race),
+        Finding::InRun(races) => report_races(alloc, source, program, &races),
+        Finding::OnWay(race) => report_race(alloc, source, program, race),
         Finding::Nowhere => {
-            let text = warning_text(alloc, source, program, "no race", first)?;
+            let found = refusals(alloc, source, program, "no race", first)?;
             Ok(Report {
                 verdict: Verdict::Clean,
-                text,
+                found,
             })
         }
         Finding::OnlyRun => report_only_run(alloc, source, program, first),
     }
 }
 
-/// What is written of a race, with what is known of the two touches.
-fn report_race(
+/// What is told of the races of a run.
+fn report_races(
     alloc: Global,
     source: &Source<'_>,
-    known: &str,
-    race: Race,
+    program: &Program,
+    races: &Races,
 ) -> Result<Report, AllocError>
+    requires { Fits (stmts_of program.now.body.items) }
     ensures verdict { IfOk result (λ report. report.verdict ≡ Verdict.Races) }
-    ensures text { IfOk result (λ report. report.text.items ≡ race_text (source_by source.now) known.now race) }
+    ensures found { IfOk result (λ report. map diagnosis_by report.found.items ≡ meant.races_found (source_by source.now) (stmts_of program.now.body.items) races.now) }
 {
-    let here = source.site_of(alloc, race.later)?;
-    let other = source.site_of(alloc, race.place)?;
-    let mut cell = Vec::new(alloc);
-    put_cell(alloc, source.arrays, race.cell, &mut cell)?;
-    let mut text = Vec::new(alloc);
-    put_here(
-        alloc,
-        source.name,
-        cell.as_slice(),
-        &here,
-        &other,
-        &mut text,
-    )?;
-    put_other(alloc, source.name, &other, known, &mut text)?;
+    let mut found = races_told(alloc, source, program, races.told.as_slice())?;
+    let mut more = more_races(alloc, races.more)?;
+    found.append(&mut more)?;
     Ok(Report {
         verdict: Verdict::Races,
-        text,
+        found,
     })
 }
 
-/// What is written of a program whose run alone was judged, and doesn't race.
+fn races_told(
+    alloc: Global,
+    source: &Source<'_>,
+    program: &Program,
+    races: &[Race],
+) -> Result<Vec<Diagnosis>, AllocError>
+    requires { Fits (stmts_of program.now.body.items) }
+    ensures { IfOk result (λ found. map diagnosis_by found.items ≡ map (meant.race_found (source_by source.now) (stmts_of program.now.body.items) meant.in_run) races.now) }
+{
+    let known = "with these numbers nothing orders the two";
+    let mut found = Vec::new(alloc);
+    for race in races {
+        found.push(race_found(alloc, source, program, known, *race)?)?;
+    }
+    Ok(found)
+}
+
+/// What is told of a race of a way.
+fn report_race(
+    alloc: Global,
+    source: &Source<'_>,
+    program: &Program,
+    race: Race,
+) -> Result<Report, AllocError>
+    requires { Fits (stmts_of program.now.body.items) }
+    ensures verdict { IfOk result (λ report. report.verdict ≡ Verdict.Races) }
+    ensures found { IfOk result (λ report. map diagnosis_by report.found.items ≡ meant.race_found (source_by source.now) (stmts_of program.now.body.items) meant.on_path race ∷ []) }
+{
+    let found = race_found(alloc, source, program, "some path has both", race)?;
+    report_of(alloc, Verdict::Races, found)
+}
+
+/// A race: the touch that comes later in the serial run, and the other one as its note, with what is known of the two.
+fn race_found(
+    alloc: Global,
+    source: &Source<'_>,
+    program: &Program,
+    known: &str,
+    race: Race,
+) -> Result<Diagnosis, AllocError>
+    requires { Fits (stmts_of program.now.body.items) }
+    ensures { IfOk result (λ found. diagnosis_by found ≡ meant.race_found (source_by source.now) (stmts_of program.now.body.items) known.now race) }
+{
+    let here = source.site_of(alloc, race.later)?;
+    let other = source.site_of(alloc, race.place)?;
+    let told = race_told(alloc, source, program, &here, &other, race)?;
+    let mut notes = Vec::new(alloc);
+    notes.push(other_told(alloc, &other, known)?)?;
+    Ok(Diagnosis {
+        severity: Severity::Error,
+        code: Code::Race,
+        told,
+        notes,
+    })
+}
+
+/// What is said of a race whose touches stand at these sites.
+fn race_told(
+    alloc: Global,
+    source: &Source<'_>,
+    program: &Program,
+    here: &Site<'_>,
+    other: &Site<'_>,
+    race: Race,
+) -> Result<Remark, AllocError>
+    requires { Fits (stmts_of program.now.body.items) }
+    ensures { IfOk result (λ told. remark_by told
+        ≡ meant.race_told (source_by source.now) (stmts_of program.now.body.items) (site_by here.now) (site_by other.now) race) }
+{
+    let cell = cell_text(alloc, source.arrays, race.cell)?;
+    let one = done_at(program, race.later, race.cell);
+    let two = done_at(program, race.place, race.cell);
+    here_told(alloc, source.name, cell.as_str(), here, one, other, two)
+}
+
+/// What is told of a program whose run alone was judged, and doesn't race.
 fn report_only_run(
     alloc: Global,
     source: &Source<'_>,
@@ -267,63 +337,52 @@ fn report_only_run(
 ) -> Result<Report, AllocError>
     requires { Fits (stmts_of program.now.body.items) }
     ensures verdict { IfOk result (λ report. report.verdict ≡ Verdict.OnlyRun) }
-    ensures text { IfOk result (λ report. report.text.items
-        ≡ warning_text (source_by source.now) (stmts_of program.now.body.items) none_in_run first ++ only_run_line source.now.name.now) }
+    ensures found { IfOk result (λ report. map diagnosis_by report.found.items
+        ≡ meant.refusals (source_by source.now) (stmts_of program.now.body.items) meant.none_in_run first ++ meant.only_run ∷ []) }
 {
     let known = "with these numbers nothing races";
-    let mut text = warning_text(alloc, source, program, known, first)?;
-    put_only_run(source.name, &mut text)?;
+    let mut found = refusals(alloc, source, program, known, first)?;
+    found.push(only_run(alloc)?)?;
     Ok(Report {
         verdict: Verdict::OnlyRun,
-        text,
+        found,
     })
 }
 
-/// What is written of the first offence of a program, with its place, where there is one; this is known of its races.
-fn warning_text(
+/// What is told of the first offence of a program, with its place, where there is one; this is known of its races.
+fn refusals(
     alloc: Global,
     source: &Source<'_>,
     program: &Program,
     known: &str,
     first: Option<(u32, Offence)>,
-) -> Result<Vec<u8>, AllocError>
+) -> Result<Vec<Diagnosis>, AllocError>
     requires { Fits (stmts_of program.now.body.items) }
-    ensures { IfOk result (λ text. text.items ≡ warning_text (source_by source.now) (stmts_of program.now.body.items) known.now first) }
+    ensures { IfOk result (λ found. map diagnosis_by found.items ≡ meant.refusals (source_by source.now) (stmts_of program.now.body.items) known.now first) }
 {
-    match first {
-        Some((place, offence)) => offence_text(alloc, source, program, known, offence, place),
-        None => Ok(Vec::new(alloc)),
+    let mut found = Vec::new(alloc);
+    if let Some((place, offence)) = first {
+        found.push(refusal(alloc, source, program, known, offence, place)?)?;
     }
+    Ok(found)
 }
 
-/// What is written of an offence.
-fn offence_text(
+/// What is told of an offence.
+fn refusal(
     alloc: Global,
     source: &Source<'_>,
     program: &Program,
     known: &str,
     offence: Offence,
     place: u32,
-) -> Result<Vec<u8>, AllocError>
+) -> Result<Diagnosis, AllocError>
     requires { Fits (stmts_of program.now.body.items) }
-    ensures { IfOk result (λ text. text.items ≡ warning_text (source_by source.now) (stmts_of program.now.body.items) known.now (Some (place, offence))) }
+    ensures { IfOk result (λ found. diagnosis_by found ∷ [] ≡ meant.refusals (source_by source.now) (stmts_of program.now.body.items) known.now (Some (place, offence))) }
 {
     let site = source.site_of(alloc, place)?;
     let used = lacking(program, place, offence);
-    let mut words = Vec::new(alloc);
-    put_advice(alloc, source.arrays, offence, used, &mut words)?;
-    let number = offence.code();
-    let mut text = Vec::new(alloc);
-    put_warning(
-        alloc,
-        source.name,
-        &site,
-        known,
-        words.as_slice(),
-        number,
-        &mut text,
-    )?;
-    Ok(text)
+    let words = advice(alloc, source.arrays, offence, used)?;
+    refused(alloc, &site, known, words.as_str(), offence.code())
 }
 
 /// What the task around a statement lacks, where that is its offence.
@@ -337,29 +396,19 @@ fn lacking(program: &Program, place: u32, offence: Offence) -> Option<Use>
     }
 }
 
-/// What is written of a program that can't be read.
+/// What is told of a program that can't be read.
 fn report_refused(
     alloc: Global,
     source: &Source<'_>,
     refusal: Refusal,
 ) -> Result<Report, AllocError>
     ensures verdict { IfOk result (λ report. report.verdict ≡ Verdict.Outside) }
-    ensures text { IfOk result (λ report. report.text.items ≡ outside_line source.now.name.now (entry_site (source_by source.now) (faulty (source_by source.now))).position (reason_of refusal)) }
+    ensures found { IfOk result (λ report. map diagnosis_by report.found.items ≡ meant.outside (entry_site (source_by source.now) (faulty (source_by source.now))).place (meant.reason_of refusal) ∷ []) }
 {
     let index = faulty_entry(alloc, source)?;
     let site = source.entry_site(alloc, index)?;
-    let mut text = Vec::new(alloc);
-    put_outside(
-        alloc,
-        source.name,
-        site.position,
-        reason_of(refusal),
-        &mut text,
-    )?;
-    Ok(Report {
-        verdict: Verdict::Outside,
-        text,
-    })
+    let found = outside(alloc, site.place, reason_of(refusal))?;
+    report_of(alloc, Verdict::Outside, found)
 }
 
 /// The first entry with a fault.
@@ -372,21 +421,16 @@ fn faulty_entry(alloc: Global, source: &Source<'_>) -> Result<u32, AllocError>
     }
 }
 
-/// What is written of a C text that isn't judged, for this reason, at this byte.
+/// What is told of a C text that isn't judged, for this reason, at this byte.
 pub fn report_outside(
     alloc: Global,
-    name: &str,
     text: &[u8],
     byte: usize,
     reason: &str,
 ) -> Result<Report, AllocError>
     ensures verdict { IfOk result (λ report. report.verdict ≡ Verdict.Outside) }
-    ensures text { IfOk result (λ report. report.text.items ≡ outside_line name.now (position_of text.now byte) reason.now) }
+    ensures found { IfOk result (λ report. map diagnosis_by report.found.items ≡ meant.outside (place_in text.now byte) reason.now ∷ []) }
 {
-    let mut out = Vec::new(alloc);
-    put_outside(alloc, name, position_at(text, byte), reason, &mut out)?;
-    Ok(Report {
-        verdict: Verdict::Outside,
-        text: out,
-    })
+    let found = outside(alloc, Place::at(text, byte), reason)?;
+    report_of(alloc, Verdict::Outside, found)
 }

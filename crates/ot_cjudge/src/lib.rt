@@ -1,6 +1,7 @@
-//! Programs in C, judged over the programs that stand for them, and what is written of each.
+//! Programs in C, judged over the programs that stand for them, and what is told of each.
 #![tactic(auto)]
 
+mod doing;
 mod finding;
 mod found;
 mod judging;
@@ -17,3 +18,4 @@ pub use judging::{report_c, report_outside};
 pub use lowered::{CArray, Lowered};
 pub use ot_corder::Order;
 pub use report::{Report, Verdict};
+pub use telling::outside;

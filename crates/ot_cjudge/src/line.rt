@@ -1,107 +1,112 @@
-//! Parts of lines about a C text.
-ghost use Rattle.std.specs.Prelude.{◌≡◌, ◌++◌, map, OnOk, Some, string_bytes};
+//! Parts of what is said of a C text.
+ghost use Rattle.std.specs.Prelude.{◌≡◌, ◌++◌, map, reverse, IfOk, OnOk, Some, string_bytes};
+ghost use Rattle.ot_diagnosis.specs.DiagnosisView.{turn_by as told_by};
 ghost use Rattle.ot_model.specs.Programs.{arrays_of};
 ghost use Rattle.ot_place.specs.Spots.{turn_by};
 ghost use Rattle.ot_cjudge.specs.SiteView.{site_by};
-ghost use Rattle.ot_cjudge.specs.Lines.{place_text, turn_text, listed, turns_text, cell_text, cell_by};
+ghost use Rattle.ot_cjudge.specs.Lines.{turn_text, listed, turns_text, cell_text, cell_by};
 
 use crate::source::Site;
-use ot_file::Position;
 use ot_model::{ArrayShape, Cell};
 use ot_place::Turn;
 use std::alloc::{AllocError, Global};
 
-/// `NAME:LINE:COLUMN`
-pub(crate) fn put_place(
-    alloc: Global,
-    name: &str,
-    position: Position,
-    out: &mut Vec<u8>,
-) -> Result<(), AllocError>
-    ensures { OnOk result (out.new.items ≡ out.old.items ++ place_text name.now position) }
-{
-    let text = format!(in alloc; "{name}:{}:{}", position.line, position.column)?;
-    out.extend_from_slice(text.as_bytes())?;
-    Ok(())
-}
-
 /// ` (i = 1, j = 2)`: the turns of the loops around a place.
-pub(crate) fn put_turns(alloc: Global, site: &Site<'_>, out: &mut Vec<u8>) -> Result<(), AllocError>
-    ensures { OnOk result (out.new.items ≡ out.old.items ++ turns_text (site_by site.now).turns) }
+pub(crate) fn turns_text(alloc: Global, site: &Site<'_>) -> Result<String, AllocError>
+    ensures { IfOk result (λ text. string_bytes text ≡ turns_text (site_by site.now).turns) }
 {
+    let mut text = String::new(alloc);
     if site.turns.is_empty() {
-        return Ok(());
+        return Ok(text);
     }
-    put_words(out, " (")?;
-    put_listed(alloc, site.turns.as_slice(), out)?;
-    put_words(out, ")")?;
-    Ok(())
+    text.push_str(" (")?;
+    put_listed(alloc, site.turns.as_slice(), &mut text)?;
+    text.push_str(")")?;
+    Ok(text)
 }
 
 /// The turns with commas between them, the outermost first.
-fn put_listed(alloc: Global, turns: &[Turn<'_>], out: &mut Vec<u8>) -> Result<(), AllocError>
-    ensures { OnOk result (out.new.items ≡ out.old.items ++ listed (map turn_by turns.now)) }
+fn put_listed(alloc: Global, turns: &[Turn<'_>], out: &mut String) -> Result<(), AllocError>
+    ensures { OnOk result (string_bytes out.new ≡ string_bytes out.old ++ listed (map turn_by turns.now)) }
 {
     match turns {
         [] => Ok(()),
         [inner] => put_turn(alloc, *inner, out),
         [inner, outer @ ..] => {
             put_listed(alloc, outer, out)?;
-            out.extend_from_slice(b", ".as_slice())?;
+            out.push_str(", ")?;
             put_turn(alloc, *inner, out)
         }
     }
 }
 
 /// `i = 1`
-fn put_turn(alloc: Global, turn: Turn<'_>, out: &mut Vec<u8>) -> Result<(), AllocError>
-    ensures { OnOk result (out.new.items ≡ out.old.items ++ turn_text (turn_by turn.entry)) }
+fn put_turn(alloc: Global, turn: Turn<'_>, out: &mut String) -> Result<(), AllocError>
+    ensures { OnOk result (string_bytes out.new ≡ string_bytes out.old ++ turn_text (turn_by turn.entry)) }
 {
     let name = turn.name;
     let text = format!(in alloc; "{name} = {}", turn.number)?;
-    out.extend_from_slice(text.as_bytes())?;
-    Ok(())
+    out.push_str(text.as_str())
 }
 
-/// `m[5]`; the cell of an array that has only one is called as the array is.
-pub(crate) fn put_cell(
+/// The turns of the loops around a place, the outermost first.
+pub(crate) fn turns_of(
     alloc: Global,
-    arrays: &[ArrayShape],
-    cell: Cell,
-    out: &mut Vec<u8>,
-) -> Result<(), AllocError>
-    ensures { OnOk result (out.new.items ≡ out.old.items ++ cell_text (arrays_of arrays.now) cell) }
+    site: &Site<'_>,
+) -> Result<Vec<ot_diagnosis::Turn>, AllocError>
+    ensures { IfOk result (λ turns. map told_by turns.items ≡ reverse (site_by site.now).turns) }
 {
-    match arrays.get(cell.array as usize) {
-        Some(array) => put_cell_of(alloc, array, cell.index, out),
-        None => {
-            out.push(b'?')?;
+    let mut turns = Vec::new(alloc);
+    copy_turns(alloc, site.turns.as_slice(), &mut turns)?;
+    Ok(turns)
+}
+
+fn copy_turns(
+    alloc: Global,
+    turns: &[Turn<'_>],
+    out: &mut Vec<ot_diagnosis::Turn>,
+) -> Result<(), AllocError>
+    ensures { OnOk result (map told_by out.new.items ≡ map told_by out.old.items ++ reverse (map turn_by turns.now)) }
+{
+    match turns {
+        [] => Ok(()),
+        [inner, outer @ ..] => {
+            copy_turns(alloc, outer, out)?;
+            out.push(copied(alloc, *inner)?)?;
             Ok(())
         }
     }
 }
 
-fn put_cell_of(
-    alloc: Global,
-    array: &ArrayShape,
-    index: u32,
-    out: &mut Vec<u8>,
-) -> Result<(), AllocError>
-    ensures { OnOk result (out.new.items ≡ out.old.items ++ cell_by (Some (string_bytes array.now.name, array.now.len)) index) }
+fn copied(alloc: Global, turn: Turn<'_>) -> Result<ot_diagnosis::Turn, AllocError>
+    ensures { IfOk result (λ told. told_by told ≡ turn_by turn.entry) }
 {
-    out.extend_from_slice(array.name.as_bytes())?;
-    if array.len == 1 {
-        return Ok(());
-    }
-    let text = format!(in alloc; "[{index}]")?;
-    out.extend_from_slice(text.as_bytes())?;
-    Ok(())
+    Ok(ot_diagnosis::Turn {
+        name: String::from_str(alloc, turn.name)?,
+        number: turn.number,
+    })
 }
 
-/// Words as they stand.
-pub(crate) fn put_words(out: &mut Vec<u8>, words: &str) -> Result<(), AllocError>
-    ensures { OnOk result (out.new.items ≡ out.old.items ++ words.now) }
+/// `m[5]`; the cell of an array that has only one is called as the array is.
+pub(crate) fn cell_text(
+    alloc: Global,
+    arrays: &[ArrayShape],
+    cell: Cell,
+) -> Result<String, AllocError>
+    ensures { IfOk result (λ text. string_bytes text ≡ cell_text (arrays_of arrays.now) cell) }
 {
-    out.extend_from_slice(words.as_bytes())?;
-    Ok(())
+    match arrays.get(cell.array as usize) {
+        Some(array) => cell_of(alloc, array, cell.index),
+        None => String::from_str(alloc, "?"),
+    }
+}
+
+fn cell_of(alloc: Global, array: &ArrayShape, index: u32) -> Result<String, AllocError>
+    ensures { IfOk result (λ text. string_bytes text ≡ cell_by (Some (string_bytes array.now.name, array.now.len)) index) }
+{
+    let name = array.name.as_str();
+    if array.len == 1 {
+        return String::from_str(alloc, name);
+    }
+    format!(in alloc; "{name}[{index}]")
 }

@@ -1,4 +1,5 @@
-//! What is written of a C text.
+//! What is told of a C text.
+use ot_diagnosis::Diagnosis;
 
 /// What is told of a C text.
 #[derive(Clone, Copy, Debug, PartialEq, Eq)]
@@ -13,9 +14,9 @@ pub enum Verdict {
     Outside,
 }
 
-/// What is written of a C text, and what is told.
+/// What is told of a C text, and what is found in it.
 #[derive(Drop)]
 pub struct Report {
     pub verdict: Verdict,
-    pub text: Vec<u8>,
+    pub found: Vec<Diagnosis>,
 }

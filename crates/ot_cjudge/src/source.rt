@@ -1,12 +1,12 @@
 //! A C text, and what stands for it.
 ghost use Rattle.std.specs.Prelude.{◌≡◌, IfOk, option_map, unwrap_or};
-ghost use Rattle.ot_file.specs.Positions.{position_of};
+ghost use Rattle.ot_diagnosis.specs.Diagnoses.{place_in};
 
 use crate::text_order::told_of;
 use ot_corder::Order;
-use ot_file::{Position, position_of};
+use ot_diagnosis::Place;
 use ot_model::ArrayShape;
-use ot_place::{Place, Turn, entry_of, place_of};
+use ot_place::{Turn, entry_of, place_of};
 use serde_json::Value;
 use std::alloc::{AllocError, Global};
 
@@ -27,7 +27,7 @@ pub(crate) struct Source<'a> {
 /// A place in the text, and the turns of the loops around it, the innermost first.
 #[derive(Drop)]
 pub(crate) struct Site<'a> {
-    pub(crate) position: Position,
+    pub(crate) place: Place,
     pub(crate) turns: Vec<Turn<'a>>,
 }
 
@@ -53,16 +53,16 @@ impl<'a> Source<'a> {
         Ok(self.site_at(alloc, place))
     }
 
-    fn site_at(&self, alloc: Global, place: Option<Place<'a>>) -> Site<'a>
+    fn site_at(&self, alloc: Global, place: Option<ot_place::Place<'a>>) -> Site<'a>
         ensures { site_by result ≡ site_at (source_by self.now) (option_map place_by place.entry) }
     {
         match place {
             Some(place) => Site {
-                position: self.position_of(self.byte_at(place.path.as_slice())),
+                place: self.place_at(self.byte_at(place.path.as_slice())),
                 turns: place.turns,
             },
             None => Site {
-                position: self.position_of(0),
+                place: self.place_at(0),
                 turns: Vec::new(alloc),
             },
         }
@@ -75,16 +75,9 @@ impl<'a> Source<'a> {
         told_of(self.places, self.request, path).unwrap_or(0)
     }
 
-    fn position_of(&self, byte: usize) -> Position
-        ensures { result ≡ position_of self.now.text.now byte }
+    fn place_at(&self, byte: usize) -> Place
+        ensures { result ≡ place_in self.now.text.now byte }
     {
-        position_at(self.text, byte)
+        Place::at(self.text, byte)
     }
-}
-
-/// Where the byte of a text stands that has so many before it, or the one behind the text.
-pub(crate) fn position_at(text: &[u8], byte: usize) -> Position
-    ensures { result ≡ position_of text.now byte }
-{
-    position_of(text, byte.min(text.len()))
 }

@@ -1,170 +1,212 @@
-//! The lines about a C text.
-ghost use Rattle.std.specs.Prelude.{◌≡◌, ◌++◌, codes, OnOk};
-ghost use Rattle.std.specs.Fmt.{decimal};
+//! What is said of a C text.
+ghost use Rattle.std.specs.Prelude.{◌≡◌, ◌++◌, [], ◌∷◌, map, IfOk, Some, None, string_bytes};
+ghost use Rattle.ot_diagnosis.specs.DiagnosisView.{remark_by, diagnosis_by};
+ghost use Rattle.ot_diagnosis.specs.Diagnoses.{place_in};
 ghost use Rattle.ot_model.specs.Programs.{arrays_of};
 ghost use Rattle.ot_cjudge.specs.SiteView.{site_by};
-ghost use Rattle.ot_cjudge.specs.Reports.{here_line, other_line, only_run_line, kind_text, clause_text, advice, warning_line, reason_of, outside_line};
+ghost use Rattle.ot_cjudge.specs.Reports as meant;
 
-use crate::line::{put_cell, put_place, put_turns, put_words};
+use crate::line::{cell_text, turns_of, turns_text};
 use crate::source::Site;
 use ot_check::Offence;
-use ot_file::Position;
+use ot_diagnosis::{Code, Diagnosis, Place, Remark, Severity, place_of};
 use ot_model::{ArrayShape, Mode, Use};
 use ot_program::Refusal;
+use ot_races::More;
 use std::alloc::{AllocError, Global};
 
-/// The line about a touch that races with another one.
-pub(crate) fn put_here(
+/// A touch that races with another one, and what the two do with the cell.
+pub(crate) fn here_told(
     alloc: Global,
     name: &str,
-    cell: &[u8],
+    cell: &str,
     here: &Site<'_>,
+    one: &str,
     other: &Site<'_>,
-    out: &mut Vec<u8>,
-) -> Result<(), AllocError>
-    ensures { OnOk result (out.new.items ≡ out.old.items ++ here_line name.now cell.now (site_by here.now) (site_by other.now)) }
+    two: &str,
+) -> Result<Remark, AllocError>
+    ensures { IfOk result (λ told. remark_by told ≡ meant.here_told name.now cell.now (site_by here.now) one.now (site_by other.now) two.now) }
 {
-    put_place(alloc, name, here.position, out)?;
-    put_words(out, ": error: ")?;
-    out.extend_from_slice(cell)?;
-    put_words(out, " is touched here while it may be touched at ")?;
-    put_place(alloc, name, other.position, out)?;
-    put_turns(alloc, here, out)?;
-    put_words(out, " [race]\n")?;
-    Ok(())
+    let message = here_words(alloc, name, cell, here, one, other, two)?;
+    at_site(alloc, here, message)
 }
 
-/// The line about the other touch, with what is known of the two.
-pub(crate) fn put_other(
+fn here_words(
     alloc: Global,
     name: &str,
+    cell: &str,
+    here: &Site<'_>,
+    one: &str,
     other: &Site<'_>,
-    known: &str,
-    out: &mut Vec<u8>,
-) -> Result<(), AllocError>
-    ensures { OnOk result (out.new.items ≡ out.old.items ++ other_line name.now (site_by other.now) known.now) }
+    two: &str,
+) -> Result<String, AllocError>
+    ensures { IfOk result (λ words. string_bytes words ≡ meant.here_words name.now cell.now (site_by here.now) one.now (site_by other.now) two.now) }
 {
-    put_place(alloc, name, other.position, out)?;
-    put_words(out, ": note: the other touch")?;
-    put_turns(alloc, other, out)?;
-    put_words(out, "; ")?;
-    put_words(out, known)?;
-    put_words(out, "\n")?;
-    Ok(())
+    let at = place_of(alloc, name, Some(other.place))?;
+    let at = at.as_str();
+    let turns = turns_text(alloc, here)?;
+    let turns = turns.as_str();
+    format!(in alloc; "{cell} is {one} here while it may be {two} at {at}{turns}")
 }
 
-/// The line that only the run was judged.
-pub(crate) fn put_only_run(name: &str, out: &mut Vec<u8>) -> Result<(), AllocError>
-    ensures { OnOk result (out.new.items ≡ out.old.items ++ only_run_line name.now) }
+/// Words about a site, with its turns.
+fn at_site(alloc: Global, site: &Site<'_>, message: String) -> Result<Remark, AllocError>
+    ensures { IfOk result (λ told. remark_by told ≡ meant.at_site (site_by site.now) (string_bytes message)) }
 {
-    put_words(out, name)?;
-    put_words(
-        out,
-        ": note: only the run with these numbers was judged: there are too many paths\n",
-    )?;
-    Ok(())
+    Ok(Remark {
+        place: Some(site.place),
+        turns: turns_of(alloc, site)?,
+        message,
+    })
 }
 
-/// The line about an offence of a program of whose races this is known.
-pub(crate) fn put_warning(
+/// The other touch, with what is known of the two.
+pub(crate) fn other_told(alloc: Global, other: &Site<'_>, known: &str) -> Result<Remark, AllocError>
+    ensures { IfOk result (λ told. remark_by told ≡ meant.other_told (site_by other.now) known.now) }
+{
+    let turns = turns_text(alloc, other)?;
+    let turns = turns.as_str();
+    let message = format!(in alloc; "the other touch{turns}; {known}")?;
+    at_site(alloc, other, message)
+}
+
+/// That only the run was judged.
+pub(crate) fn only_run(alloc: Global) -> Result<Diagnosis, AllocError>
+    ensures { IfOk result (λ found. diagnosis_by found ≡ meant.only_run) }
+{
+    let words = "only the run with these numbers was judged: there are too many paths";
+    let message = String::from_str(alloc, words)?;
+    Ok(of_file(alloc, Code::OnlyRun, message))
+}
+
+/// A note on the whole file.
+fn of_file(alloc: Global, code: Code, message: String) -> Diagnosis
+    ensures { diagnosis_by result ≡ meant.of_file code (string_bytes message) }
+{
+    Diagnosis {
+        severity: Severity::Note,
+        code,
+        told: Remark {
+            place: None,
+            turns: Vec::new(alloc),
+            message,
+        },
+        notes: Vec::new(alloc),
+    }
+}
+
+/// How many races there are that aren't told, where there are some.
+pub(crate) fn more_races(alloc: Global, more: More) -> Result<Vec<Diagnosis>, AllocError>
+    ensures { IfOk result (λ found. map diagnosis_by found.items ≡ meant.more_found more) }
+{
+    let mut found = Vec::new(alloc);
+    if is_none(more) {
+        return Ok(found);
+    }
+    let words = more_words(alloc, more)?;
+    found.push(of_file(alloc, Code::MoreRaces, words))?;
+    Ok(found)
+}
+
+fn is_none(more: More) -> bool
+    ensures { result ≡ meant.is_none more }
+{
+    match more {
+        More::Exactly(count) => count == 0,
+        More::AtLeast(_) => false,
+    }
+}
+
+/// `3 more races`
+fn more_words(alloc: Global, more: More) -> Result<String, AllocError>
+    ensures { IfOk result (λ words. string_bytes words ≡ meant.more_words more) }
+{
+    match more {
+        More::Exactly(1) => String::from_str(alloc, "1 more race"),
+        More::Exactly(count) => format!(in alloc; "{count} more races"),
+        More::AtLeast(count) => format!(in alloc; "at least {count} more races"),
+    }
+}
+
+/// An offence of a program of whose races this is known.
+pub(crate) fn refused(
     alloc: Global,
-    name: &str,
     site: &Site<'_>,
     known: &str,
-    words: &[u8],
+    words: &str,
     code: u32,
-    out: &mut Vec<u8>,
-) -> Result<(), AllocError>
-    ensures { OnOk result (out.new.items ≡ out.old.items ++ warning_line name.now (site_by site.now) known.now words.now code) }
+) -> Result<Diagnosis, AllocError>
+    ensures { IfOk result (λ found. diagnosis_by found ≡ meant.refused (site_by site.now) known.now words.now code) }
 {
-    put_place(alloc, name, site.position, out)?;
-    put_words(out, ": warning: ")?;
-    put_words(out, known)?;
-    put_words(out, ", but omptaskd refuses it: ")?;
-    out.extend_from_slice(words)?;
-    put_turns(alloc, site, out)?;
-    put_code(alloc, code, out)?;
-    Ok(())
+    let message = refused_words(alloc, site, known, words)?;
+    Ok(Diagnosis {
+        severity: Severity::Note,
+        code: Code::Refused(code),
+        told: at_site(alloc, site, message)?,
+        notes: Vec::new(alloc),
+    })
 }
 
-/// ` [425]`, at the end of a line.
-fn put_code(alloc: Global, code: u32, out: &mut Vec<u8>) -> Result<(), AllocError>
-    ensures { OnOk result (out.new.items ≡ out.old.items ++ (codes " [" ++ (decimal code ++ codes "]\n"))) }
+fn refused_words(
+    alloc: Global,
+    site: &Site<'_>,
+    known: &str,
+    words: &str,
+) -> Result<String, AllocError>
+    ensures { IfOk result (λ told. string_bytes told ≡ meant.refused_words (site_by site.now) known.now words.now) }
 {
-    let text = format!(in alloc; " [{code}]\n")?;
-    out.extend_from_slice(text.as_bytes())?;
-    Ok(())
+    let turns = turns_text(alloc, site)?;
+    let turns = turns.as_str();
+    format!(in alloc; "{known}, but omptaskd refuses it: {words}{turns}")
 }
 
 /// What is to be done about an offence.
-pub(crate) fn put_advice(
+pub(crate) fn advice(
     alloc: Global,
     arrays: &[ArrayShape],
     offence: Offence,
     lacking: Option<Use>,
-    out: &mut Vec<u8>,
-) -> Result<(), AllocError>
-    ensures { OnOk result (out.new.items ≡ out.old.items ++ advice (arrays_of arrays.now) offence lacking) }
+) -> Result<String, AllocError>
+    ensures { IfOk result (λ words. string_bytes words ≡ meant.advice (arrays_of arrays.now) offence lacking) }
 {
     match offence {
-        Offence::NotDeclared => put_lack(alloc, "the task lacks ", arrays, lacking, out),
-        Offence::ChildBeyond => put_lack(
+        Offence::NotDeclared => lack(alloc, "the task lacks ", arrays, lacking),
+        Offence::ChildBeyond => lack(alloc, "the task around this one lacks ", arrays, lacking),
+        Offence::ReductionMisuse => String::from_str(alloc, "a reduction is misused"),
+        Offence::ConflictsWithChild => String::from_str(
             alloc,
-            "the task around this one lacks ",
-            arrays,
-            lacking,
-            out,
-        ),
-        Offence::ReductionMisuse => put_words(out, "a reduction is misused"),
-        Offence::ConflictsWithChild => put_words(
-            out,
             "a taskwait is missing before this, for a child that may use the same",
         ),
-        Offence::EndsWithChildren => put_words(
-            out,
+        Offence::EndsWithChildren => String::from_str(
+            alloc,
             "a taskwait is missing at the end of the task, for a child of it",
         ),
     }
 }
 
 /// Who lacks a clause, and the clause.
-fn put_lack(
+fn lack(
     alloc: Global,
     who: &str,
     arrays: &[ArrayShape],
     lacking: Option<Use>,
-    out: &mut Vec<u8>,
-) -> Result<(), AllocError>
-    ensures { OnOk result (out.new.items ≡ out.old.items ++ (who.now ++ clause_text (arrays_of arrays.now) lacking)) }
+) -> Result<String, AllocError>
+    ensures { IfOk result (λ words. string_bytes words ≡ who.now ++ meant.clause_text (arrays_of arrays.now) lacking) }
 {
-    put_words(out, who)?;
-    put_clause(alloc, arrays, lacking, out)?;
-    Ok(())
-}
-
-/// `depend(in: m[5])`
-fn put_clause(
-    alloc: Global,
-    arrays: &[ArrayShape],
-    lacking: Option<Use>,
-    out: &mut Vec<u8>,
-) -> Result<(), AllocError>
-    ensures { OnOk result (out.new.items ≡ out.old.items ++ clause_text (arrays_of arrays.now) lacking) }
-{
-    let Some(used) = lacking else {
-        return put_words(out, "a clause");
-    };
-    put_words(out, "depend(")?;
-    put_words(out, kind_text(used.mode))?;
-    put_words(out, ": ")?;
-    put_cell(alloc, arrays, used.cell, out)?;
-    out.push(b')')?;
-    Ok(())
+    match lacking {
+        Some(used) => {
+            let cell = cell_text(alloc, arrays, used.cell)?;
+            let cell = cell.as_str();
+            let kind = kind_text(used.mode);
+            format!(in alloc; "{who}depend({kind}: {cell})")
+        }
+        None => format!(in alloc; "{who}a clause"),
+    }
 }
 
 /// The kind of a dependence that allows such a use.
 fn kind_text(mode: Mode) -> &'static str
-    ensures { result.now ≡ kind_text mode }
+    ensures { result.now ≡ meant.kind_text mode }
 {
     match mode {
         Mode::Reads => "in",
@@ -173,26 +215,25 @@ fn kind_text(mode: Mode) -> &'static str
     }
 }
 
-/// The line about what isn't judged.
-pub(crate) fn put_outside(
-    alloc: Global,
-    name: &str,
-    position: Position,
-    reason: &str,
-    out: &mut Vec<u8>,
-) -> Result<(), AllocError>
-    ensures { OnOk result (out.new.items ≡ out.old.items ++ outside_line name.now position reason.now) }
+/// That a text isn't judged, for this reason, at a place.
+pub fn outside(alloc: Global, place: Place, reason: &str) -> Result<Diagnosis, AllocError>
+    ensures { IfOk result (λ found. diagnosis_by found ≡ meant.outside place reason.now) }
 {
-    put_place(alloc, name, position, out)?;
-    put_words(out, ": error: ")?;
-    put_words(out, reason)?;
-    put_words(out, " [outside]\n")?;
-    Ok(())
+    Ok(Diagnosis {
+        severity: Severity::Error,
+        code: Code::Outside,
+        told: Remark {
+            place: Some(place),
+            turns: Vec::new(alloc),
+            message: String::from_str(alloc, reason)?,
+        },
+        notes: Vec::new(alloc),
+    })
 }
 
 /// Why a program isn't judged that can't be read.
 pub(crate) fn reason_of(refusal: Refusal) -> &'static str
-    ensures { result.now ≡ reason_of refusal }
+    ensures { result.now ≡ meant.reason_of refusal }
 {
     match refusal {
         Refusal::Form => "this is of no form that is judged",

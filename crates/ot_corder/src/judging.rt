@@ -39,7 +39,10 @@ fn judge_in_c(alloc: Global, events: Vec<Event<'_>>) -> Result<Option<Race>, All
 }
 
 /// The events as C takes them, with what they declare there in place of what they declare in the language.
-fn events_in_c<'d>(mut events: Vec<Event<'d>>, declared: &'d [Option<Decl>]) -> Vec<Event<'d>>
+pub(crate) fn events_in_c<'d>(
+    mut events: Vec<Event<'d>>,
+    declared: &'d [Option<Decl>],
+) -> Vec<Event<'d>>
     requires { declared.now ≡ map (λ e. instead e.deed) (events_in events.items) }
     ensures { events_in result.items ≡ map event_in_c (events_in events.entry.items) }
 {
@@ -52,7 +55,7 @@ fn events_in_c<'d>(mut events: Vec<Event<'d>>, declared: &'d [Option<Decl>]) -> 
 }
 
 /// The events as C takes them where tasks take part by pointers.
-fn events_by_pointers(mut events: Vec<Event<'_>>) -> Vec<Event<'_>>
+pub(crate) fn events_by_pointers(mut events: Vec<Event<'_>>) -> Vec<Event<'_>>
     ensures { events_in result.items ≡ map event_by_pointers (events_in events.entry.items) }
 {
     for number in 0..events.len() {

@@ -2,11 +2,15 @@
 #![tactic(auto)]
 
 mod alike;
+mod apart;
 mod depends;
 mod judging;
 pub mod laws;
+mod listing;
 mod order;
 
 pub use alike::is_alike;
+pub use apart::judge_apart_by;
 pub use judging::judge_by;
+pub use listing::races_by;
 pub use order::Order;

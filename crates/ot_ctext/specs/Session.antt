@@ -2,8 +2,9 @@
 use Rattle.std.specs.Prelude.{◌≡◌, ℕ, false, List, ◌∷◌, [], ◌++◌, Ok, Err}
 use Rattle.serde_json.specs.Data.{Data}
 use Rattle.serde_json.specs.Written.{compact_text, has_float}
-use Rattle.ot_file.specs.Positions.{position_of}
-use Rattle.ot_cjudge.specs.Reports.{outside_line}
+use Rattle.ot_diagnosis.specs.Diagnoses.{place_in}
+use Rattle.ot_diagnosis.specs.DiagnosisView.{diagnosis_by}
+use Rattle.ot_cjudge.specs.Reports.{outside}
 use Rattle.ot_ctext.specs.Reading.{Meant, Means}
 use Rattle.ot_ctext.specs.Requests.{requests_of}
 use Rattle.ot_ctext.specs.declared.session.Session.{Session}
@@ -22,12 +23,12 @@ abbrev pub AreLines : List Data → List ℕ → Type 0
 AreLines [] text = text ≡ []
 AreLines (r ∷ more) text = (line : List ℕ) × (rest : List ℕ) × IsLine r line × AreLines more rest × (text ≡ line ++ rest)
 
--- of what a text of this name means
-abbrev pub IsSessionOf : List ℕ → List ℕ → Meant → Session → Type 0
-IsSessionOf name text (Ok program) (s.Lines lines) = AreLines (requests_of program) lines.items
-IsSessionOf name text (Err fault) (s.Outside line) = line.items ≡ outside_line name (position_of text fault.0) fault.1
-IsSessionOf name text _ _ = ⊥
+-- of what a text means
+abbrev pub IsSessionOf : List ℕ → Meant → Session → Type 0
+IsSessionOf text (Ok program) (s.Lines lines) = AreLines (requests_of program) lines.items
+IsSessionOf text (Err fault) (s.Outside found) = diagnosis_by found ≡ outside (place_in text fault.0) fault.1
+IsSessionOf text _ _ = ⊥
 
--- of a text of this name
-abbrev pub IsSession : List ℕ → List ℕ → Session → Type 0
-IsSession name text session = (meant : Meant) × Means text meant × IsSessionOf name text meant session
+-- of a text
+abbrev pub IsSession : List ℕ → Session → Type 0
+IsSession text session = (meant : Meant) × Means text meant × IsSessionOf text meant session

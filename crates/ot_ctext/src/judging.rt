@@ -1,6 +1,7 @@
 //! A text, judged.
 ghost use Rattle.std.specs.Prelude.{◌≡◌, map, IfOk};
 ghost use Rattle.ot_clower.specs.Files.{lowered_of};
+ghost use Rattle.ot_diagnosis.specs.DiagnosisView.{diagnosis_by};
 ghost use Rattle.ot_cdeclare.specs.Arrays.{array_of};
 ghost use Rattle.ot_ctext.specs.Judging.{Judges, JudgesProgram, JudgesBy, IsJudged, judged_array};
 
@@ -9,13 +10,13 @@ use ot_cjudge::{Order, Report, report_c, report_outside};
 use ot_clower::Reductions;
 use std::alloc::{AllocError, Global};
 
-/// Judges a text of this name, and writes what is found.
+/// Judges a text of this name, and tells what is found.
 pub fn judge_text(alloc: Global, name: &str, text: &[u8]) -> Result<Report, AllocError>
-    ensures { IfOk result (λ report. Judges name.now text.now report.verdict report.text.items) }
+    ensures { IfOk result (λ report. Judges name.now text.now report.verdict (map diagnosis_by report.found.items)) }
 {
     match meaning_of(alloc, text)? {
         Meaning::Program(lowered) => judge_program(alloc, name, text, lowered),
-        Meaning::Outside(byte, reason) => report_outside(alloc, name, text, byte, reason),
+        Meaning::Outside(byte, reason) => report_outside(alloc, text, byte, reason),
     }
 }
 
@@ -27,14 +28,13 @@ fn judge_program(
     text: &[u8],
     lowered: ot_clower::Lowered,
 ) -> Result<Report, AllocError>
-    ensures { IfOk result (λ report. JudgesProgram name.now text.now (lowered_of lowered) lowered.reductions report.verdict report.text.items) }
+    ensures { IfOk result (λ report. JudgesProgram name.now text.now (lowered_of lowered) lowered.reductions report.verdict (map diagnosis_by report.found.items)) }
 {
     match lowered.reductions {
         Reductions::ByNames => judge_by(alloc, name, text, Order::OfC, lowered),
         Reductions::ByPointers => judge_by(alloc, name, text, Order::OfCByPointers, lowered),
         Reductions::Mixed(byte) => report_outside(
             alloc,
-            name,
             text,
             byte,
             "all reductions of a text are by names, or all are by pointers",
@@ -49,7 +49,7 @@ fn judge_by(
     order: Order,
     lowered: ot_clower::Lowered,
 ) -> Result<Report, AllocError>
-    ensures { IfOk result (λ report. JudgesBy order name.now text.now (lowered_of lowered) report.verdict report.text.items) }
+    ensures { IfOk result (λ report. JudgesBy order name.now text.now (lowered_of lowered) report.verdict (map diagnosis_by report.found.items)) }
 {
     let judged = judged(alloc, order, lowered)?;
     report_c(alloc, name, text, judged)

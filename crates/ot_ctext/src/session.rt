@@ -5,7 +5,8 @@ ghost use Rattle.ot_ctext.specs.Session.{AreLines, IsLine, IsSession, with_end};
 
 use crate::reading::{Meaning, meaning_of};
 use crate::requests::requests_of;
-use ot_cjudge::report_outside;
+use ot_cjudge::outside;
+use ot_diagnosis::{Diagnosis, Place};
 use serde_json::Value;
 use std::alloc::{AllocError, Global};
 
@@ -14,13 +15,13 @@ use std::alloc::{AllocError, Global};
 pub enum Session {
     /// Its requests, one a line.
     Lines(Vec<u8>),
-    /// The line about a text that isn't judged.
-    Outside(Vec<u8>),
+    /// Why a text isn't judged.
+    Outside(Diagnosis),
 }
 
-/// The session that makes the arrays of a text of this name and runs its program.
-pub fn session_of(alloc: Global, name: &str, text: &[u8]) -> Result<Session, AllocError>
-    ensures { IfOk result (IsSession name.now text.now) }
+/// The session that makes the arrays of a text and runs its program.
+pub fn session_of(alloc: Global, text: &[u8]) -> Result<Session, AllocError>
+    ensures { IfOk result (IsSession text.now) }
 {
     match meaning_of(alloc, text)? {
         Meaning::Program(lowered) => {
@@ -28,7 +29,7 @@ pub fn session_of(alloc: Global, name: &str, text: &[u8]) -> Result<Session, All
             Ok(Session::Lines(lines_of(alloc, requests.as_slice())?))
         }
         Meaning::Outside(byte, reason) => {
-            Ok(Session::Outside(report_outside(alloc, name, text, byte, reason)?.text))
+            Ok(Session::Outside(outside(alloc, Place::at(text, byte), reason)?))
         }
     }
 }

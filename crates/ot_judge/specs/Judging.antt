@@ -12,8 +12,8 @@ use Rattle.ot_book.specs.Room.{room_in, takes}
 use Rattle.ot_judge.specs.declared.verdict.Verdict.{Verdict}
 use Rattle.ot_judge.specs.declared.verdict.Verdict.TheVariants.{Taken, Refused, Full}
 use Rattle.ot_file.specs.Items.{offset_of}
-use Rattle.ot_file.specs.Positions.{position_of}
-use Rattle.ot_file.specs.declared.position.Position.{Position}
+use Rattle.ot_diagnosis.specs.Diagnoses.{place_in}
+use Rattle.ot_diagnosis.specs.declared.diagnosis.Place.{Place}
 use Rattle.ot_place.specs.Spots.{Path, Spot, spots_of, statements_of, numbered}
 use Rattle.ot_fault.specs.Whys.{first_fault}
 use Rattle.ot_model.specs.Programs.{Arrays}
@@ -175,15 +175,15 @@ abbrev pub statement_offset : Option Data → List ℕ → ℕ → Option ℕ
 statement_offset request piece number = option_and_then (λ d. option_and_then (spot_offset piece) (numbered number (statements_of d))) request
 
 -- where in a file without comments that statement of a piece stands, or the piece, where it has none
-abbrev pub statement_position : Option Data → List ℕ → ℕ → ℕ → ℕ → Position
-statement_position request blank start end number =
-    position_of blank (start + unwrap_or (statement_offset request (slice_range blank start end) number) 0)
+abbrev pub statement_place : Option Data → List ℕ → ℕ → ℕ → ℕ → Place
+statement_place request blank start end number =
+    place_in blank (start + unwrap_or (statement_offset request (slice_range blank start end) number) 0)
 
 -- a byte of the piece, or the one behind it
-pub record IsInPiece (blank : List ℕ) (start end : ℕ) (position : Position) : Type 0 where
+pub record IsInPiece (blank : List ℕ) (start end : ℕ) (place : Place) : Type 0 where
   pub offset : ℕ
   pub within : offset ≤ end - start
-  pub is : position ≡ position_of blank (start + offset)
+  pub is : place ≡ place_in blank (start + offset)
 
 -- whether a request runs a program
 abbrev pub runs_program : Data → Bool
@@ -198,24 +198,24 @@ fault_offset shape piece request =
     else None
 
 -- what is no JSON is told in the piece; what is refused otherwise where its program has a fault, or at the piece
-abbrev pub IsPlacedAt : Option Data → Arrays → List ℕ → ℕ → ℕ → Position → Type 0
-IsPlacedAt None shape blank start end position = IsInPiece blank start end position
-IsPlacedAt (Some request) shape blank start end position =
-    position ≡ position_of blank (start + unwrap_or (fault_offset shape (slice_range blank start end) request) 0)
+abbrev pub IsPlacedAt : Option Data → Arrays → List ℕ → ℕ → ℕ → Place → Type 0
+IsPlacedAt None shape blank start end place = IsInPiece blank start end place
+IsPlacedAt (Some request) shape blank start end place =
+    place ≡ place_in blank (start + unwrap_or (fault_offset shape (slice_range blank start end) request) 0)
 
 -- an offence is told at the statement that the reply counts
-abbrev pub IsPlacedBy : Option r.Told → Option Data → Arrays → List ℕ → ℕ → ℕ → Position → Type 0
-IsPlacedBy (Some (r.Offends code number)) request shape blank start end position = position ≡ statement_position request blank start end number
-IsPlacedBy (Some (r.Refused code)) request shape blank start end position = IsPlacedAt request shape blank start end position
-IsPlacedBy told request shape blank start end position = IsInPiece blank start end position
+abbrev pub IsPlacedBy : Option r.Told → Option Data → Arrays → List ℕ → ℕ → ℕ → Place → Type 0
+IsPlacedBy (Some (r.Offends code number)) request shape blank start end place = place ≡ statement_place request blank start end number
+IsPlacedBy (Some (r.Refused code)) request shape blank start end place = IsPlacedAt request shape blank start end place
+IsPlacedBy told request shape blank start end place = IsInPiece blank start end place
 
 -- a full log and a line that is too long are told at the piece
-abbrev pub IsPlacedIn : Option Register → Option Data → List ℕ → ℕ → ℕ → Position → Type 0
-IsPlacedIn None request blank start end position = position ≡ position_of blank start
-IsPlacedIn (Some book) request blank start end position = IsPlacedBy (last_told book) request (shape_in book.limits book.store) blank start end position
+abbrev pub IsPlacedIn : Option Register → Option Data → List ℕ → ℕ → ℕ → Place → Type 0
+IsPlacedIn None request blank start end place = place ≡ place_in blank start
+IsPlacedIn (Some book) request blank start end place = IsPlacedBy (last_told book) request (shape_in book.limits book.store) blank start end place
 
-abbrev pub IsPlaced : List ℕ → Refusal → Position → Type 0
-IsPlaced blank refusal position = IsPlacedIn refusal.book refusal.request blank refusal.start refusal.end position
+abbrev pub IsPlaced : List ℕ → Refusal → Place → Type 0
+IsPlaced blank refusal place = IsPlacedIn refusal.book refusal.request blank refusal.start refusal.end place
 
 -- How far a file was judged.
 

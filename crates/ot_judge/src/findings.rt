@@ -1,7 +1,7 @@
 //! The requests of a file that are refused, one after another.
 ghost use Rattle.std.specs.Prelude.{◌≡◌, ◌≤◌, ◌<◌, [], ◌∷◌, None, List, length, IfOk, IfSome, MatchOption, ℕ, Ok, option_and_then, option_map};
 ghost use Rattle.serde_json.specs.View.{view};
-ghost use Rattle.ot_judge.specs.Judging.{Refusal, refusals_in, finds, made, told_in, IsPlaced, statement_position, Goes, standing, IsBehind, IsSeen, bytes_left};
+ghost use Rattle.ot_judge.specs.Judging.{Refusal, refusals_in, finds, made, told_in, IsPlaced, statement_place, Goes, standing, IsBehind, IsSeen, bytes_left};
 ghost use Rattle.ot_book.specs.Answers.{code_in};
 ghost use Rattle.ot_judge.specs.Found.{found_as};
 
@@ -12,7 +12,8 @@ use crate::place::{place_in, statement_in};
 use crate::told::{code_of, told_last};
 use crate::verdict::judge_line;
 use ot_book::{Book, read_line};
-use ot_file::{Position, Positions, next_piece};
+use ot_diagnosis::Place;
+use ot_file::{Positions, next_piece};
 use ot_model::ArrayShape;
 use serde_json::Value;
 use std::alloc::{AllocError, Global};
@@ -32,7 +33,7 @@ pub struct Finding {
     /// The value of its line; none where that is no JSON, the log of the book is full, or the line is too long.
     pub request: Option<Value>,
     /// Where in the file it is refused.
-    pub position: Position,
+    pub place: Place,
 }
 
 /// The requests of a file without comments, judged one after another as a session of a tenant judges them, with no program
@@ -90,7 +91,7 @@ impl<'a> Findings<'a> {
     /// full log or a line that is too long.
     pub fn next(&mut self, alloc: Global) -> Result<Option<Finding>, JudgeFault>
         ensures next { (all : List Refusal) → Goes all self.old → IfOk result (λ next. MatchOption next (all ≡ [])
-            (λ f. (one : Refusal) × (behind : List Refusal) × (all ≡ one ∷ behind) × Goes behind self.new × IsSeen one f × IsBehind one self.new.book × IsPlaced self.old.blank one f.position)) }
+            (λ f. (one : Refusal) × (behind : List Refusal) × (all ≡ one ∷ behind) × Goes behind self.new × IsSeen one f × IsBehind one self.new.book × IsPlaced self.old.blank one f.place)) }
         ensures piece { IfOk result (λ next. IfSome next (λ f. (f.start ≤ f.end) × (f.end ≤ length self.new.blank))) }
         ensures fewer { IfOk result (λ next. IfSome next (λ f. bytes_left self.new < bytes_left self.old)) }
         ensures file { self.new.blank ≡ self.old.blank }
@@ -99,14 +100,14 @@ impl<'a> Findings<'a> {
             return Ok(None);
         };
         self.from = found.next;
-        let position = placed(alloc, self.blank, &self.book, &found, &mut self.positions)?;
+        let place = placed(alloc, self.blank, &self.book, &found, &mut self.positions)?;
         Ok(Some(Finding {
             start: found.start,
             end: found.end,
             code: found.code(&self.book),
             is_long: found.is_long,
             request: found.request,
-            position,
+            place,
         }))
     }
 
@@ -116,14 +117,14 @@ impl<'a> Findings<'a> {
         alloc: Global,
         finding: &Finding,
         number: u32,
-    ) -> Result<Position, AllocError>
+    ) -> Result<Place, AllocError>
         requires { (finding.now.start ≤ finding.now.end) × (finding.now.end ≤ length self.old.blank) }
-        ensures position { IfOk result (λ position. position ≡ statement_position (option_map view finding.now.request) self.old.blank finding.now.start finding.now.end number) }
+        ensures place { IfOk result (λ place. place ≡ statement_place (option_map view finding.now.request) self.old.blank finding.now.start finding.now.end number) }
         ensures same { self.new ≡ self.old }
     {
         let piece = &self.blank[finding.start..finding.end];
         let offset = statement_in(alloc, &finding.request, piece, number)?;
-        Ok(self.positions.position_of(finding.start + offset))
+        Ok(Place::among(&mut self.positions, finding.start + offset))
     }
 }
 
@@ -219,17 +220,17 @@ fn placed(
     book: &Book,
     found: &Found,
     positions: &mut Positions<'_>,
-) -> Result<Position, JudgeFault>
+) -> Result<Place, JudgeFault>
     requires piece { (found.now.start ≤ found.now.end) × (found.now.end ≤ length blank.now) }
     requires text { positions.old ≡ blank.now }
-    ensures placed { IfOk result (λ position. IsPlaced blank.now (found_as found.now book.now) position) }
+    ensures placed { IfOk result (λ place. IsPlaced blank.now (found_as found.now book.now) place) }
     ensures text { positions.new ≡ positions.old }
 {
     positions.mark(found.start);
     if found.ends {
-        return Ok(positions.position_of(found.start));
+        return Ok(Place::among(positions, found.start));
     }
     let piece = &blank[found.start..found.end];
     let place = place_in(alloc, book, &found.request, piece)?;
-    Ok(positions.position_of(found.start + place))
+    Ok(Place::among(positions, found.start + place))
 }

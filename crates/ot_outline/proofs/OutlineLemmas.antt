@@ -9,7 +9,7 @@ use Rattle.ot_check.specs.Offences.{use_as, Declared}
 use Rattle.ot_race.specs.Events as runs
 use Rattle.ot_race.specs.Events.{event, Touches, Begins, Leaves}
 use Rattle.ot_outline.specs.Tree.{outline, outline_one, body_of, statement_of, no_form, no_form_one}
-use Rattle.ot_outline.specs.Happens.{Way, way_as, happens, happens_one, after, after_one}
+use Rattle.ot_outline.specs.Happens.{way_as, happens, happens_one, after, after_one}
 
 -- ---- it is the program
 

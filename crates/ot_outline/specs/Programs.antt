@@ -3,7 +3,7 @@ use Rattle.std.specs.Prelude.{◌≡◌, ◌<◌, List, Some, None}
 use Rattle.ot_model.specs.Tree as tree
 use Rattle.ot_model.specs.Programs.{Expanded}
 use Rattle.ot_model.specs.declared.expr.Section.{Section}
-use Rattle.ot_outline.specs.Tree.{Steps, body_of, no_form, size}
+use Rattle.ot_outline.specs.Tree.{Steps, body_of, no_form}
 use Rattle.ot_outline.specs.declared.program.NoProgram.{NoProgram}
 use Rattle.ot_outline.specs.declared.program.NoProgram.TheVariants.{Memory, NoForm, TooLarge}
 

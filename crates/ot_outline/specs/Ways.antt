@@ -4,18 +4,13 @@ use Rattle.ot_corder.specs.Orders.{ordered_by}
 use Rattle.ot_corder.specs.declared.order.Order.{Order}
 use Rattle.ot_race.specs.Events.{Event}
 use Rattle.ot_race.specs.Races.{NothingRaces, IsFirstRace}
-use Rattle.ot_outline.specs.Tree.{Steps}
-use Rattle.ot_outline.specs.Followed.{answered, events_by}
+use Rattle.ot_outline.specs.Followed.{answered}
 use Rattle.ot_outline.specs.declared.ways.Told.{Told}
 use Rattle.ot_outline.specs.declared.ways.Told.TheVariants.{RacesNowhere, RacesOn, TooMany}
 
--- answers that are the same as far as questions are asked lead to the same steps and questions
-abbrev pub IsStable : ((ℕ → Bool) → Steps) → ((ℕ → Bool) → ℕ) → Type 0
-IsStable steps asked = (p q : ℕ → Bool) → ((k : ℕ) → k < asked p → p k ≡ q k) → (steps p ≡ steps q) × (asked p ≡ asked q)
-
--- the events of steps without branches
-abbrev pub events_of : Steps → List Event
-events_of steps = events_by (λ k. false) steps
+-- answers that are the same as far as questions are asked lead to the same events and questions
+abbrev pub IsStable : ((ℕ → Bool) → List Event) → ((ℕ → Bool) → ℕ) → Type 0
+IsStable events asked = (p q : ℕ → Bool) → ((k : ℕ) → k < asked p → p k ≡ q k) → (events p ≡ events q) × (asked p ≡ asked q)
 
 -- answers that begin with these
 abbrev pub Begins : List Bool → (ℕ → Bool) → Type 0
@@ -34,34 +29,34 @@ endings asked (suc more) given =
     else endings asked more (given ++ true ∷ []) ++ endings asked more (given ++ false ∷ [])
 
 -- questions end there, and nothing races on that way
-abbrev pub HasNoRace : Order → ((ℕ → Bool) → Steps) → Ending → Type 0
-HasNoRace order steps (Settled given) = NothingRaces (ordered_by order (events_of (steps (answered given))))
-HasNoRace order steps AsksMore = ⊥
+abbrev pub HasNoRace : Order → ((ℕ → Bool) → List Event) → Ending → Type 0
+HasNoRace order events (Settled given) = NothingRaces (ordered_by order (events (answered given)))
+HasNoRace order events AsksMore = ⊥
 
 -- of the ends this is the first but for those without a race, each of which takes one from the budget
-pub record ComesTo (order : Order) (steps : (ℕ → Bool) → Steps) (ends : List Ending) (budget left : ℕ) (it : Ending) : Type 0 where
+pub record ComesTo (order : Order) (events : (ℕ → Bool) → List Event) (ends : List Ending) (budget left : ℕ) (it : Ending) : Type 0 where
   pub before : List Ending
   pub behind : List Ending
   pub ends_are : ends ≡ before ++ it ∷ behind
-  pub none : All (HasNoRace order steps) before
+  pub none : All (HasNoRace order events) before
   pub taken : budget ≡ left + length before
 
 -- what is told of these ends with this budget, and what is left of it then
-abbrev pub TellsOf : Order → ((ℕ → Bool) → Steps) → List Ending → (budget left : ℕ) → Told → Type 0
-TellsOf order steps ends budget left RacesNowhere = All (HasNoRace order steps) ends × (budget ≡ left + length ends)
-TellsOf order steps ends budget left (RacesOn answers race) =
-    ComesTo order steps ends budget (left + 1) (Settled answers.items)
-    × IsFirstRace (ordered_by order (events_of (steps (answered answers.items)))) race.cell race.place race.later
-TellsOf order steps ends budget left TooMany =
-    ComesTo order steps ends budget left AsksMore ⊎ ((given : List Bool) × ComesTo order steps ends budget 0 (Settled given) × (left ≡ 0))
+abbrev pub TellsOf : Order → ((ℕ → Bool) → List Event) → List Ending → (budget left : ℕ) → Told → Type 0
+TellsOf order events ends budget left RacesNowhere = All (HasNoRace order events) ends × (budget ≡ left + length ends)
+TellsOf order events ends budget left (RacesOn answers race) =
+    ComesTo order events ends budget (left + 1) (Settled answers.items)
+    × IsFirstRace (ordered_by order (events (answered answers.items))) race.cell race.place race.later
+TellsOf order events ends budget left TooMany =
+    ComesTo order events ends budget left AsksMore ⊎ ((given : List Bool) × ComesTo order events ends budget 0 (Settled given) × (left ≡ 0))
 
 -- what is told of the way of these answers alone
-abbrev pub TellsAlone : Order → ((ℕ → Bool) → Steps) → List Bool → Told → Type 0
-TellsAlone order steps given RacesNowhere = NothingRaces (ordered_by order (events_of (steps (answered given))))
-TellsAlone order steps given (RacesOn answers race) =
-    (answers.items ≡ given) × IsFirstRace (ordered_by order (events_of (steps (answered given)))) race.cell race.place race.later
-TellsAlone order steps given TooMany = ⊥
+abbrev pub TellsAlone : Order → ((ℕ → Bool) → List Event) → List Bool → Told → Type 0
+TellsAlone order events given RacesNowhere = NothingRaces (ordered_by order (events (answered given)))
+TellsAlone order events given (RacesOn answers race) =
+    (answers.items ≡ given) × IsFirstRace (ordered_by order (events (answered given))) race.cell race.place race.later
+TellsAlone order events given TooMany = ⊥
 
 -- nothing races on any way that begins with these answers
-abbrev pub RacesOnNone : Order → ((ℕ → Bool) → Steps) → List Bool → Type 0
-RacesOnNone order steps given = (answers : ℕ → Bool) → Begins given answers → NothingRaces (ordered_by order (events_of (steps answers)))
+abbrev pub RacesOnNone : Order → ((ℕ → Bool) → List Event) → List Bool → Type 0
+RacesOnNone order events given = (answers : ℕ → Bool) → Begins given answers → NothingRaces (ordered_by order (events answers))

@@ -4,12 +4,14 @@
 mod decided;
 mod following;
 pub mod laws;
+mod noted;
 mod outline;
 mod program;
 mod step;
 mod ways;
 
 pub use following::follow;
+pub use noted::{Did, Noted, events_of};
 pub use outline::outline_of;
 pub use program::{NoProgram, program_of};
 pub use step::Step;

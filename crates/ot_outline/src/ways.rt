@@ -1,44 +1,42 @@
 //! Races on the ways of whatever asks questions: as a text in C, of which not all values are known.
-ghost use Rattle.std.specs.Prelude.{◌≡◌, ◌<◌, ◌≤◌, ◌^◌, ◌++◌, ◌∷◌, [], ℕ, Bool, IfOk, Ok, length};
-ghost use Rattle.ot_outline.specs.Tree.{Steps, size};
-ghost use Rattle.ot_outline.specs.View.{steps_in};
-ghost use Rattle.ot_outline.specs.Followed.{answered, Fits};
+ghost use Rattle.std.specs.Prelude.{◌≡◌, ◌<◌, ◌≤◌, ◌^◌, ◌++◌, ◌∷◌, [], ℕ, Bool, List, IfOk, Ok, length};
+ghost use Rattle.ot_race.specs.Events.{Event};
+ghost use Rattle.ot_outline.specs.View.{noted_in};
+ghost use Rattle.ot_outline.specs.Followed.{answered};
 ghost use Rattle.ot_outline.specs.Ways.{IsStable, endings, TellsOf, TellsAlone, RacesOnNone};
 ghost use Rattle.ot_outline.specs.declared.ways.Told.TheVariants.{RacesNowhere};
 
-use crate::following::follow;
-use crate::step::Step;
+use crate::noted::{Noted, events_of};
 use ot_corder::{Order, judge_by};
 use ot_race::Race;
 use std::alloc::{AllocError, Global};
 
-/// One way: its steps, and how many questions were asked.
+/// One way: its events, and how many questions were asked.
 #[derive(Drop)]
 pub struct OneWay {
-    pub steps: Vec<Step>,
+    pub log: Vec<Noted>,
     pub asked: usize,
 }
 
 /// What asks questions on its way.
 pub trait Asks {
-    ghost use Rattle.std.specs.Prelude.{ℕ, Bool};
-    ghost use Rattle.ot_outline.specs.Tree.{Steps};
+    ghost use Rattle.std.specs.Prelude.{ℕ, Bool, List};
+    ghost use Rattle.ot_race.specs.Events.{Event};
 
-    /// The steps on the way of these answers, without branches.
-    ghost steps_by: { Self → (ℕ → Bool) → Steps };
+    /// The events on the way of these answers.
+    ghost events_by: { Self → (ℕ → Bool) → List Event };
 
     /// How many questions are asked there.
     ghost asked_by: { Self → (ℕ → Bool) → ℕ };
 
     /// The way of these answers; to further questions the answer is no.
     fn way(&self, alloc: Global, answers: &[bool]) -> Result<OneWay, AllocError>
-        ensures steps { IfOk result (λ way. steps_in way.steps.items ≡ steps_by self.now (answered answers.now)) }
+        ensures events { IfOk result (λ way. noted_in way.log.items ≡ events_by self.now (answered answers.now)) }
         ensures asked { IfOk result (λ way. way.asked ≡ asked_by self.now (answered answers.now)) }
-        ensures fits { IfOk result (λ way. Fits (steps_in way.steps.items)) }
-        ensures few { IfOk result (λ way. size (steps_in way.steps.items) < 2 ^ 32) };
+        ensures few { IfOk result (λ way. length way.log.items < 2 ^ 32) };
 
     /// No more than these answers matter.
-    ghost stable: { (w : Self) → IsStable (steps_by w) (asked_by w) };
+    ghost stable: { (w : Self) → IsStable (events_by w) (asked_by w) };
 }
 
 /// What is told of ways.
@@ -62,8 +60,8 @@ pub fn race_of<W: Asks>(
     budget: &mut u32,
     given: &[bool],
 ) -> Result<Told, AllocError>
-    ensures told { IfOk result (TellsOf order (W.steps_by asks.now) (endings (W.asked_by asks.now) questions given.now) budget.old budget.new) }
-    ensures nowhere { result ≡ Ok RacesNowhere → RacesOnNone order (W.steps_by asks.now) given.now }
+    ensures told { IfOk result (TellsOf order (W.events_by asks.now) (endings (W.asked_by asks.now) questions given.now) budget.old budget.new) }
+    ensures nowhere { result ≡ Ok RacesNowhere → RacesOnNone order (W.events_by asks.now) given.now }
 {
     let way = asks.way(alloc, given)?;
     if way.asked <= given.len() {
@@ -94,13 +92,11 @@ fn told_on<W: Asks>(
     way: OneWay,
     given: &[bool],
 ) -> Result<Told, AllocError>
-    requires steps { steps_in way.steps.items ≡ W.steps_by asks.now (answered given.now) }
-    requires fits { Fits (steps_in way.steps.items) }
-    requires few { size (steps_in way.steps.items) < 2 ^ 32 }
-    ensures { IfOk result (TellsAlone order (W.steps_by asks.now) given.now) }
+    requires events { noted_in way.log.items ≡ W.events_by asks.now (answered given.now) }
+    requires few { length way.log.items < 2 ^ 32 }
+    ensures { IfOk result (TellsAlone order (W.events_by asks.now) given.now) }
 {
-    let none = Vec::new(alloc);
-    let events = follow(alloc, &way.steps, &none)?;
+    let events = events_of(alloc, &way.log)?;
     match judge_by(alloc, order, events)? {
         Some(race) => Ok(Told::RacesOn(given.to_vec(alloc)?, race)),
         None => Ok(Told::RacesNowhere),

@@ -106,7 +106,7 @@ more_touched es n front u c o i (inr t) = inr (t.0, Contains-append_left front (
 new_touched : (es : List Event) (n : ℕ) (front : List Use) (c : Cell) (o : Mode) → Touched es n (front ++ use_as o c ∷ []) c o n
 new_touched es n front c o = inr (refl, Contains-push front (use_as o c))
 
-touched_cases : (es : List Event) (n : ℕ) (front : List Use) (u : Use) (c : Cell) (o : Mode) (i : ℕ) → Touched es n (front ++ u ∷ []) c o i
+pub touched_cases : (es : List Event) (n : ℕ) (front : List Use) (u : Use) (c : Cell) (o : Mode) (i : ℕ) → Touched es n (front ++ u ∷ []) c o i
     → Touched es n front c o i ⊎ ((i ≡ n) × (u ≡ use_as o c))
 touched_cases es n front u c o i (inl t) = inl (inl t)
 touched_cases es n front u c o i (inr t) =
@@ -115,7 +115,7 @@ touched_cases es n front u c o i (inr t) =
       | inr new ↦ inr (t.0, new)
     ]
 
-only : (x e : ℕ) → Contains (x ∷ []) e → x ≡ e
+pub only : (x e : ℕ) → Contains (x ∷ []) e → x ≡ e
 only x e l = elim (Contains-push_cases [] x e l) [ inl none ↦ absurd (omega (arith, none.1)) | inr is ↦ is ]
 
 mode_is : (a b : Mode) (c : Cell) → use_as a c ≡ use_as b c → b ≡ a
@@ -302,7 +302,7 @@ race_found es n e front u rows known h up l none used =
       | inr own ↦ false_true (has known e) ((up e).1 (inl own.0)) none
     ]
 
-same_event : (es : List Event) (n : ℕ) (c : Cell) (mode : Mode) (e : Event) → slice_get es n ≡ Some e → IsUsed es c mode n → Contains e.uses (use_as mode c)
+pub same_event : (es : List Event) (n : ℕ) (c : Cell) (mode : Mode) (e : Event) → slice_get es n ≡ Some e → IsUsed es c mode n → Contains e.uses (use_as mode c)
 same_event es n c mode e at used = subst (λ (x : Event). Contains x.uses (use_as mode c)) (some_is used.it e (sym used.there ∙ at)) used.uses
 
 pub no_race : (es : List Event) (n : ℕ) (e : Event) (known : Numbers) → slice_get es n ≡ Some e → IsUpToIn es n known → All (AllBehind es n known) e.uses

@@ -21,5 +21,6 @@ mod uses;
 pub use event::{Deed, Event};
 pub use first_race::{run_events, this_run};
 pub use judging::judge;
+pub use order::Standings;
 pub use race::Race;
 pub use uses::{fold_as, note, note_writes};

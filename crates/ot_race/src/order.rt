@@ -17,9 +17,9 @@ use crate::standing::{
 use ot_sets::Numbers;
 use std::alloc::{AllocError, Global};
 
-/// What is kept of all tasks.
+/// What is kept of all tasks: whoever goes along a list of events learns from it which events are before each.
 #[derive(Drop)]
-pub(crate) struct Standings {
+pub struct Standings {
     tasks: Vec<Standing>,
     siblings: Siblings,
     /// Where each task ends in the whole list.
@@ -28,7 +28,7 @@ pub(crate) struct Standings {
 
 impl Standings {
     /// What is kept before the first event.
-    pub(crate) fn new(alloc: Global, events: &[Event<'_>]) -> Result<Standings, AllocError>
+    pub fn new(alloc: Global, events: &[Event<'_>]) -> Result<Standings, AllocError>
         requires { length events.now < 2 ^ 32 }
         ensures { IfOk result (Stands (events_in events.now) 0) }
     {
@@ -42,7 +42,7 @@ impl Standings {
 
     /// Takes an event in, where what is kept is that of all events before it. Before a touch is just what
     /// its task knows: so the touch is put into the task's own set.
-    pub(crate) fn take_in(
+    pub fn take_in(
         &mut self,
         alloc: Global,
         events: &[Event<'_>],
@@ -72,7 +72,7 @@ impl Standings {
     }
 
     /// The event that was taken in last, and those that are before it.
-    pub(crate) fn up_to(&self, events: &[Event<'_>], number: u32) -> &Numbers
+    pub fn up_to(&self, events: &[Event<'_>], number: u32) -> &Numbers
         requires there { number < length events.now }
         requires stands { Stands (events_in events.now) (number + 1) self.now }
         ensures { (i : ℕ) → (has result.now i ≡ true) ↔ IsUpTo (events_in events.now) i number }

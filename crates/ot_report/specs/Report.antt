@@ -1,10 +1,14 @@
 -- At which statements the notes behind a refusal stand.
-use Rattle.std.specs.Prelude.{◌≡◌, [], ℕ, ◌==◌, Bool, true, false, List, ◌∷◌, ◌++◌, map, flat_map, codes, if◌then◌else◌, Option, Some, None, option_and_then, All}
+use Rattle.std.specs.Prelude.{◌≡◌, [], ℕ, Bool, true, false, List, ◌∷◌, ◌++◌, map, codes, Option, Some, None, option_and_then, All}
 use Rattle.std.specs.Fmt.{decimal}
 use Rattle.serde_json.specs.Data.{Data}
-use Rattle.ot_file.specs.declared.position.Position.{Position}
+use Rattle.ot_diagnosis.specs.Diagnoses.{Remark, Diagnosis}
+use Rattle.ot_diagnosis.specs.declared.diagnosis.Code.{Code}
+use Rattle.ot_diagnosis.specs.declared.diagnosis.Code.TheVariants.{Answered, Long, Full}
+use Rattle.ot_diagnosis.specs.declared.diagnosis.Place.{Place}
+use Rattle.ot_diagnosis.specs.declared.diagnosis.Severity.TheVariants.{Error}
 use Rattle.ot_reason.specs.Sentences.{sentence_of}
-use Rattle.ot_judge.specs.Judging.{Refusal, told_in, IsPlaced, statement_position}
+use Rattle.ot_judge.specs.Judging.{Refusal, told_in, IsPlaced, statement_place}
 use Rattle.ot_book.specs.Answers.{code_in}
 use Rattle.ot_model.specs.Programs.{Expanded}
 use Rattle.ot_model.specs.Tree.{Body}
@@ -40,11 +44,7 @@ NamesIn (Some book) request stands = NamesBy book request (last_told book) stand
 abbrev pub Names : Refusal → List (Option ℕ) → Type 0
 Names one stands = NamesIn one.book one.request stands
 
--- What is written of a file whose requests were judged: as compilers write it, a line for each refusal, with its notes behind it.
-
--- `NAME:LINE:COLUMN`
-abbrev pub place_text : List ℕ → Position → List ℕ
-place_text name p = name ++ (codes ":" ++ (decimal p.line ++ (codes ":" ++ decimal p.column)))
+-- What is told of a file whose requests were judged: a diagnosis for each refusal, with its notes.
 
 -- a code, and what it means; a full log has none, and a line that is too long
 abbrev pub words_of : Bool → Option ℕ → List ℕ
@@ -52,36 +52,41 @@ words_of true code = codes "long: without its white space the line has more than
 words_of false (Some code) = decimal code ++ (codes ": " ++ sentence_of code)
 words_of false None = codes "full: the log has no room for this request; a checkpoint begins it anew"
 
--- `NAME:LINE:COLUMN: error: CODE: ..`
-abbrev pub error_line : List ℕ → Position → Bool → Option ℕ → List ℕ
-error_line name p long code = place_text name p ++ (codes ": error: " ++ (words_of long code ++ codes "\n"))
+abbrev pub kind_of : Bool → Option ℕ → Code
+kind_of true code = Long
+kind_of false (Some code) = Answered code
+kind_of false None = Full
 
--- a byte of words that stand on one line
-abbrev pub on_line : ℕ → ℕ
-on_line b = if b == 10 then 32 else b
+-- words at a place
+abbrev pub remark : Place → List ℕ → Remark
+remark place words = record { place = Some place; turns = []; message = words }
 
--- `NAME:LINE:COLUMN: note: ..`
-abbrev pub note_line : List ℕ → Position → List ℕ → List ℕ
-note_line name p words = place_text name p ++ (codes ": note: " ++ (map on_line words ++ codes "\n"))
+-- a refusal at this place, with its notes
+abbrev pub refused : Place → Bool → Option ℕ → List Remark → Diagnosis
+refused place long code notes = record { severity = Error; code = kind_of long code; told = remark place (words_of long code); notes = notes }
 
 -- a note stands at the statement of this number, or where the request is refused
-abbrev pub note_position : Option Data → List ℕ → ℕ → ℕ → Position → Option ℕ → Position
-note_position request blank start end p None = p
-note_position request blank start end p (Some number) = statement_position request blank start end number
+abbrev pub note_place : Option Data → List ℕ → ℕ → ℕ → Place → Option ℕ → Place
+note_place request blank start end p None = p
+note_place request blank start end p (Some number) = statement_place request blank start end number
 
 -- notes, each at its statement, with its words
-abbrev pub notes_text : List ℕ → Option Data → List ℕ → ℕ → ℕ → Position → List (Option ℕ × List ℕ) → List ℕ
-notes_text name request blank start end p notes = flat_map (λ note. note_line name (note_position request blank start end p note.0) note.1) notes
+abbrev pub notes_told : Option Data → List ℕ → ℕ → ℕ → Place → List (Option ℕ × List ℕ) → List Remark
+notes_told request blank start end p notes = map (λ note. remark (note_place request blank start end p note.0) note.1) notes
 
 -- the notes behind a refusal that is placed here: they stand at the statements that are named
-pub record AreNotes (name blank : List ℕ) (one : Refusal) (p : Position) (text : List ℕ) : Type 0 where
+pub record AreNotes (blank : List ℕ) (one : Refusal) (p : Place) (told : List Remark) : Type 0 where
   pub notes : List (Option ℕ × List ℕ)
   pub names : Names one (map (λ note. note.0) notes)
-  pub is : text ≡ notes_text name one.request blank one.start one.end p notes
+  pub is : told ≡ notes_told one.request blank one.start one.end p notes
 
--- each refusal where it is placed, by its code, and its notes behind it
-abbrev pub Reports : List ℕ → List ℕ → List Refusal → List ℕ → Type 0
-Reports name blank [] text = text ≡ []
-Reports name blank (one ∷ others) text =
-    (p : Position) × (notes : List ℕ) × (later : List ℕ) × IsPlaced blank one p × AreNotes name blank one p notes
-    × (text ≡ error_line name p one.is_long (option_and_then code_in (told_in one)) ++ (notes ++ later)) × Reports name blank others later
+-- a refusal that is placed here is told by its code, with its notes
+abbrev pub IsTold : List ℕ → Refusal → Place → Diagnosis → Type 0
+IsTold blank one p found =
+    (notes : List Remark) × AreNotes blank one p notes × (found ≡ refused p one.is_long (option_and_then code_in (told_in one)) notes)
+
+-- each refusal where it is placed
+abbrev pub Reports : List ℕ → List Refusal → List Diagnosis → Type 0
+Reports blank [] found = found ≡ []
+Reports blank (one ∷ others) found =
+    (p : Place) × (first : Diagnosis) × (later : List Diagnosis) × IsPlaced blank one p × IsTold blank one p first × (found ≡ first ∷ later) × Reports blank others later

@@ -1,10 +1,10 @@
-//! What is written of a file whose requests were judged, in the form of compilers.
+//! What is told of a file whose requests were judged.
 #![tactic(auto)]
 
-mod line;
 mod note;
 mod notes;
 mod reasons;
 mod reporting;
+mod words;
 
-pub use reporting::{Report, report_on};
+pub use reporting::report_on;

@@ -1,42 +1,46 @@
 //! The notes behind a refusal.
-ghost use Rattle.std.specs.Prelude.{◌≡◌, ◌++◌, ◌≤◌, OnOk, IfOk, length, map, option_and_then, Some, option_map, [], ◌∷◌};
+ghost use Rattle.std.specs.Prelude.{◌≡◌, ◌≤◌, IfOk, length, map, option_and_then, Some, option_map, [], ◌∷◌};
 ghost use Rattle.serde_json.specs.View.{view};
 ghost use Rattle.ot_judge.specs.Judging.{Refusal, IsBehind, IsSeen};
-ghost use Rattle.ot_report.specs.Report.{Names, NamesBy, StandIn, notes_text};
+ghost use Rattle.ot_diagnosis.specs.DiagnosisView.{remark_by};
+ghost use Rattle.ot_report.specs.Report.{Names, NamesBy, StandIn, notes_told};
 ghost use Rattle.ot_report.specs.NoteView.{note_by, stands_of};
 
-use crate::line::put_note;
 use crate::note::Note;
 use crate::reasons::reason_notes;
 use ot_blame::{Blame, Blamed, find_blame};
 use ot_book::{Book, Entry, Told};
 use ot_check::Offence;
+use ot_diagnosis::Remark;
 use ot_judge::{Finding, Findings};
 use ot_reason::{Telling, has_operations, place_in, program_in};
 use serde_json::Value;
 use std::alloc::{AllocError, Global};
 
-/// Writes notes behind a refusal, each at its place.
-pub(crate) fn put_notes(
+/// Notes behind a refusal, each at its place.
+pub(crate) fn placed(
     alloc: Global,
-    name: &str,
     findings: &mut Findings<'_>,
     finding: &Finding,
-    notes: &Vec<Note>,
-    out: &mut Vec<u8>,
-) -> Result<(), AllocError>
+    notes: Vec<Note>,
+) -> Result<Vec<Remark>, AllocError>
     requires { (finding.now.start ≤ finding.now.end) × (finding.now.end ≤ length findings.old.blank) }
-    ensures text { OnOk result (out.new.items ≡ out.old.items ++ notes_text name.now (option_map view finding.now.request) findings.old.blank finding.now.start finding.now.end finding.now.position (map note_by notes.now.items)) }
+    ensures told { IfOk result (λ told. map remark_by told.items ≡ notes_told (option_map view finding.now.request) findings.old.blank finding.now.start finding.now.end finding.now.place (map note_by notes.items)) }
     ensures same { findings.new ≡ findings.old }
 {
+    let mut told = Vec::new(alloc);
     for note in notes {
-        let position = match note.number {
+        let place = match note.number {
             Some(number) => findings.statement(alloc, finding, number)?,
-            None => finding.position,
+            None => finding.place,
         };
-        put_note(alloc, name, position, note.words.as_bytes(), out)?;
+        told.push(Remark {
+            place: Some(place),
+            turns: Vec::new(alloc),
+            message: note.words,
+        })?;
     }
-    Ok(())
+    Ok(told)
 }
 
 /// The notes behind a refusal, which is what the book told last: of an offence the statement, and what it offends against; else

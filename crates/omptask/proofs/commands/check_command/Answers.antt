@@ -1,30 +1,23 @@
 use Rattle.std.proofs.Common.{ap, ap₂, ◌∙◌, ◌||◌}
 use Rattle.std.proofs.lemmas.Result.{IfOk-weaker}
 use Rattle.clap.specs.Words.{App, with_rule}
-use Rattle.clap.specs.Simple.{app_of_fields}
-use Rattle.clap.specs.declared.builder.command.Command.{Command}
-use Rattle.clap.specs.declared.builder.command.Command.TheOpen.{Command-F}
 use Rattle.omptask.specs.Grammar.{check_words}
 use Rattle.omptask.proofs.commands.check_command.Goals as goal
 
--- what the command is about, and its further help, are no part of its words
 pub returns-clause-words : goal.returns-clause-words
 unfolding check_words
 returns-clause-words c =
-    let new = ap app_of_fields c.after_help.ensures ∙ ap app_of_fields c.about.ensures ∙ c.new.ensures.app in
-    let define = c.in_ok-arg.ensures.shape c.define_arg.ensures.own ∙ ap₂ with_rule new c.define_arg.ensures.rule in
-    let lines = c.in_ok-arg-2.ensures.shape c.flag_arg.ensures.own ∙ ap₂ with_rule define c.flag_arg.ensures.rule in
-    let call = c.in_ok-arg-3.ensures.shape c.call_arg.ensures.own ∙ ap₂ with_rule lines c.call_arg.ensures.rule in
+    let format = c.in_ok-arg.ensures.shape c.format_arg.ensures.own ∙ ap₂ with_rule c.in_ok-judging_command.ensures.words c.format_arg.ensures.rule in
+    let quiet = c.in_ok-arg-2.ensures.shape c.flag_arg.ensures.own ∙ ap₂ with_rule format c.flag_arg.ensures.rule in
+    let races = c.in_ok-arg-3.ensures.shape c.flag_arg-2.ensures.own ∙ ap₂ with_rule quiet c.flag_arg-2.ensures.rule in
     IfOk-weaker c.arg-4.result _ _
-    (λ command added. ap (λ (a : App). a.top) (added.shape c.names_arg.ensures.own ∙ ap₂ with_rule call c.names_arg.ensures.rule))
+    (λ command added. ap (λ (a : App). a.top) (added.shape c.names_arg.ensures.own ∙ ap₂ with_rule races c.names_arg.ensures.rule))
     c.arg-4.ensures
 
 -- no argument is global
 pub returns-clause-own : goal.returns-clause-own
 returns-clause-own c =
-    let new = ap (λ (f : Command-F Command). f.has_globals) c.after_help.ensures
-    ∙ ap (λ (f : Command-F Command). f.has_globals) c.about.ensures ∙ c.new.ensures.local in
-    let define = c.in_ok-arg.ensures.globals ∙ ap₂ (λ a b. a || b) new c.define_arg.ensures.own in
-    let lines = c.in_ok-arg-2.ensures.globals ∙ ap₂ (λ a b. a || b) define c.flag_arg.ensures.own in
-    let call = c.in_ok-arg-3.ensures.globals ∙ ap₂ (λ a b. a || b) lines c.call_arg.ensures.own in
-    IfOk-weaker c.arg-4.result _ _ (λ command added. added.globals ∙ ap₂ (λ a b. a || b) call c.names_arg.ensures.own) c.arg-4.ensures
+    let format = c.in_ok-arg.ensures.globals ∙ ap₂ (λ a b. a || b) c.in_ok-judging_command.ensures.own c.format_arg.ensures.own in
+    let quiet = c.in_ok-arg-2.ensures.globals ∙ ap₂ (λ a b. a || b) format c.flag_arg.ensures.own in
+    let races = c.in_ok-arg-3.ensures.globals ∙ ap₂ (λ a b. a || b) quiet c.flag_arg-2.ensures.own in
+    IfOk-weaker c.arg-4.result _ _ (λ command added. added.globals ∙ ap₂ (λ a b. a || b) races c.names_arg.ensures.own) c.arg-4.ensures

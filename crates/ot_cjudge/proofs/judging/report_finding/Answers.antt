@@ -1,6 +1,7 @@
-use Rattle.std.proofs.Common.{refl, sym, subst}
+use Rattle.std.proofs.Common.{map, refl, sym, subst}
 use Rattle.ot_model.specs.View.{stmts_of}
-use Rattle.ot_cjudge.specs.Reports.{ReportsFinding, warning_text, none_in_run}
+use Rattle.ot_diagnosis.specs.DiagnosisView.{diagnosis_by}
+use Rattle.ot_cjudge.specs.Reports.{ReportsFinding, refusals, none_in_run}
 use Rattle.ot_cjudge.specs.declared.report.Verdict.TheVariants.{Clean}
 use Rattle.ot_cjudge.specs.SiteView.{source_by}
 use Rattle.ot_cjudge.proofs.ReportLemmas.{if_both}
@@ -10,30 +11,30 @@ pub returns-in-InRun : goal.returns-in-InRun
 returns-in-InRun c = λ first.
     let s = source_by c.args.source.now in
     let body = stmts_of c.args.program.now.body.items in
-    if_both c.report_race.result _ _ (λ report. ReportsFinding s body c.args.finding report.verdict report.text.items)
-    (λ report v t. subst (λ f. ReportsFinding s body f report.verdict report.text.items) (sym c.in-InRun.is) (v, t))
-    c.report_race.ensures.verdict c.report_race.ensures.text
+    if_both c.report_races.result _ _ (λ report. ReportsFinding s body c.args.finding report.verdict (map diagnosis_by report.found.items))
+    (λ report v t. subst (λ f. ReportsFinding s body f report.verdict (map diagnosis_by report.found.items)) (sym c.in-InRun.is) (v, t))
+    c.report_races.ensures.verdict c.report_races.ensures.found
 
 pub returns-in-OnWay : goal.returns-in-OnWay
 returns-in-OnWay c = λ first.
     let s = source_by c.args.source.now in
     let body = stmts_of c.args.program.now.body.items in
-    if_both c.report_race-in-OnWay.result _ _ (λ report. ReportsFinding s body c.args.finding report.verdict report.text.items)
-    (λ report v t. subst (λ f. ReportsFinding s body f report.verdict report.text.items) (sym c.in-OnWay.is) (v, t))
-    c.report_race-in-OnWay.ensures.verdict c.report_race-in-OnWay.ensures.text
+    if_both c.report_race.result _ _ (λ report. ReportsFinding s body c.args.finding report.verdict (map diagnosis_by report.found.items))
+    (λ report v t. subst (λ f. ReportsFinding s body f report.verdict (map diagnosis_by report.found.items)) (sym c.in-OnWay.is) (v, t))
+    c.report_race.ensures.verdict c.report_race.ensures.found
 
-pub returns-in_ok-text-in-Nowhere : goal.returns-in_ok-text-in-Nowhere
-returns-in_ok-text-in-Nowhere c = λ first.
+pub returns-in_ok-found-in-Nowhere : goal.returns-in_ok-found-in-Nowhere
+returns-in_ok-found-in-Nowhere c = λ first.
     let s = source_by c.args.source.now in
     let body = stmts_of c.args.program.now.body.items in
-    subst (λ f. ReportsFinding s body f Clean c.in_ok-text-in-Nowhere.text.items) (sym c.in-Nowhere.is)
-    (refl, (c.args.first, first, c.in_ok-text-in-Nowhere.ensures))
+    subst (λ f. ReportsFinding s body f Clean (map diagnosis_by c.in_ok-found-in-Nowhere.found.items)) (sym c.in-Nowhere.is)
+    (refl, (c.args.first, first, c.in_ok-found-in-Nowhere.ensures))
 
 pub returns-in-OnlyRun : goal.returns-in-OnlyRun
 returns-in-OnlyRun c = λ first.
     let s = source_by c.args.source.now in
     let body = stmts_of c.args.program.now.body.items in
-    if_both c.report_only_run.result _ _ (λ report. ReportsFinding s body c.args.finding report.verdict report.text.items)
-    (λ report v t. subst (λ f. ReportsFinding s body f report.verdict report.text.items) (sym c.in-OnlyRun.is)
-    (v, warning_text s body none_in_run c.args.first, (c.args.first, first, refl), t))
-    c.report_only_run.ensures.verdict c.report_only_run.ensures.text
+    if_both c.report_only_run.result _ _ (λ report. ReportsFinding s body c.args.finding report.verdict (map diagnosis_by report.found.items))
+    (λ report v t. subst (λ f. ReportsFinding s body f report.verdict (map diagnosis_by report.found.items)) (sym c.in-OnlyRun.is)
+    (v, refusals s body none_in_run c.args.first, (c.args.first, first, refl), t))
+    c.report_only_run.ensures.verdict c.report_only_run.ensures.found

@@ -1,7 +1,8 @@
-use Rattle.std.proofs.Common.{sym, subst}
+use Rattle.std.proofs.Common.{map, sym, subst}
 use Rattle.ot_model.specs.Names.{NamedIn}
 use Rattle.ot_model.specs.View.{stmts_of}
 use Rattle.ot_check.proofs.Cited.{if_ok}
+use Rattle.ot_diagnosis.specs.DiagnosisView.{diagnosis_by}
 use Rattle.ot_cjudge.specs.Reports.{ReportsRun}
 use Rattle.ot_cjudge.specs.SiteView.{source_by}
 use Rattle.ot_cjudge.proofs.FoundLemmas.{body-fits}
@@ -16,6 +17,6 @@ report_finding-requires c = body-fits _ (stmts_of c.args.program.now.body.items)
 pub returns : goal.returns
 returns c =
     let first = c.in_ok-first.ensures in
-    if_ok c.report_finding.result _ (λ report. ReportsRun (source_by c.args.source.now) c.args.cells (stmts_of c.args.program.now.body.items) report.verdict report.text.items)
+    if_ok c.report_finding.result _ (λ report. ReportsRun (source_by c.args.source.now) c.args.cells (stmts_of c.args.program.now.body.items) report.verdict (map diagnosis_by report.found.items))
     (λ report h. (c.in_ok-finding.finding, c.in_ok-finding.ensures first, h))
     (c.report_finding.ensures first)

@@ -1,5 +1,6 @@
-use Rattle.std.proofs.Common.{◌∙◌, subst}
+use Rattle.std.proofs.Common.{◌∙◌, map, subst}
 use Rattle.ot_check.proofs.Cited.{if_ok}
+use Rattle.ot_diagnosis.specs.DiagnosisView.{diagnosis_by}
 use Rattle.ot_file.specs.Comments.{blanked}
 use Rattle.ot_judge.specs.Judging.{refusals_in, finds, Goes}
 use Rattle.ot_report.specs.Report.{Reports}
@@ -11,5 +12,5 @@ returns c =
     let all = refusals_in (finds found.0) (blanked c.args.text.now) in
     let text_is = c.as_slice.ensures.value ∙ c.in_ok-blank.ensures in
     if_ok c.report_all.result _ _
-    (λ report h. (found.0, found.1, subst (λ blank. Reports c.args.name.now blank all report.text.items) (found.2 ∙ text_is) h.0, h.1))
+    (λ told h. (found.0, found.1, subst (λ blank. Reports blank all (map diagnosis_by told.items)) (found.2 ∙ text_is) h))
     (c.report_all.ensures all (subst (λ text. Goes (refusals_in (finds found.0) text) c.in_ok-findings.findings) text_is found.3))

@@ -18,5 +18,5 @@ returns-clause-next c = λ all goes.
       h.2,
       record { start = refl; end = refl; code = c.code.ensures; request = refl; long = refl },
       behind_found found c.next_in.new.book,
-      subst (λ blank. IsPlaced blank (found_as found c.next_in.new.book) c.in_ok-position.position) (ap (λ (s : Standing). s.blank) c.self.view_is) c.in_ok-position.ensures.placed,
+      subst (λ blank. IsPlaced blank (found_as found c.next_in.new.book) c.in_ok-place.place) (ap (λ (s : Standing). s.blank) c.self.view_is) c.in_ok-place.ensures.placed,
     )

@@ -1,0 +1,13 @@
+//! Tests of the machine. It has nothing but tests.
+#![tactic(auto)]
+
+#[cfg(test)]
+mod codes;
+#[cfg(test)]
+mod costs;
+#[cfg(test)]
+mod numbers;
+#[cfg(test)]
+mod runs;
+#[cfg(test)]
+mod telling;

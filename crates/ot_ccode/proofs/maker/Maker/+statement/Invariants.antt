@@ -1,0 +1,44 @@
+use Rattle.ot_ccode.proofs.maker.Maker.+statement.Given as goal
+
+-- each call goes one deeper
+abbrev pub decreases-statement : goal.decreases-statement
+decreases-statement l = l.depth
+
+abbrev pub decreases-block : goal.decreases-block
+decreases-block l = l.depth
+
+abbrev pub decreases-decides : goal.decreases-decides
+decreases-decides l = l.depth
+
+abbrev pub decreases-within : goal.decreases-within
+decreases-within l = l.depth
+
+abbrev pub decreases-turn : goal.decreases-turn
+decreases-turn l = l.depth
+
+abbrev pub decreases-loops : goal.decreases-loops
+decreases-loops l = l.depth
+
+abbrev pub decreases-counts : goal.decreases-counts
+decreases-counts l = l.depth
+
+abbrev pub decreases-switches : goal.decreases-switches
+decreases-switches l = l.depth
+
+abbrev pub decreases-labelled : goal.decreases-labelled
+decreases-labelled l = l.depth
+
+abbrev pub decreases-construct : goal.decreases-construct
+decreases-construct l = l.depth
+
+abbrev pub decreases-region : goal.decreases-region
+decreases-region l = l.depth
+
+abbrev pub decreases-parallel : goal.decreases-parallel
+decreases-parallel l = l.depth
+
+abbrev pub decreases-task : goal.decreases-task
+decreases-task l = l.depth
+
+abbrev pub decreases-taskloop : goal.decreases-taskloop
+decreases-taskloop l = l.depth

@@ -1,0 +1,322 @@
+//! Clauses.
+use crate::fault::{Fault, Why};
+use crate::maker::{ALONE, Aim, FINAL, Held, Maker, WORD};
+use crate::value::DEEPEST;
+use ot_clayout::{Class, Sort};
+use ot_code::{Folded, Form, Item, Operation};
+use ot_ctree::{Clause, Dependence, Directive, Expr, Integer, Iterator, Reducing, Role};
+use ot_model::{Fold, Mode};
+
+/// How many items an iterator makes at most.
+const MOST_TURNS: u64 = 64;
+
+/// A cell, or some, by which a task takes part in a reduction: the place among what it takes along.
+#[derive(Clone, Copy)]
+pub(crate) struct Joined {
+    pub(crate) fold: Fold,
+    pub(crate) slot: u32,
+    pub(crate) cells: u32,
+}
+
+pub(crate) fn fold_of(reducing: Reducing) -> Fold {
+    match reducing {
+        Reducing::Plus => Fold::Plus,
+        Reducing::Times => Fold::Times,
+        Reducing::And | Reducing::Both => Fold::And,
+        Reducing::Or | Reducing::Either => Fold::Or,
+        Reducing::Xor => Fold::Xor,
+        Reducing::Min => Fold::Min,
+        Reducing::Max => Fold::Max,
+    }
+}
+
+fn mode_of(at: u32, dependence: Dependence) -> Result<Mode, Fault> {
+    match dependence {
+        Dependence::In => Ok(Mode::Reads),
+        Dependence::Out | Dependence::Inout => Ok(Mode::Writes),
+        // mutexinoutset and inoutset come here
+        other => Err(Fault::Refused(at, Why::Dependence(other))),
+    }
+}
+
+pub(crate) fn has(clauses: &[Clause], role: Role) -> bool {
+    for clause in clauses {
+        if clause.role == role {
+            return true;
+        }
+    }
+    false
+}
+
+/// The value of the clause with this role.
+pub(crate) fn value_of(clauses: &[Clause], role: Role) -> Option<&Expr> {
+    for clause in clauses {
+        if clause.role == role {
+            return clause.items.first();
+        }
+    }
+    None
+}
+
+/// The condition of the `if` clause that is for this directive.
+pub(crate) fn condition_of(clauses: &[Clause], directive: Directive) -> Option<&Expr> {
+    for clause in clauses {
+        if let Role::If(of) = clause.role
+            && of.unwrap_or(directive) == directive
+        {
+            return clause.items.first();
+        }
+    }
+    None
+}
+
+impl<'a> Maker<'a> {
+    /// The slot that says whether a task of this directive may be deferred: not where its condition is 0, in a final task, or where a
+    /// team has one thread, which executes its tasks one after another.
+    pub(crate) fn deferral(
+        &mut self,
+        at: u32,
+        clauses: &[Clause],
+        directive: Directive,
+    ) -> Result<Option<u32>, Fault> {
+        let condition = match condition_of(clauses, directive) {
+            Some(condition) => {
+                let value = self.expression(DEEPEST, condition)?;
+                let slot = self.test(at, value)?;
+                Some(self.truth(slot)?)
+            }
+            None => None,
+        };
+        let alone = self.flag(at, ALONE)?;
+        let kept = if self.has_final {
+            let flag = self.flag(at, FINAL)?;
+            self.operate(Operation::Or, WORD, alone, flag)?
+        } else {
+            alone
+        };
+        let free = self.is_zero(kept)?;
+        match condition {
+            Some(condition) => Ok(Some(self.operate(Operation::And, WORD, condition, free)?)),
+            None => Ok(Some(free)),
+        }
+    }
+
+    /// The slot that says whether tasks within are final, where the clause stands here.
+    pub(crate) fn finality(&mut self, at: u32, clauses: &[Clause]) -> Result<Option<u32>, Fault> {
+        let Some(condition) = value_of(clauses, Role::Final) else {
+            return Ok(None);
+        };
+        let value = self.expression(DEEPEST, condition)?;
+        let slot = self.test(at, value)?;
+        let slot = self.truth(slot)?;
+        let flag = self.flag(at, FINAL)?;
+        Ok(Some(self.operate(Operation::Or, WORD, flag, slot)?))
+    }
+
+    /// What says nothing of order is evaluated.
+    pub(crate) fn evaluates(&mut self, clauses: &[Clause]) -> Result<(), Fault> {
+        if let Some(value) = value_of(clauses, Role::Priority) {
+            self.expression(DEEPEST, value)?;
+        }
+        Ok(())
+    }
+
+    /// Where an item begins, and what lies there.
+    pub(crate) fn item_place(&mut self, depth: u32, item: &Expr) -> Result<Aim, Fault> {
+        if depth == 0 {
+            return Err(Fault::Refused(0, Why::Nesting));
+        }
+        match item {
+            Expr::Section(at, one, start, _) => {
+                let base = self.item_place(depth - 1, one)?;
+                let pointer = self.load(base)?;
+                let index = match start {
+                    Some(start) => {
+                        self.converted(DEEPEST, start, Sort::integer(Integer::Long))?
+                            .slot
+                    }
+                    None => self.number(0)?,
+                };
+                let place = self.stepped(*at, pointer, index)?;
+                self.followed(base.site, place)
+            }
+            Expr::Index(_, one, index) => {
+                let base = self.item_place(depth - 1, one)?;
+                let pointer = self.load(base)?;
+                let index = self.expression(DEEPEST, index)?;
+                self.element(base.site, pointer, index)
+            }
+            other => self.aim(DEEPEST, other),
+        }
+    }
+
+    /// How many cells an item has.
+    fn item_cells(&mut self, at: u32, item: &Expr, aim: Aim) -> Result<u32, Fault> {
+        let extent = self.extent(at, aim.sort)?;
+        let Expr::Section(_, _, _, length) = item else {
+            return Ok(extent.cells);
+        };
+        let Some(length) = length else {
+            return Err(Fault::Refused(at, Why::Clause));
+        };
+        let Some(constant) = self.layouts.constant(self.unit, length) else {
+            return Err(Fault::Refused(at, Why::Clause));
+        };
+        match extent.times(constant.number) {
+            Some(all) => Ok(all.cells),
+            None => Err(Fault::Refused(at, Why::Clause)),
+        }
+    }
+
+    /// The items of `depend` clauses.
+    pub(crate) fn dependences(&mut self, clauses: &[Clause]) -> Result<(), Fault> {
+        for clause in clauses {
+            if let Role::Depend(dependence) = clause.role {
+                let mode = mode_of(clause.at, dependence)?;
+                match clause.iterators.as_slice() {
+                    [] => self.dependence(mode, clause.items.as_slice())?,
+                    [iterator] => self.iterated(
+                        clause.at,
+                        mode,
+                        iterator,
+                        clause.items.as_slice(),
+                    )?,
+                    _ => return Err(Fault::Refused(clause.at, Why::Iterator)),
+                }
+            }
+        }
+        Ok(())
+    }
+
+    fn dependence(&mut self, mode: Mode, items: &[Expr]) -> Result<(), Fault> {
+        for item in items {
+            if self.is_empty(item) {
+                continue;
+            }
+            let place = self.item_place(64, item)?;
+            self.items.push(Item {
+                mode,
+                slot: place.slot,
+            })?;
+        }
+        Ok(())
+    }
+
+    /// Whether it is a section of no length.
+    fn is_empty(&mut self, item: &Expr) -> bool {
+        match item {
+            Expr::Section(_, _, _, Some(length)) => {
+                match self.layouts.constant(self.unit, length) {
+                    Some(length) => length.number == 0,
+                    None => false,
+                }
+            }
+            _ => false,
+        }
+    }
+
+    /// An iterator whose range is constant: its items are written out.
+    fn iterated(
+        &mut self,
+        at: u32,
+        mode: Mode,
+        iterator: &Iterator,
+        items: &[Expr],
+    ) -> Result<(), Fault> {
+        let start = self.layouts.constant(self.unit, &iterator.start);
+        let end = self.layouts.constant(self.unit, &iterator.end);
+        let (Some(start), Some(end), true) = (start, end, iterator.step.is_none()) else {
+            return Err(Fault::Refused(at, Why::Iterator));
+        };
+        let (Some(start), Some(end)) = (start.count(), end.count()) else {
+            return Err(Fault::Refused(at, Why::Iterator));
+        };
+        if end.saturating_sub(start) > MOST_TURNS {
+            return Err(Fault::Refused(at, Why::Iterator));
+        }
+        let base = self.was.len();
+        for number in start..end {
+            let slot = self.number(number)?;
+            self.hold_for_now(iterator.variable, Held::Slot(slot))?;
+            self.dependence(mode, items)?;
+        }
+        self.restore(base);
+        Ok(())
+    }
+
+    /// The items of a region's reductions.
+    pub(crate) fn folds(&mut self, clauses: &[Clause], of_group: bool) -> Result<(), Fault> {
+        for clause in clauses {
+            let reducing = match (clause.role, of_group) {
+                (Role::TaskReduction(reducing), true) => Some(reducing),
+                (Role::Reduction(reducing), false) => Some(reducing),
+                _ => None,
+            };
+            if let Some(reducing) = reducing {
+                self.folds_by(clause.at, fold_of(reducing), clause.items.as_slice())?;
+            }
+        }
+        Ok(())
+    }
+
+    fn folds_by(&mut self, at: u32, fold: Fold, items: &[Expr]) -> Result<(), Fault> {
+        for item in items {
+            let aim = self.item_place(64, item)?;
+            let cells = self.item_cells(at, item, aim)?;
+            self.folded.push(Folded {
+                fold,
+                slot: aim.slot,
+                cells,
+            })?;
+        }
+        Ok(())
+    }
+
+    /// By what a task takes part in reductions: it takes their places along.
+    pub(crate) fn joins(&mut self, clauses: &[Clause], base: usize) -> Result<(), Fault> {
+        for clause in clauses {
+            let reducing = match clause.role {
+                Role::InReduction(reducing) | Role::Reduction(reducing) => Some(reducing),
+                _ => None,
+            };
+            if let Some(reducing) = reducing {
+                self.joins_by(clause.at, fold_of(reducing), clause.items.as_slice(), base)?;
+            }
+        }
+        Ok(())
+    }
+
+    fn joins_by(&mut self, at: u32, fold: Fold, items: &[Expr], base: usize) -> Result<(), Fault> {
+        for item in items {
+            let aim = self.item_place(64, item)?;
+            let cells = self.item_cells(at, item, aim)?;
+            let slot = self.passes(aim.slot, base)?;
+            self.joined.push(Joined { fold, slot, cells })?;
+        }
+        Ok(())
+    }
+
+    /// The task takes part by each of these cells.
+    pub(crate) fn takes_part(&mut self, at: u32, joined: Joined) -> Result<(), Fault> {
+        let mark = self.frame.next;
+        if joined.cells <= 4 {
+            for cell in 0..joined.cells {
+                let slot = self.moved(joined.slot, cell)?;
+                self.emit(Form::Joins(at, joined.fold, slot))?;
+            }
+        } else {
+            let count = self.number(u64::from(joined.cells))?;
+            let (index, start, out) = self.begins_count(at, count)?;
+            let slot = self.advance(joined.slot, index, 1)?;
+            self.emit(Form::Joins(at, joined.fold, slot))?;
+            self.ends_count(index, start, out)?;
+        }
+        self.frame.next = mark;
+        Ok(())
+    }
+
+    /// Whether a value is a pointer.
+    pub(crate) fn is_pointer(&self, sort: Sort) -> bool {
+        matches!(self.class(sort), Class::Pointer)
+    }
+}

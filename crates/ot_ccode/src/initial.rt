@@ -1,0 +1,262 @@
+//! Initial values (ISO C11, section 6.7.9).
+use crate::fault::{Fault, Why};
+use crate::maker::{Aim, Maker, Way, below};
+use crate::value::DEEPEST;
+use ot_clayout::{Class, Sort, type_of};
+use ot_code::Form;
+use ot_ctree::{Designator, Entry, Expr, Initial};
+
+/// Where an initial value goes: so many cells behind a place.
+#[derive(Clone, Copy)]
+struct Spot {
+    aim: Aim,
+    start: u32,
+    sort: Sort,
+}
+
+impl<'a> Maker<'a> {
+    /// To this place its initial value.
+    pub(crate) fn initial(&mut self, depth: u32, aim: Aim, initial: &Initial) -> Result<(), Fault> {
+        let spot = Spot {
+            aim,
+            start: 0,
+            sort: aim.sort,
+        };
+        self.fills_spot(depth, spot, initial)
+    }
+
+    /// One value to a spot.
+    fn puts(&mut self, spot: Spot, expr: &Expr) -> Result<(), Fault> {
+        let mark = self.frame.next;
+        let value = self.converted(DEEPEST, expr, spot.sort)?;
+        let slot = if spot.aim.way == Way::Slot {
+            spot.aim.slot
+        } else {
+            self.moved(spot.aim.slot, spot.start)?
+        };
+        let aim = Aim {
+            slot,
+            sort: spot.sort,
+            ..spot.aim
+        };
+        self.store(aim, value)?;
+        self.frame.next = mark;
+        Ok(())
+    }
+
+    /// A string to an array: nothing is known of its characters.
+    fn puts_text(&mut self, spot: Spot) -> Result<(), Fault> {
+        let mark = self.frame.next;
+        let extent = self.extent(spot.aim.site, spot.sort)?;
+        let slot = self.moved(spot.aim.slot, spot.start)?;
+        let count = self.number(u64::from(extent.cells))?;
+        if spot.aim.way == Way::Cell {
+            self.emit(Form::WriteRange(spot.aim.site, slot, count))?;
+        } else {
+            let unknown = self.unknown()?;
+            let (index, start, out) = self.begins_count(spot.aim.site, count)?;
+            let cell = self.advance(slot, index, 1)?;
+            self.store_scalar(
+                Aim {
+                    slot: cell,
+                    ..spot.aim
+                },
+                unknown,
+            )?;
+            self.ends_count(index, start, out)?;
+        }
+        self.frame.next = mark;
+        Ok(())
+    }
+
+    fn is_whole(&self, sort: Sort) -> bool {
+        matches!(self.class(sort), Class::Array(_) | Class::Record(_))
+    }
+
+    /// Whether a value stands for all of what lies there.
+    fn is_for_all(&self, sort: Sort, value: &Initial) -> bool {
+        match (value, self.class(sort)) {
+            (Initial::List(_, _), _) => true,
+            (Initial::Value(Expr::Text(_, _)), Class::Array(_)) => true,
+            (Initial::Value(expr), Class::Record(_)) => {
+                match type_of(&self.layouts, self.unit, DEEPEST, expr) {
+                    Some(found) => matches!(self.class(found), Class::Record(_)),
+                    None => false,
+                }
+            }
+            (Initial::Value(_), Class::Array(_)) => false,
+            _ => true,
+        }
+    }
+
+    /// The element or member of this number.
+    fn part(&self, spot: Spot, number: usize) -> Option<Spot> {
+        match self.class(spot.sort) {
+            Class::Array(element) => {
+                let sort = Sort::of(self.unit, element);
+                let (Some(all), Some(one)) = (
+                    self.layouts.extent(self.unit, spot.sort),
+                    self.layouts.extent(self.unit, sort),
+                ) else {
+                    return None;
+                };
+                let number = u32::try_from(number).ok()?;
+                let start = one.cells.checked_mul(number)?;
+                if start >= all.cells {
+                    return None;
+                }
+                Some(Spot {
+                    start: spot.start.checked_add(start)?,
+                    sort,
+                    aim: spot.aim,
+                })
+            }
+            Class::Record(record) => {
+                let place = self.layouts.nth(self.unit, record, number)?;
+                Some(Spot {
+                    start: spot.start.checked_add(place.start)?,
+                    sort: place.sort,
+                    aim: spot.aim,
+                })
+            }
+            _ => None,
+        }
+    }
+
+    /// The number of the element or member that is designated.
+    fn designated(&mut self, at: u32, sort: Sort, to: &Designator) -> Result<usize, Fault> {
+        let found = match (to, self.class(sort)) {
+            (Designator::Element(index), Class::Array(_)) => {
+                match self.layouts.constant(self.unit, index) {
+                    Some(index) => usize::try_from(index.number).ok(),
+                    None => None,
+                }
+            }
+            (Designator::Member(name), Class::Record(record)) => {
+                self.layouts.position(self.unit, record, *name)
+            }
+            _ => None,
+        };
+        match found {
+            Some(found) => Ok(found),
+            None => Err(Fault::Refused(at, Why::Initial)),
+        }
+    }
+
+    /// The spot that is designated, behind the first designator.
+    fn designated_in(&mut self, at: u32, spot: Spot, path: &[Designator]) -> Result<Spot, Fault> {
+        let mut spot = spot;
+        for to in path {
+            let number = self.designated(at, spot.sort, to)?;
+            let Some(part) = self.part(spot, number) else {
+                return Err(Fault::Refused(at, Why::Initial));
+            };
+            spot = part;
+        }
+        Ok(spot)
+    }
+
+    #[cycle(initial)]
+    fn fills_spot(&mut self, depth: u32, spot: Spot, initial: &Initial) -> Result<(), Fault> {
+        let at = spot.aim.site;
+        let depth = below(depth, at)?;
+        match initial {
+            Initial::Value(Expr::Text(_, _)) if self.is_whole(spot.sort) => self.puts_text(spot),
+            Initial::Value(value) => self.puts(spot, value),
+            Initial::List(_, entries) => {
+                if self.is_whole(spot.sort) {
+                    if let [entry] = entries.as_slice()
+                        && let Initial::Value(Expr::Text(_, _)) = &entry.value
+                        && !matches!(self.class(spot.sort), Class::Record(_))
+                    {
+                        return self.puts_text(spot);
+                    }
+                    self.fills(depth, spot, entries.as_slice(), 0, true)?;
+                    return Ok(());
+                }
+                match entries.first() {
+                    Some(entry) => self.fills_spot(depth, spot, &entry.value),
+                    None => Ok(()),
+                }
+            }
+        }
+    }
+
+    /// Entries from this one on fill the parts of what lies there, in turn: the number of the next entry.
+    #[cycle(initial)]
+    fn fills(
+        &mut self,
+        depth: u32,
+        spot: Spot,
+        entries: &[Entry],
+        from: usize,
+        is_top: bool,
+    ) -> Result<usize, Fault> {
+        let at = spot.aim.site;
+        let less = below(depth, at)?;
+        let mut next = from;
+        let mut number = 0usize;
+        for _turn in from..entries.len() {
+            let Some(entry) = entries.get(next) else {
+                return Ok(next);
+            };
+            let is_designated = !entry.path.is_empty() && (is_top || next > from);
+            if is_designated && !is_top {
+                return Ok(next);
+            }
+            let mut part = None;
+            if is_designated && let Some((first, rest)) = entry.path.split_first() {
+                number = self.designated(at, spot.sort, first)?;
+                if let Some(begun) = self.part(spot, number)
+                    && !rest.is_empty()
+                {
+                    part = Some(self.designated_in(at, begun, rest)?);
+                }
+            }
+            if let Some(part) = part {
+                self.fills_spot(less, part, &entry.value)?;
+                next = next.saturating_add(1);
+            } else {
+                let Some(part) = self.part(spot, number) else {
+                    return Ok(next);
+                };
+                next = self.fills_part(less, part, entries, next)?;
+            }
+            number = number.saturating_add(1);
+            if self.is_union(spot.sort) {
+                return Ok(next);
+            }
+        }
+        Ok(next)
+    }
+
+    fn is_union(&self, sort: Sort) -> bool {
+        match self.class(sort) {
+            Class::Record(record) => match self.unit.records.get(record as usize) {
+                Some(record) => record.is_union,
+                None => false,
+            },
+            _ => false,
+        }
+    }
+
+    /// One part: by the entry, or where that is for a part of it by this and those behind.
+    #[cycle(initial)]
+    fn fills_part(
+        &mut self,
+        depth: u32,
+        spot: Spot,
+        entries: &[Entry],
+        next: usize,
+    ) -> Result<usize, Fault> {
+        let depth = below(depth, spot.aim.site)?;
+        let Some(entry) = entries.get(next) else {
+            return Ok(next);
+        };
+        if self.is_for_all(spot.sort, &entry.value) {
+            self.fills_spot(depth, spot, &entry.value)?;
+            return Ok(next.saturating_add(1));
+        }
+        self.fills(depth, spot, entries, next, false)
+    }
+}

@@ -1,0 +1,23 @@
+//! The machine's code of a text of C with OpenMP.
+#![tactic(auto)]
+
+mod at;
+mod call;
+mod clauses;
+mod construct;
+mod fault;
+mod initial;
+mod library;
+mod maker;
+mod names;
+mod operate;
+mod size;
+mod statement;
+mod task;
+mod turns;
+mod value;
+mod whole;
+
+pub use fault::{Fault, Why};
+pub use names::{Known, meaning_of};
+pub use whole::{Translated, translate};

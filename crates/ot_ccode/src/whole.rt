@@ -1,0 +1,346 @@
+//! A whole unit.
+use crate::fault::{Fault, Why};
+use crate::maker::{ALONE, Aim, Around, Frame, Held, Maker, Way};
+use crate::names::Known;
+use crate::statement::is_automatic;
+use crate::value::DEEPEST;
+use ot_clayout::{Class, Layouts, Sort};
+use ot_code::{Code, Form, Function};
+use ot_csharing::Sharing;
+use ot_ctree::{Initial, Stmt, Storage, Unit, Variable};
+use std::alloc::Global;
+
+/// The code of a unit.
+#[derive(Drop)]
+pub struct Translated {
+    pub code: Code,
+    /// By form: the token at which stands what it is made of.
+    pub sites: Vec<u32>,
+    /// The objects that live as long as the program: the numbers of their variables, in the order in which they begin.
+    pub globals: Vec<u32>,
+    /// The names of functions that are called as if they touched nothing.
+    pub untouched: Vec<u32>,
+    /// The function that begins, and whether it isn't `main`, but called by one task.
+    pub entry: u32,
+    pub is_alone: bool,
+    /// Whether random numbers of its own are drawn.
+    pub is_random: bool,
+}
+
+/// Whether a variable has an object that begins with the program.
+fn is_global(variable: &Variable) -> bool {
+    !is_automatic(variable)
+}
+
+impl<'a> Maker<'a> {
+    fn empty(
+        alloc: Global,
+        unit: &'a Unit,
+        known: &'a [Option<Known>],
+        sharing: &'a Sharing,
+        layouts: Layouts,
+    ) -> Result<Maker<'a>, Fault> {
+        let held = vec![in alloc; Held::Nowhere; unit.variables.len()]?;
+        let stamps = vec![in alloc; 0u32; unit.variables.len()]?;
+        let sizes = vec![in alloc; None; unit.types.len()]?;
+        let functions = vec![in alloc; Function { start: 0, slots: 1 }; unit.functions.len()]?;
+        let is_untouched = vec![in alloc; false; known.len()]?;
+        Ok(Maker {
+            alloc,
+            unit,
+            known,
+            sharing,
+            layouts,
+            forms: Vec::new(alloc),
+            functions,
+            held,
+            stamps,
+            stamp: 0,
+            sizes,
+            frame: EMPTY,
+            live: Vec::new(alloc),
+            around: Around::NOTHING,
+            breaks: Vec::new(alloc),
+            continues: Vec::new(alloc),
+            cases: Vec::new(alloc),
+            arguments: Vec::new(alloc),
+            items: Vec::new(alloc),
+            taken: Vec::new(alloc),
+            was: Vec::new(alloc),
+            passed: Vec::new(alloc),
+            joined: Vec::new(alloc),
+            sizes_taken: Vec::new(alloc),
+            folded: Vec::new(alloc),
+            lasts: Vec::new(alloc),
+            nested: Vec::new(alloc),
+            site: 0,
+            sites: Vec::new(alloc),
+            wanted: None,
+            gives: Sort::VOID,
+            repeats: false,
+            flags: 0,
+            seed: 0,
+            has_final: false,
+            is_untouched,
+            untouched: Vec::new(alloc),
+            is_random: false,
+        })
+    }
+
+    /// The objects of variables that live as long as the program begin, each with its number.
+    fn globals(&mut self) -> Result<Vec<u32>, Fault> {
+        let mut globals = Vec::new(self.alloc);
+        let unit = self.unit;
+        let mut number = 0u32;
+        let slot = self.fresh()?;
+        for variable in unit.variables.iter() {
+            if is_global(variable) {
+                self.global(number, variable, globals.len(), slot)?;
+                globals.push(number)?;
+            }
+            number = number.saturating_add(1);
+        }
+        self.flags = self.hidden(globals.len(), 2, slot)?;
+        self.seed = self.hidden(globals.len().saturating_add(1), 1, slot)?;
+        Ok(globals)
+    }
+
+    fn global(
+        &mut self,
+        number: u32,
+        variable: &Variable,
+        object: usize,
+        slot: u32,
+    ) -> Result<(), Fault> {
+        let at = variable.at;
+        self.site = at;
+        if variable.storage == Storage::Threadprivate {
+            return Err(Fault::Refused(at, Why::Threadprivate));
+        }
+        if variable.is_atomic {
+            return Err(Fault::Refused(at, Why::Atomic));
+        }
+        if let Some(initial) = &variable.initial {
+            self.layouts.complete(self.unit, number, initial);
+        }
+        let sort = self.sort_of(number);
+        let cells = match self.layouts.extent(self.unit, sort) {
+            Some(extent) => extent.cells,
+            None => match variable.storage {
+                Storage::Extern => 0,
+                _ => return Err(Fault::Refused(at, Why::Incomplete)),
+            },
+        };
+        let Ok(object) = u32::try_from(object) else {
+            return Err(Fault::Refused(at, Why::Length));
+        };
+        self.hold(number, Held::Object(object));
+        let zero = variable.storage != Storage::Extern;
+        self.emit(Form::Begin(slot, cells, number, zero))?;
+        Ok(())
+    }
+
+    /// An object that no variable names.
+    fn hidden(&mut self, object: usize, cells: u32, slot: u32) -> Result<u32, Fault> {
+        let name = self.name_at(0);
+        self.emit(Form::Begin(slot, cells, name, true))?;
+        match u32::try_from(object) {
+            Ok(object) => Ok(object),
+            Err(_) => Err(Fault::Refused(0, Why::Length)),
+        }
+    }
+
+    /// Their initial values.
+    fn starts(&mut self) -> Result<(), Fault> {
+        let unit = self.unit;
+        let mark = self.frame.next;
+        let mut number = 0u32;
+        for variable in unit.variables.iter() {
+            if is_global(variable)
+                && let Some(initial) = &variable.initial
+            {
+                self.start(number, variable.at, initial)?;
+                self.frame.next = mark;
+            }
+            number = number.saturating_add(1);
+        }
+        Ok(())
+    }
+
+    fn start(&mut self, variable: u32, at: u32, initial: &Initial) -> Result<(), Fault> {
+        let aim = self.aim_variable(at, variable)?;
+        self.initial(
+            DEEPEST,
+            Aim {
+                way: Way::Own,
+                ..aim
+            },
+            initial,
+        )
+    }
+
+    /// The run: objects begin, and a function is called.
+    fn run(&mut self, entry: u32, in_team: bool) -> Result<(Vec<u32>, u32), Fault> {
+        let globals = self.globals()?;
+        let seed = self.seed;
+        let place = self.fresh()?;
+        self.emit(Form::Address(place, seed, 0))?;
+        let one = self.number(1)?;
+        self.emit(Form::StoreOwn(0, place, one))?;
+        if !in_team {
+            self.set_flag(0, ALONE, one)?;
+        }
+        self.starts()?;
+        let first = self.frame.next;
+        let parameters = match self.unit.functions.get(entry as usize) {
+            Some(function) => function.parameters.len(),
+            None => 0,
+        };
+        for _parameter in 0..parameters {
+            self.unknown()?;
+        }
+        if parameters == 0 {
+            self.unknown()?;
+        }
+        let at = match self.unit.functions.get(entry as usize) {
+            Some(function) => function.at,
+            None => 0,
+        };
+        self.site = at;
+        self.emit(Form::Call(at, entry, first))?;
+        self.emit(Form::Stop)?;
+        Ok((globals, self.frame.most))
+    }
+
+    fn functions(&mut self) -> Result<(), Fault> {
+        let unit = self.unit;
+        let mut number = 0usize;
+        for function in unit.functions.iter() {
+            self.site = function.at;
+            self.frame = EMPTY;
+            let start = self.here()?;
+            match &function.body {
+                Some(body) => self.body(function, body)?,
+                None => {
+                    let slot = self.unknown()?;
+                    let _ = slot;
+                    self.emit(Form::Return)?;
+                }
+            }
+            let slots = self.frame.most.max(1);
+            if let Some(place) = self.functions.get_mut(number) {
+                *place = Function { start, slots };
+            }
+            number = number.saturating_add(1);
+        }
+        Ok(())
+    }
+
+    fn body(&mut self, function: &ot_ctree::Function, body: &Stmt) -> Result<(), Fault> {
+        let gives = Sort::of(self.unit, function.kind).given(self.unit);
+        self.gives = gives.unwrap_or(Sort::INT);
+        self.frame.returns = true;
+        self.frame.floor = self.live.len();
+        let floor = self.frame.floor;
+        for _parameter in function.parameters.iter() {
+            self.fresh()?;
+        }
+        let mut slot = 0u32;
+        for parameter in function.parameters.iter() {
+            self.begins_parameter(function.at, *parameter, slot)?;
+            slot = slot.saturating_add(1);
+        }
+        for parameter in function.parameters.iter() {
+            let sort = self.sort_of(*parameter);
+            self.measure(16, function.at, sort)?;
+        }
+        self.statement(DEEPEST, body)?;
+        self.end_since(function.at, floor)?;
+        self.emit(Form::Return)?;
+        Ok(())
+    }
+
+    /// A parameter, whose value is in this slot.
+    fn begins_parameter(&mut self, at: u32, variable: u32, value: u32) -> Result<(), Fault> {
+        if !self.sharing.is_object(variable) {
+            self.hold(variable, Held::Slot(value));
+            return Ok(());
+        }
+        let sort = self.sort_of(variable);
+        let slot = self.begin(at, variable, false)?;
+        let to = Aim {
+            slot,
+            sort,
+            way: Way::Own,
+            site: at,
+            lends: false,
+        };
+        match self.class(sort) {
+            Class::Record(_) => {
+                let from = crate::maker::Val {
+                    slot: value,
+                    sort,
+                    own: false,
+                };
+                let extent = self.extent(at, sort)?;
+                self.copy_cells(to, from, extent.cells)?;
+            }
+            _ => self.store_scalar(to, value)?,
+        }
+        self.hold(variable, Held::Place(slot));
+        Ok(())
+    }
+}
+
+const EMPTY: Frame = Frame {
+    next: 0,
+    most: 1,
+    floor: 0,
+    returns: false,
+};
+
+/// The function that begins: `main`, or the only one that has constructs and that no other calls.
+fn entry_of(unit: &Unit, known: &[Option<Known>]) -> Option<(u32, bool)> {
+    let mut number = 0u32;
+    for function in unit.functions.iter() {
+        if function.body.is_some() && is_main(known, function.name) {
+            return Some((number, false));
+        }
+        number = number.saturating_add(1);
+    }
+    None
+}
+
+fn is_main(known: &[Option<Known>], name: u32) -> bool {
+    matches!(known.get(name as usize), Some(Some(Known::Main)))
+}
+
+/// The code of a unit, of which each name means this.
+pub fn translate(alloc: Global, unit: &Unit, known: &[Option<Known>]) -> Result<Translated, Fault> {
+    let mut layouts = Layouts::of(alloc, unit)?;
+    let sharing = Sharing::of(alloc, unit, &mut layouts)?;
+    let (entry, is_alone) = match entry_of(unit, known) {
+        Some(entry) => entry,
+        None => match sharing.alone() {
+            Some(entry) => (entry, true),
+            None => return Err(Fault::Refused(0, Why::NoEntry)),
+        },
+    };
+    let mut maker = Maker::empty(alloc, unit, known, &sharing, layouts)?;
+    maker.has_final = sharing.has_final;
+    let (globals, slots) = maker.run(entry, is_alone)?;
+    maker.functions()?;
+    Ok(Translated {
+        code: Code {
+            forms: maker.forms,
+            slots,
+            functions: maker.functions,
+        },
+        sites: maker.sites,
+        globals,
+        untouched: maker.untouched,
+        entry,
+        is_alone,
+        is_random: maker.is_random,
+    })
+}

@@ -1,0 +1,335 @@
+//! The same code with less that is known: what a branch or an index reads from memory isn't known any more. So its ways are those of the
+//! run with any numbers in memory, for the lengths and the turns of loops that it has. Branches whose bodies create nothing are joined.
+use crate::forget::{given_by, marks_of, spare_of};
+use crate::region::{Region, Regions, regions_of};
+use ot_code::{Code, Form, Function};
+use std::alloc::{AllocError, Global};
+use std::collections::BTreeSet;
+
+/// Code, and by form the token at which stands what it is made of.
+#[derive(Drop)]
+pub(crate) struct Placed {
+    pub code: Code,
+    pub sites: Vec<u32>,
+}
+
+/// What is asked of a form.
+#[derive(Drop)]
+struct Plan {
+    marks: Vec<bool>,
+    regions: Regions,
+    /// By form, whether a region begins there, and whether it is the jump that ends a first body: the other body comes next.
+    begins: Vec<bool>,
+    skips: Vec<bool>,
+    spare: u32,
+}
+
+impl Plan {
+    fn is_marked(&self, at: usize) -> bool {
+        matches!(self.marks.get(at), Some(true))
+    }
+
+    fn is_joined(&self, at: usize) -> bool {
+        match self.regions.depths.get(at) {
+            Some(depth) => *depth > 0,
+            None => false,
+        }
+    }
+
+    fn begins(&self, at: usize) -> bool {
+        matches!(self.begins.get(at), Some(true))
+    }
+
+    fn skips(&self, at: usize) -> bool {
+        matches!(self.skips.get(at), Some(true))
+    }
+}
+
+/// What is made.
+#[derive(Drop)]
+struct Made {
+    forms: Vec<Form>,
+    sites: Vec<u32>,
+    /// By form of the old code, where it stands in the new one.
+    places: Vec<u32>,
+    /// Tests in the new code, which go on behind themselves.
+    tests: Vec<u32>,
+    site: u32,
+}
+
+impl Made {
+    fn put(&mut self, form: Form) -> Result<(), AllocError> {
+        self.forms.push(form)?;
+        self.sites.push(self.site)?;
+        Ok(())
+    }
+
+    fn here(&self) -> u32 {
+        u32::try_from(self.forms.len()).unwrap_or(u32::MAX)
+    }
+
+    /// Of each slot that these forms give nothing is known.
+    fn blur(&mut self, alloc: Global, forms: &[Form]) -> Result<(), AllocError> {
+        let mut given = BTreeSet::new(alloc);
+        for form in forms {
+            if matches!(form, Form::Context(_)) {
+                continue;
+            }
+            if let Some(slot) = given_by(form) {
+                if given.insert(slot)? {
+                    self.put(Form::Unknown(slot))?;
+                }
+            }
+        }
+        Ok(())
+    }
+}
+
+fn plan_of(alloc: Global, code: &Code) -> Result<Option<Plan>, AllocError> {
+    let marks = marks_of(alloc, code)?;
+    if !marks.iter().any(|is_marked| *is_marked) {
+        return Ok(None);
+    }
+    let Some(regions) = regions_of(alloc, &code.forms, &marks)? else {
+        return Ok(None);
+    };
+    let mut begins = vec![in alloc; false; code.forms.len()]?;
+    let mut skips = vec![in alloc; false; code.forms.len()]?;
+    for region in &regions.all {
+        set(&mut begins, region.start);
+        if region.has_other {
+            set(&mut skips, region.middle.saturating_sub(1));
+        }
+    }
+    Ok(Some(Plan {
+        marks,
+        regions,
+        begins,
+        skips,
+        spare: spare_of(code),
+    }))
+}
+
+fn set(flags: &mut [bool], at: usize) {
+    if let Some(flag) = flags.get_mut(at) {
+        *flag = true;
+    }
+}
+
+/// What is joined is blurred where its first body ends, and at the end.
+fn blurs(alloc: Global, code: &Code, plan: &Plan) -> Result<Vec<Vec<Region>>, AllocError> {
+    let mut blurs = Vec::new(alloc);
+    for _ in 0..code.forms.len().saturating_add(1) {
+        blurs.push(Vec::new(alloc))?;
+    }
+    for region in &plan.regions.all {
+        if let Some(list) = blurs.get_mut(region.middle) {
+            list.push(*region)?;
+        }
+        if region.end != region.middle {
+            if let Some(list) = blurs.get_mut(region.end) {
+                list.push(*region)?;
+            }
+        }
+    }
+    Ok(blurs)
+}
+
+/// The forms of the code at their new places, whose jumps still name old ones.
+fn made_of(alloc: Global, code: &Code, sites: &[u32], plan: &Plan) -> Result<Made, AllocError> {
+    let blurs = blurs(alloc, code, plan)?;
+    let mut made = Made {
+        forms: Vec::new(alloc),
+        sites: Vec::new(alloc),
+        places: Vec::new(alloc),
+        tests: Vec::new(alloc),
+        site: 0,
+    };
+    for (at, form) in code.forms.iter().enumerate() {
+        made.site = match sites.get(at) {
+            Some(site) => *site,
+            None => 0,
+        };
+        let here = made.here();
+        made.places.push(here)?;
+        if let Some(list) = blurs.get(at) {
+            for region in list {
+                if let Some(part) = code.forms.get(region.start..at.min(code.forms.len())) {
+                    made.blur(alloc, part)?;
+                }
+            }
+        }
+        put_form(alloc, &mut made, form, at, plan)?;
+    }
+    Ok(made)
+}
+
+fn put_form(
+    alloc: Global,
+    made: &mut Made,
+    form: &Form,
+    at: usize,
+    plan: &Plan,
+) -> Result<(), AllocError> {
+    let spare = plan.spare;
+    match form {
+        Form::Branch(site, _, to) if plan.is_marked(at) => {
+            made.put(Form::Unknown(spare))?;
+            if !plan.begins(at) {
+                made.put(Form::Branch(*site, spare, *to))?;
+            }
+            Ok(())
+        }
+        Form::Jump(_) if plan.skips(at) => Ok(()),
+        Form::Advance(to, place, number, stride) => {
+            if plan.is_marked(at) {
+                made.put(Form::Unknown(spare))?;
+                made.put(Form::Advance(*to, *place, spare, *stride))
+            } else {
+                // An index that isn't known, and doesn't come from memory, comes from what was joined: it isn't judged.
+                let here = made.here();
+                made.tests.push(here)?;
+                made.put(Form::Repeat(made.site, *number, 0))?;
+                made.put(Form::Advance(*to, *place, *number, *stride))
+            }
+        }
+        Form::Store(site, place, _) if plan.is_joined(at) => {
+            made.put(Form::Unknown(spare))?;
+            made.put(Form::Store(*site, *place, spare))
+        }
+        Form::StoreOwn(site, place, _) if plan.is_joined(at) => {
+            made.put(Form::Unknown(spare))?;
+            made.put(Form::StoreOwn(*site, *place, spare))
+        }
+        other => {
+            let copied = copy_of(alloc, other, spare)?;
+            made.put(copied)
+        }
+    }
+}
+
+/// A form once more, with one slot more where it is a task.
+fn copy_of(alloc: Global, form: &Form, spare: u32) -> Result<Form, AllocError> {
+    match form {
+        Form::Task {
+            site,
+            first,
+            slots: _,
+            behind,
+            items,
+            when,
+        } => Ok(Form::Task {
+            site: *site,
+            first: *first,
+            slots: spare.saturating_add(1),
+            behind: *behind,
+            items: items.as_slice().to_vec(alloc)?,
+            when: *when,
+        }),
+        Form::WaitFor(site, items) => Ok(Form::WaitFor(*site, items.as_slice().to_vec(alloc)?)),
+        Form::Group(site, items) => Ok(Form::Group(*site, items.as_slice().to_vec(alloc)?)),
+        other => Ok(plain_copy(other)),
+    }
+}
+
+/// One without a list.
+fn plain_copy(form: &Form) -> Form {
+    match form {
+        Form::Number(to, number) => Form::Number(*to, *number),
+        Form::Unknown(to) => Form::Unknown(*to),
+        Form::Copy(to, from) => Form::Copy(*to, *from),
+        Form::Address(to, object, index) => Form::Address(*to, *object, *index),
+        Form::Function(to, function) => Form::Function(*to, *function),
+        Form::Operate(to, by, kind, one, other) => Form::Operate(*to, *by, *kind, *one, *other),
+        Form::Convert(to, kind, from) => Form::Convert(*to, *kind, *from),
+        Form::Advance(to, place, number, stride) => Form::Advance(*to, *place, *number, *stride),
+        Form::Distance(to, one, other, stride) => Form::Distance(*to, *one, *other, *stride),
+        Form::Begin(to, cells, name, zero) => Form::Begin(*to, *cells, *name, *zero),
+        Form::Allocate(to, name, count, each, zero) => {
+            Form::Allocate(*to, *name, *count, *each, *zero)
+        }
+        Form::End(site, place) => Form::End(*site, *place),
+        Form::Load(site, to, place) => Form::Load(*site, *to, *place),
+        Form::Store(site, place, from) => Form::Store(*site, *place, *from),
+        Form::LoadOwn(site, to, place) => Form::LoadOwn(*site, *to, *place),
+        Form::StoreOwn(site, place, from) => Form::StoreOwn(*site, *place, *from),
+        Form::ReadRange(site, place, count) => Form::ReadRange(*site, *place, *count),
+        Form::WriteRange(site, place, count) => Form::WriteRange(*site, *place, *count),
+        other => plain_jump(other),
+    }
+}
+
+fn plain_jump(form: &Form) -> Form {
+    match form {
+        Form::Jump(to) => Form::Jump(*to),
+        Form::Branch(site, slot, to) => Form::Branch(*site, *slot, *to),
+        Form::Repeat(site, slot, to) => Form::Repeat(*site, *slot, *to),
+        Form::Call(site, function, first) => Form::Call(*site, *function, *first),
+        Form::CallBy(site, slot, first) => Form::CallBy(*site, *slot, *first),
+        Form::Return => Form::Return,
+        Form::Finish => Form::Finish,
+        Form::Wait(site) => Form::Wait(*site),
+        Form::Leave(site) => Form::Leave(*site),
+        Form::Joins(site, fold, place) => Form::Joins(*site, *fold, *place),
+        Form::Turn(site, slot) => Form::Turn(*site, *slot),
+        Form::Context(to) => Form::Context(*to),
+        Form::Within(slot) => Form::Within(*slot),
+        _ => Form::Stop,
+    }
+}
+
+fn moved(places: &[u32], at: u32) -> u32 {
+    match places.get(at as usize) {
+        Some(place) => *place,
+        None => u32::MAX,
+    }
+}
+
+/// The jumps of the forms go to new places.
+fn move_jumps(forms: &mut [Form], places: &[u32]) {
+    for form in forms.iter_mut() {
+        match form {
+            Form::Jump(to) | Form::Branch(_, _, to) | Form::Repeat(_, _, to) => {
+                *to = moved(places, *to);
+            }
+            Form::Task { behind, .. } => *behind = moved(places, *behind),
+            _ => {}
+        }
+    }
+}
+
+/// The code in which what branches and indexes read from memory isn't known; none where they read nothing there, or it is too much.
+pub(crate) fn forgotten(alloc: Global, placed: &Placed) -> Result<Option<Placed>, AllocError> {
+    let code = &placed.code;
+    let Some(plan) = plan_of(alloc, code)? else {
+        return Ok(None);
+    };
+    let mut made = made_of(alloc, code, &placed.sites, &plan)?;
+    move_jumps(&mut made.forms, &made.places);
+    for test in &made.tests {
+        if let Some(Form::Repeat(_, _, to)) = made.forms.get_mut(*test as usize) {
+            *to = test.saturating_add(1);
+        }
+    }
+    let slots = plan.spare.saturating_add(1);
+    let mut functions = Vec::new(alloc);
+    for function in &code.functions {
+        let start = moved(&made.places, function.start);
+        functions.push(Function { start, slots })?;
+    }
+    let Made {
+        forms,
+        sites,
+        places: _,
+        tests: _,
+        site: _,
+    } = made;
+    Ok(Some(Placed {
+        code: Code {
+            forms,
+            slots,
+            functions,
+        },
+        sites,
+    }))
+}

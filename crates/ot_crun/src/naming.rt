@@ -1,0 +1,121 @@
+//! How cells are called.
+use crate::reading::Reading;
+use ot_ctree::{Length, Type, Unit};
+use ot_machine::Run;
+use ot_model::Cell;
+use std::alloc::{AllocError, Global};
+
+/// How deep a type nests at most, as far as it is told.
+const DEEPEST: u32 = 16;
+
+/// `m[5]`, `d[0][0]`, `p.key`; what is allocated is called by its line.
+pub(crate) fn cell_name(
+    alloc: Global,
+    reading: &Reading,
+    text: &[u8],
+    run: &Run,
+    cell: Cell,
+) -> Result<String, AllocError> {
+    let Some(object) = run.objects.get(cell.array as usize) else {
+        return String::from_str(alloc, "a cell");
+    };
+    match reading.unit.variables.get(object.name as usize) {
+        Some(variable) => {
+            let mut name = String::from_str(alloc, reading.names.text(variable.name))?;
+            put_path(
+                &reading.unit,
+                alloc,
+                DEEPEST,
+                variable.kind,
+                cell.index,
+                &mut name,
+            )?;
+            Ok(name)
+        }
+        None => {
+            let made = (object.name as usize).saturating_sub(reading.unit.variables.len());
+            let line = line_of(text, byte_at(reading, made));
+            let index = cell.index;
+            format!(in alloc; "cell {index} of what is allocated at line {line}")
+        }
+    }
+}
+
+fn byte_at(reading: &Reading, token: usize) -> usize {
+    match reading.tokens.get(token) {
+        Some(token) => token.at,
+        None => 0,
+    }
+}
+
+fn line_of(text: &[u8], byte: usize) -> usize {
+    text.iter()
+        .take(byte)
+        .filter(|b| **b == b'\n')
+        .count()
+        .saturating_add(1)
+}
+
+/// How many cells a type has, as far as it is known here: 1 of a scalar.
+fn cells_of(unit: &Unit, depth: u32, kind: u32) -> u32 {
+    if depth == 0 {
+        return 1;
+    }
+    match unit.types.get(kind as usize) {
+        Some(Type::Array(of, length)) => cells_of(unit, depth - 1, *of).saturating_mul(count_of(
+            length,
+        )),
+        Some(Type::Record(record)) => match unit.records.get(*record as usize) {
+            Some(record) => match &record.members {
+                Some(members) => {
+                    let mut cells: u32 = 0;
+                    for member in members {
+                        let more = cells_of(unit, depth - 1, member.kind);
+                        cells = if record.is_union {
+                            cells.max(more)
+                        } else {
+                            cells.saturating_add(more)
+                        };
+                    }
+                    cells
+                }
+                None => 1,
+            },
+            None => 1,
+        },
+        _ => 1,
+    }
+}
+
+/// A length that is written as a number; of others 1 is as good.
+fn count_of(length: &Length) -> u32 {
+    match length {
+        Length::By(ot_ctree::Expr::Number(_, number, _)) => u32::try_from(*number).unwrap_or(
+            u32::MAX,
+        ),
+        _ => 1,
+    }
+}
+
+/// Puts the way from an object of this type to one of its cells behind its name.
+fn put_path(
+    unit: &Unit,
+    alloc: Global,
+    depth: u32,
+    kind: u32,
+    index: u32,
+    name: &mut String,
+) -> Result<(), AllocError> {
+    if depth == 0 {
+        return Ok(());
+    }
+    match unit.types.get(kind as usize) {
+        Some(Type::Array(of, _)) => {
+            let each = cells_of(unit, DEEPEST, *of).max(1);
+            let place = format!(in alloc; "[{}]", index / each)?;
+            name.push_str(place.as_str())?;
+            put_path(unit, alloc, depth - 1, *of, index % each, name)
+        }
+        _ => Ok(()),
+    }
+}

@@ -1,0 +1,239 @@
+//! What is said of a text that is executed.
+use crate::naming::cell_name;
+use crate::reading::{Reading, byte_of};
+use ot_ctoken::{Kind, Mark};
+use ot_diagnosis::{Code, Diagnosis, Place, Remark, Severity, Turn, place_of};
+use ot_machine::{Context, Entered, Run};
+use ot_model::{Cell, Mode};
+use ot_outline::Noted;
+use ot_race::Race;
+use ot_races::More;
+use std::alloc::{AllocError, Global};
+
+/// A text with what it is read as, and one of its runs.
+#[derive(Clone, Copy)]
+pub(crate) struct Source<'a> {
+    pub name: &'a str,
+    pub text: &'a [u8],
+    pub reading: &'a Reading,
+    pub run: &'a Run,
+}
+
+/// How many calls are told around a place.
+const CALLS: usize = 4;
+
+/// How many tokens are looked at for a loop's variable.
+const AHEAD: usize = 64;
+
+impl Source<'_> {
+    fn place(&self, token: u32) -> Place {
+        Place::at(self.text, byte_of(&self.reading.tokens, token))
+    }
+
+    /// The token and the context of an event's place.
+    fn row(&self, place: u32) -> (u32, u32) {
+        match self.run.rows.get(place as usize) {
+            Some(row) => (row.site, row.context),
+            None => (0, 0),
+        }
+    }
+
+    /// The tokens of the two touches that race.
+    pub(crate) fn pair_of(&self, race: Race) -> (u32, u32) {
+        (self.row(race.place).0, self.row(race.later).0)
+    }
+
+    /// The contexts around this one, itself first.
+    fn contexts(&self, alloc: Global, context: u32) -> Result<Vec<Context>, AllocError> {
+        let mut found = Vec::new(alloc);
+        let mut at = context;
+        for _ in 0..self.run.contexts.len() {
+            match self.run.contexts.get(at as usize) {
+                Some(one) if at != 0 => {
+                    found.push(*one)?;
+                    at = one.outer;
+                }
+                _ => break,
+            }
+        }
+        Ok(found)
+    }
+
+    /// The name of the variable by which the loop counts that begins at a token, or behind it in its directive: the one before the first `=`.
+    fn counter_at(&self, token: u32) -> &str {
+        let mut last = None;
+        for token in self.reading.tokens.iter().skip(token as usize).take(AHEAD) {
+            match token.kind {
+                Kind::Name(name) => last = Some(name),
+                Kind::Mark(Mark::Assign) => break,
+                _ => {}
+            }
+        }
+        match last {
+            Some(name) => self.reading.names.text(name),
+            None => "turn",
+        }
+    }
+
+    /// The turns of the loops around, within the innermost call, the outermost first.
+    fn turns(&self, alloc: Global, context: u32) -> Result<Vec<Turn>, AllocError> {
+        let mut turns = Vec::new(alloc);
+        for one in self.contexts(alloc, context)? {
+            match one.entered {
+                Entered::Turn(number) => {
+                    let name = String::from_str(alloc, self.counter_at(one.site))?;
+                    turns.insert(0, Turn { name, number })?;
+                }
+                Entered::SomeTurn => {}
+                Entered::Call | Entered::Run => break,
+            }
+        }
+        Ok(turns)
+    }
+
+    /// The calls through which the place came: the innermost first.
+    fn calls(&self, alloc: Global, context: u32) -> Result<Vec<Remark>, AllocError> {
+        let mut calls = Vec::new(alloc);
+        for one in self.contexts(alloc, context)? {
+            if one.entered == Entered::Call && one.outer != 0 && calls.len() < CALLS {
+                calls.push(Remark {
+                    place: Some(self.place(one.site)),
+                    turns: Vec::new(alloc),
+                    message: String::from_str(alloc, "in a function that is called here")?,
+                })?;
+            }
+        }
+        Ok(calls)
+    }
+}
+
+/// ` (i = 1, j = 2)`
+fn turns_text(alloc: Global, turns: &[Turn]) -> Result<String, AllocError> {
+    let mut text = String::new(alloc);
+    for (number, turn) in turns.iter().enumerate() {
+        text.push_str(if number == 0 { " (" } else { ", " })?;
+        let name = turn.name.as_str();
+        let one = format!(in alloc; "{name} = {}", turn.number)?;
+        text.push_str(one.as_str())?;
+    }
+    if !turns.is_empty() {
+        text.push_str(")")?;
+    }
+    Ok(text)
+}
+
+/// What an event does with a cell.
+fn done(log: &[Noted], place: u32, cell: Cell) -> &'static str {
+    for noted in log {
+        if noted.place == place {
+            let is_written = noted
+                .uses
+                .iter()
+                .any(|used| used.cell == cell && used.mode == Mode::Writes);
+            return if is_written { "written" } else { "read" };
+        }
+    }
+    "touched"
+}
+
+/// A race: the touch that comes later in the serial run, and the other one as its note, with what is known of the two.
+pub(crate) fn race_found(
+    alloc: Global,
+    source: &Source<'_>,
+    known: &str,
+    race: Race,
+) -> Result<Diagnosis, AllocError> {
+    let (here, around) = source.row(race.later);
+    let (there, other_around) = source.row(race.place);
+    let turns = source.turns(alloc, around)?;
+    let message = race_words(alloc, source, race, there, &turns)?;
+    let mut notes = Vec::new(alloc);
+    notes.push(other_touch(alloc, source, there, other_around, known)?)?;
+    for call in source.calls(alloc, around)? {
+        notes.push(call)?;
+    }
+    Ok(Diagnosis {
+        severity: Severity::Error,
+        code: Code::Race,
+        told: Remark {
+            place: Some(source.place(here)),
+            turns,
+            message,
+        },
+        notes,
+    })
+}
+
+fn race_words(
+    alloc: Global,
+    source: &Source<'_>,
+    race: Race,
+    there: u32,
+    turns: &[Turn],
+) -> Result<String, AllocError> {
+    let cell = cell_name(alloc, source.reading, source.text, source.run, race.cell)?;
+    let cell = cell.as_str();
+    let at = place_of(alloc, source.name, Some(source.place(there)))?;
+    let at = at.as_str();
+    let one = done(&source.run.log, race.later, race.cell);
+    let two = done(&source.run.log, race.place, race.cell);
+    let turns = turns_text(alloc, turns)?;
+    let turns = turns.as_str();
+    format!(in alloc; "{cell} is {one} here while it may be {two} at {at}{turns}")
+}
+
+fn other_touch(
+    alloc: Global,
+    source: &Source<'_>,
+    there: u32,
+    around: u32,
+    known: &str,
+) -> Result<Remark, AllocError> {
+    let turns = source.turns(alloc, around)?;
+    let text = turns_text(alloc, &turns)?;
+    let text = text.as_str();
+    Ok(Remark {
+        place: Some(source.place(there)),
+        message: format!(in alloc; "the other touch{text}; {known}")?,
+        turns,
+    })
+}
+
+/// How many races there are that aren't told.
+pub(crate) fn more_races(alloc: Global, more: More) -> Result<Option<Diagnosis>, AllocError> {
+    let words = match more {
+        More::Exactly(0) => return Ok(None),
+        More::Exactly(1) => String::from_str(alloc, "1 more race")?,
+        More::Exactly(count) => format!(in alloc; "{count} more races")?,
+        More::AtLeast(count) => format!(in alloc; "at least {count} more races")?,
+    };
+    Ok(Some(of_file(alloc, Code::MoreRaces, words)))
+}
+
+/// A note on the whole file.
+pub(crate) fn of_file(alloc: Global, code: Code, message: String) -> Diagnosis {
+    Diagnosis {
+        severity: Severity::Note,
+        code,
+        told: Remark {
+            place: None,
+            turns: Vec::new(alloc),
+            message,
+        },
+        notes: Vec::new(alloc),
+    }
+}
+
+/// That a text isn't judged, at a byte.
+pub(crate) fn outside(alloc: Global, text: &[u8], byte: usize, message: String) -> Diagnosis {
+    Diagnosis {
+        severity: Severity::Error,
+        code: Code::Outside,
+        told: Remark {
+            place: Some(Place::at(text, byte)),
+            turns: Vec::new(alloc),
+            message,
+        },
+        notes: Vec::new(alloc),
+    }
+}

@@ -1,0 +1,611 @@
+//! A walk through a function's tree, which knows the constructs around.
+ghost use Rattle.std.specs.Prelude.{◌<◌, IfOk};
+
+use crate::attribute::{Around, How, Region, attribute_of, within};
+use crate::fault::Fault;
+use crate::sharing::{Capture, Captured, Sharing};
+use ot_clayout::{Class, Layouts};
+use ot_ctree::{Clause, Default, Directive, Entry, Expr, Initial, Role, Sign, Stmt, Storage, Unit};
+use std::alloc::Global;
+use std::mem;
+
+/// How deep statements and expressions may nest.
+const DEEPEST: u32 = 2_000;
+
+/// How many constructs may stand within one another.
+const MOST_OPEN: usize = 64;
+
+/// How many variables the clauses of a directive may name.
+const MOST_NAMED: usize = 256;
+
+/// A variable that a clause names.
+#[derive(Clone, Copy)]
+struct Named {
+    variable: u32,
+    how: How,
+}
+
+/// A construct that is open.
+#[derive(Drop)]
+struct Open {
+    region: Region,
+    default: Option<Default>,
+    named: Vec<Named>,
+    captures: Vec<Capture>,
+    /// The place among those that are done, if its captures are kept.
+    place: Option<usize>,
+    /// Its number in the order in which they begin.
+    serial: u32,
+}
+
+#[derive(Drop)]
+pub(crate) struct Walk<'a> {
+    alloc: Global,
+    unit: &'a Unit,
+    layouts: &'a mut Layouts,
+    objects: Vec<bool>,
+    /// By variable: how many constructs are open where it is declared.
+    homes: Vec<usize>,
+    /// By variable: the construct that was innermost when it was last met.
+    seen: Vec<u32>,
+    open: Vec<Open>,
+    serial: u32,
+    done: Vec<Captured>,
+    /// The function that is walked through.
+    function: u32,
+    /// By function: whether another one names it, and whether constructs stand in it.
+    named: Vec<bool>,
+    constructs: Vec<bool>,
+    has_final: bool,
+}
+
+fn below(depth: u32, at: u32) -> Result<u32, Fault>
+    ensures { IfOk result (λ less. less < depth) }
+{
+    if depth == 0 {
+        Err(Fault::Limit(at))
+    } else {
+        Ok(depth - 1)
+    }
+}
+
+/// What it says of a variable that it names.
+fn how_of(role: Role) -> Option<How> {
+    match role {
+        Role::Private => Some(How::Private),
+        Role::Firstprivate => Some(How::Firstprivate),
+        Role::Lastprivate => Some(How::Lastprivate),
+        Role::Shared => Some(How::Shared),
+        Role::Reduction(_) | Role::InReduction(_) => Some(How::Reduced),
+        _ => None,
+    }
+}
+
+/// Whether a clause names the place of a variable that is its item.
+fn names_place(role: Role) -> bool {
+    matches!(
+        role,
+        Role::Depend(_)
+            | Role::Reduction(_)
+            | Role::InReduction(_)
+            | Role::TaskReduction(_)
+            | Role::Lastprivate
+    )
+}
+
+fn region_of(directive: Directive) -> Region {
+    match directive {
+        Directive::Parallel => Region::Team,
+        Directive::Task | Directive::Taskloop => Region::Task,
+        _ => Region::Other,
+    }
+}
+
+/// Without a `simd` that others stand before.
+fn sharing_ones(directives: &[Directive]) -> &[Directive] {
+    match directives {
+        [_, Directive::Simd] => &directives[..1],
+        [_, _, Directive::Simd] => &directives[..2],
+        [_, _, _, Directive::Simd] => &directives[..3],
+        _ => directives,
+    }
+}
+
+/// The variable whose cells an item names.
+fn variable_of(depth: u32, item: &Expr) -> Option<u32> {
+    if depth == 0 {
+        return None;
+    }
+    match item {
+        Expr::Variable(_, variable) => Some(*variable),
+        Expr::Index(_, one, _) | Expr::Section(_, one, _, _) => variable_of(depth - 1, one),
+        _ => None,
+    }
+}
+
+/// The variable that a loop counts.
+fn counted(body: &Option<Box<Stmt>>) -> Option<u32> {
+    let Some(body) = body else {
+        return None;
+    };
+    let Stmt::For(_, first, _, _, _) = &**body else {
+        return None;
+    };
+    match first.as_slice() {
+        [Stmt::Declares(_, variable, _)] => Some(*variable),
+        [Stmt::Does(Expr::Assign(_, None, to, _))] => match &**to {
+            Expr::Variable(_, variable) => Some(*variable),
+            _ => None,
+        },
+        _ => None,
+    }
+}
+
+impl<'a> Walk<'a> {
+    pub(crate) fn over(
+        alloc: Global,
+        unit: &'a Unit,
+        layouts: &'a mut Layouts,
+    ) -> Result<Walk<'a>, Fault> {
+        let mut objects = Vec::new(alloc);
+        for variable in unit.variables.iter() {
+            let is_whole = match ot_clayout::sort_of(unit, variable).class(unit) {
+                Class::Array(_) | Class::Record(_) => true,
+                _ => false,
+            };
+            let is_automatic = matches!(variable.storage, Storage::Automatic | Storage::Parameter);
+            objects.push(is_whole || !is_automatic)?;
+        }
+        let homes = vec![in alloc; 0usize; unit.variables.len()]?;
+        let seen = vec![in alloc; 0u32; unit.variables.len()]?;
+        Ok(Walk {
+            alloc,
+            unit,
+            layouts,
+            objects,
+            homes,
+            seen,
+            open: Vec::new(alloc),
+            serial: 0,
+            done: Vec::new(alloc),
+            function: 0,
+            named: vec![in alloc; false; unit.functions.len()]?,
+            constructs: vec![in alloc; false; unit.functions.len()]?,
+            has_final: false,
+        })
+    }
+
+    pub(crate) fn end(self) -> Sharing {
+        Sharing {
+            objects: self.objects,
+            constructs: self.done,
+            named: self.named,
+            has_constructs: self.constructs,
+            has_final: self.has_final,
+        }
+    }
+
+    pub(crate) fn function(&mut self, number: u32, body: &Stmt) -> Result<(), Fault> {
+        self.function = number;
+        self.statement(DEEPEST, body)
+    }
+
+    /// A function's name stands in the one that is walked through.
+    fn names_function(&mut self, function: u32) {
+        if function == self.function {
+            return;
+        }
+        if let Some(place) = self.named.get_mut(function as usize) {
+            *place = true;
+        }
+    }
+
+    fn has_construct(&mut self) {
+        if let Some(place) = self.constructs.get_mut(self.function as usize) {
+            *place = true;
+        }
+    }
+
+    fn is_static(&self, variable: u32) -> bool {
+        match self.unit.variables.get(variable as usize) {
+            Some(variable) => {
+                !matches!(variable.storage, Storage::Automatic | Storage::Parameter)
+            }
+            None => true,
+        }
+    }
+
+    fn needs_object(&mut self, variable: u32) {
+        if let Some(place) = self.objects.get_mut(variable as usize) {
+            *place = true;
+        }
+    }
+
+    /// A variable begins within the constructs that are open.
+    fn begins(&mut self, variable: u32) {
+        let here = self.open.len();
+        if let Some(home) = self.homes.get_mut(variable as usize) {
+            *home = here;
+        }
+    }
+
+    /// At this token a variable is named.
+    fn met(&mut self, at: u32, variable: u32) -> Result<(), Fault> {
+        let Some(open) = self.open.last() else {
+            return Ok(());
+        };
+        let serial = open.serial;
+        let Some(seen) = self.seen.get_mut(variable as usize) else {
+            return Ok(());
+        };
+        if *seen == serial {
+            return Ok(());
+        }
+        *seen = serial;
+        let is_static = self.is_static(variable);
+        let home = self.homes.get(variable as usize).copied().unwrap_or(0);
+        let mut around = Around {
+            is_static,
+            is_shared: false,
+        };
+        let mut needs_object = false;
+        for open in self.open.iter_mut().skip(home) {
+            let named = named_in(open.named.as_slice(), variable);
+            let Some(how) = attribute_of(open.region, named, open.default, around) else {
+                return Err(Fault::Unsaid(at, variable));
+            };
+            needs_object = needs_object || shares(open.region, how);
+            around = within(open.region, how, around);
+            open.captures.push(Capture { variable, how })?;
+        }
+        if needs_object {
+            self.needs_object(variable);
+        }
+        Ok(())
+    }
+}
+
+fn named_in(named: &[Named], variable: u32) -> Option<How> {
+    for one in named {
+        if one.variable == variable {
+            return Some(one.how);
+        }
+    }
+    None
+}
+
+/// Whether other tasks see the variable's cells by it.
+fn shares(region: Region, how: How) -> bool {
+    match how {
+        How::Shared => region == Region::Task,
+        How::Reduced | How::Lastprivate | How::Both => true,
+        How::Private | How::Firstprivate => false,
+    }
+}
+
+/// Expressions.
+impl<'a> Walk<'a> {
+    #[cycle(expression)]
+    fn expression(&mut self, depth: u32, expr: &Expr) -> Result<(), Fault> {
+        match expr {
+            Expr::Number(_, _, _)
+            | Expr::Real(_, _)
+            | Expr::Text(_, _)
+            | Expr::Enumerator(_, _)
+            | Expr::Undeclared(_, _)
+            | Expr::SizeOfType(_, _)
+            | Expr::SizeOf(_, _)
+            | Expr::Kind(_, _) => Ok(()),
+            Expr::Variable(at, variable) => self.met(*at, *variable),
+            Expr::Function(_, function) => {
+                self.names_function(*function);
+                Ok(())
+            }
+            Expr::Unary(at, sign, one) => {
+                if let (Sign::Address, Expr::Variable(_, variable)) = (*sign, &**one) {
+                    self.needs_object(*variable);
+                }
+                let depth = below(depth, *at)?;
+                self.expression(depth, one)
+            }
+            Expr::StepBefore(at, _, one)
+            | Expr::StepBehind(at, _, one)
+            | Expr::Cast(at, _, one)
+            | Expr::Member(at, one, _)
+            | Expr::Arrow(at, one, _) => {
+                let depth = below(depth, *at)?;
+                self.expression(depth, one)
+            }
+            Expr::Binary(at, _, one, other)
+            | Expr::Assign(at, _, one, other)
+            | Expr::Comma(at, one, other)
+            | Expr::Index(at, one, other) => {
+                let depth = below(depth, *at)?;
+                self.expression(depth, one)?;
+                self.expression(depth, other)
+            }
+            Expr::Choice(at, test, one, other) => {
+                let depth = below(depth, *at)?;
+                self.expression(depth, test)?;
+                self.expression(depth, one)?;
+                self.expression(depth, other)
+            }
+            Expr::Section(at, one, start, length) => {
+                let depth = below(depth, *at)?;
+                self.expression(depth, one)?;
+                if let Some(start) = start {
+                    self.expression(depth, start)?;
+                }
+                if let Some(length) = length {
+                    self.expression(depth, length)?;
+                }
+                Ok(())
+            }
+            Expr::Literal(at, variable, initial) => {
+                self.begins(*variable);
+                self.needs_object(*variable);
+                let depth = below(depth, *at)?;
+                self.initial(depth, initial)
+            }
+            Expr::Call(at, function, arguments) => {
+                let depth = below(depth, *at)?;
+                self.expression(depth, function)?;
+                self.expressions(depth, *at, arguments.as_slice())
+            }
+        }
+    }
+
+    #[cycle(expression)]
+    fn expressions(&mut self, depth: u32, at: u32, list: &[Expr]) -> Result<(), Fault> {
+        let less = below(depth, at)?;
+        for one in list {
+            self.expression(less, one)?;
+        }
+        Ok(())
+    }
+
+    #[cycle(expression)]
+    fn initial(&mut self, depth: u32, initial: &Initial) -> Result<(), Fault> {
+        match initial {
+            Initial::Value(value) => {
+                let depth = below(depth, 0)?;
+                self.expression(depth, value)
+            }
+            Initial::List(at, entries) => {
+                let depth = below(depth, *at)?;
+                self.entries(depth, *at, entries.as_slice())
+            }
+        }
+    }
+
+    #[cycle(expression)]
+    fn entries(&mut self, depth: u32, at: u32, entries: &[Entry]) -> Result<(), Fault> {
+        let less = below(depth, at)?;
+        for entry in entries {
+            self.initial(less, &entry.value)?;
+        }
+        Ok(())
+    }
+}
+
+/// Statements.
+impl<'a> Walk<'a> {
+    #[cycle(statement)]
+    fn statement(&mut self, depth: u32, statement: &Stmt) -> Result<(), Fault> {
+        match statement {
+            Stmt::Empty(_)
+            | Stmt::Case(_, _)
+            | Stmt::Break(_)
+            | Stmt::Continue(_)
+            | Stmt::Goto(_, _)
+            | Stmt::Label(_, _)
+            | Stmt::Return(_, None) => Ok(()),
+            Stmt::Does(value) | Stmt::Return(_, Some(value)) => self.expression(DEEPEST, value),
+            Stmt::Declares(_, variable, initial) => self.declares(*variable, initial),
+            Stmt::Block(at, list, _) => {
+                let depth = below(depth, *at)?;
+                self.statements(depth, *at, list.as_slice())
+            }
+            Stmt::If(at, test, one, other) => {
+                self.expression(DEEPEST, test)?;
+                let depth = below(depth, *at)?;
+                self.statement(depth, one)?;
+                match other {
+                    Some(other) => self.statement(depth, other),
+                    None => Ok(()),
+                }
+            }
+            Stmt::While(at, test, body) | Stmt::Do(at, body, test) | Stmt::Switch(at, test, body) =>
+                {
+                    self.expression(DEEPEST, test)?;
+                    let depth = below(depth, *at)?;
+                    self.statement(depth, body)
+                }
+            Stmt::For(at, first, test, step, body) => {
+                let depth = below(depth, *at)?;
+                self.statements(depth, *at, first.as_slice())?;
+                if let Some(test) = test {
+                    self.expression(DEEPEST, test)?;
+                }
+                if let Some(step) = step {
+                    self.expression(DEEPEST, step)?;
+                }
+                self.statement(depth, body)
+            }
+            Stmt::Construct(at, directives, _, clauses, body) => {
+                let depth = below(depth, *at)?;
+                self.construct(depth, *at, directives.as_slice(), clauses.as_slice(), body)
+            }
+        }
+    }
+
+    fn declares(&mut self, variable: u32, initial: &Option<Initial>) -> Result<(), Fault> {
+        self.begins(variable);
+        if let Some(initial) = initial {
+            self.layouts.complete(self.unit, variable, initial);
+            self.initial(DEEPEST, initial)?;
+        }
+        Ok(())
+    }
+
+    #[cycle(statement)]
+    fn statements(&mut self, depth: u32, at: u32, list: &[Stmt]) -> Result<(), Fault> {
+        let less = below(depth, at)?;
+        for one in list {
+            self.statement(less, one)?;
+        }
+        Ok(())
+    }
+
+    #[cycle(statement)]
+    fn construct(
+        &mut self,
+        depth: u32,
+        at: u32,
+        directives: &[Directive],
+        clauses: &[Clause],
+        body: &Option<Box<Stmt>>,
+    ) -> Result<(), Fault> {
+        let depth = below(depth, at)?;
+        self.has_construct();
+        self.clauses(clauses)?;
+        let Some((last, others)) = sharing_ones(directives).split_last() else {
+            return Ok(());
+        };
+        let outside = self.open.len();
+        for directive in others {
+            self.opens(at, region_of(*directive), None)?;
+        }
+        let place = self.done.len();
+        self.done.push(Captured {
+            at,
+            captures: Vec::new(self.alloc),
+        })?;
+        self.opens(at, region_of(*last), Some(place))?;
+        self.names(at, *last, clauses, body)?;
+        if let Some(body) = body {
+            self.statement(depth, body)?;
+        }
+        self.closes(outside);
+        Ok(())
+    }
+
+    /// What clauses say is evaluated, and named, outside.
+    fn clauses(&mut self, clauses: &[Clause]) -> Result<(), Fault> {
+        for clause in clauses {
+            for iterator in clause.iterators.iter() {
+                self.begins(iterator.variable);
+                self.expression(DEEPEST, &iterator.start)?;
+                self.expression(DEEPEST, &iterator.end)?;
+            }
+            if clause.role == Role::Final {
+                self.has_final = true;
+            }
+            if clause.role != Role::Private {
+                self.items(clause)?;
+            }
+        }
+        Ok(())
+    }
+
+    fn items(&mut self, clause: &Clause) -> Result<(), Fault> {
+        for item in clause.items.iter() {
+            self.expression(DEEPEST, item)?;
+            if names_place(clause.role)
+                && let Expr::Variable(_, variable) = item
+            {
+                self.needs_object(*variable);
+            }
+        }
+        Ok(())
+    }
+
+    fn opens(&mut self, at: u32, region: Region, place: Option<usize>) -> Result<(), Fault> {
+        if self.open.len() >= MOST_OPEN {
+            return Err(Fault::Limit(at));
+        }
+        let Some(serial) = self.serial.checked_add(1) else {
+            return Err(Fault::Limit(at));
+        };
+        self.serial = serial;
+        self.open.push(Open {
+            region,
+            default: None,
+            named: Vec::new(self.alloc),
+            captures: Vec::new(self.alloc),
+            place,
+            serial,
+        })?;
+        Ok(())
+    }
+
+    /// To the innermost construct what its clauses say.
+    fn names(
+        &mut self,
+        at: u32,
+        directive: Directive,
+        clauses: &[Clause],
+        body: &Option<Box<Stmt>>,
+    ) -> Result<(), Fault> {
+        for clause in clauses {
+            if let Role::Default(default) = clause.role {
+                self.defaults(default);
+            }
+            if let Some(how) = how_of(clause.role) {
+                for item in clause.items.iter() {
+                    if let Some(variable) = variable_of(64, item) {
+                        self.name(at, variable, how)?;
+                    }
+                }
+            }
+        }
+        if let (Directive::Taskloop, Some(variable)) = (directive, counted(body)) {
+            self.name(at, variable, How::Private)?;
+        }
+        Ok(())
+    }
+
+    fn defaults(&mut self, default: Default) {
+        if let Some(open) = self.open.last_mut() {
+            open.default = Some(default);
+        }
+    }
+
+    fn name(&mut self, at: u32, variable: u32, how: How) -> Result<(), Fault> {
+        let Some(open) = self.open.last_mut() else {
+            return Ok(());
+        };
+        if open.named.len() >= MOST_NAMED {
+            return Err(Fault::Limit(at));
+        }
+        for one in open.named.iter_mut() {
+            if one.variable == variable {
+                one.how = both(one.how, how);
+                return Ok(());
+            }
+        }
+        open.named.push(Named { variable, how })?;
+        Ok(())
+    }
+
+    /// Ends the constructs that began since.
+    fn closes(&mut self, outside: usize) {
+        for _open in outside..self.open.len() {
+            if let Some(open) = self.open.pop()
+                && let Some(place) = open.place
+                && let Some(done) = self.done.get_mut(place)
+            {
+                let _ = mem::replace(&mut done.captures, open.captures);
+            }
+        }
+    }
+}
+
+/// What a variable is that two clauses name.
+fn both(one: How, other: How) -> How {
+    match (one, other) {
+        (How::Firstprivate, How::Lastprivate) | (How::Lastprivate, How::Firstprivate) => How::Both,
+        (How::Lastprivate, How::Private) => How::Lastprivate,
+        _ => other,
+    }
+}

@@ -1,0 +1,185 @@
+//! The tests of `#if` (ISO C11, section 6.10.1), on 64 bits. A name that is no macro is 0.
+use crate::mark::Mark;
+use crate::names::Names;
+use crate::number::{letter_of, number_of};
+use crate::raw::{Raw, RawKind};
+use crate::spelling::spelling;
+use crate::token::Kind;
+
+/// A test, and how its tokens are spelled.
+#[derive(Clone, Copy)]
+pub(crate) struct Test<'a> {
+    pub raws: &'a [Raw],
+    pub names: &'a Names,
+    pub spelled: &'a [u8],
+}
+
+/// How deep tests nest.
+const MAX_DEPTH: u32 = 200;
+
+/// How tightly marks bind between values.
+fn binds(mark: Mark) -> u32 {
+    match mark {
+        Mark::Either => 1,
+        Mark::Both => 2,
+        Mark::Or => 3,
+        Mark::Xor => 4,
+        Mark::And => 5,
+        Mark::Equal | Mark::NotEqual => 6,
+        Mark::Less | Mark::Greater | Mark::LessOrEqual | Mark::GreaterOrEqual => 7,
+        Mark::ShiftLeft | Mark::ShiftRight => 8,
+        Mark::Plus | Mark::Minus => 9,
+        Mark::Star | Mark::Slash | Mark::Percent => 10,
+        _ => 0,
+    }
+}
+
+fn joined(mark: Mark, one: i64, two: i64) -> Option<i64> {
+    match mark {
+        Mark::Either => Some(i64::from(one != 0 || two != 0)),
+        Mark::Both => Some(i64::from(one != 0 && two != 0)),
+        Mark::Or => Some(one | two),
+        Mark::Xor => Some(one ^ two),
+        Mark::And => Some(one & two),
+        Mark::Plus => Some(one.wrapping_add(two)),
+        Mark::Minus => Some(one.wrapping_sub(two)),
+        Mark::Star => Some(one.wrapping_mul(two)),
+        Mark::Slash => one.checked_div(two),
+        Mark::Percent => one.checked_rem(two),
+        Mark::ShiftLeft => shifted(one, two, true),
+        Mark::ShiftRight => shifted(one, two, false),
+        _ => compared(mark, one, two),
+    }
+}
+
+fn shifted(one: i64, two: i64, is_left: bool) -> Option<i64> {
+    let by = u32::try_from(two).ok()?;
+    if is_left {
+        one.checked_shl(by)
+    } else {
+        one.checked_shr(by)
+    }
+}
+
+fn compared(mark: Mark, one: i64, two: i64) -> Option<i64> {
+    match mark {
+        Mark::Equal => Some(i64::from(one == two)),
+        Mark::NotEqual => Some(i64::from(one != two)),
+        Mark::Less => Some(i64::from(one < two)),
+        Mark::Greater => Some(i64::from(one > two)),
+        Mark::LessOrEqual => Some(i64::from(one <= two)),
+        Mark::GreaterOrEqual => Some(i64::from(one >= two)),
+        _ => None,
+    }
+}
+
+impl Test<'_> {
+    /// Whether the test holds, where it is one that is read, to its end.
+    pub(crate) fn holds(&self) -> Option<bool> {
+        let (value, end) = self.choice(0, MAX_DEPTH)?;
+        if end == self.raws.len() {
+            Some(value != 0)
+        } else {
+            None
+        }
+    }
+
+    fn mark(&self, at: usize) -> Option<Mark> {
+        match self.raws.get(at)?.kind {
+            RawKind::Mark(mark) => Some(mark),
+            _ => None,
+        }
+    }
+
+    /// The value that begins there, and where it ends.
+    #[cycle(choice)]
+    fn choice(&self, at: usize, depth: u32) -> Option<(i64, usize)> {
+        if depth == 0 {
+            return None;
+        }
+        let (test, end) = self.value(at, 1, depth - 1)?;
+        if self.mark(end) != Some(Mark::Question) {
+            return Some((test, end));
+        }
+        let (one, end) = self.choice(end.checked_add(1)?, depth - 1)?;
+        if self.mark(end) != Some(Mark::Colon) {
+            return None;
+        }
+        let (other, end) = self.choice(end.checked_add(1)?, depth - 1)?;
+        Some((if test != 0 { one } else { other }, end))
+    }
+
+    /// One whose marks bind at least so tightly.
+    #[cycle(choice)]
+    fn value(&self, at: usize, least: u32, depth: u32) -> Option<(i64, usize)> {
+        if depth == 0 {
+            return None;
+        }
+        let (mut value, mut end) = self.operand(at, depth - 1)?;
+        for _ in 0..self.raws.len() {
+            let Some(mark) = self.mark(end) else {
+                return Some((value, end));
+            };
+            let tightly = binds(mark);
+            if tightly < least || tightly == 0 {
+                return Some((value, end));
+            }
+            let (right, behind) = self.value(
+                end.checked_add(1)?,
+                tightly.checked_add(1)?,
+                depth - 1,
+            )?;
+            value = joined(mark, value, right)?;
+            end = behind;
+        }
+        Some((value, end))
+    }
+
+    #[cycle(choice)]
+    fn operand(&self, at: usize, depth: u32) -> Option<(i64, usize)> {
+        if depth == 0 {
+            return None;
+        }
+        let raw = self.raws.get(at)?;
+        let next = at.checked_add(1)?;
+        match raw.kind {
+            RawKind::Name(_) => Some((0, next)),
+            RawKind::Number | RawKind::Letter => Some((self.number(raw)?, next)),
+            RawKind::Mark(Mark::Open) => {
+                let (value, end) = self.choice(next, depth - 1)?;
+                if self.mark(end) == Some(Mark::Close) {
+                    Some((value, end.checked_add(1)?))
+                } else {
+                    None
+                }
+            }
+            RawKind::Mark(mark) => {
+                let (value, end) = self.operand(next, depth - 1)?;
+                Some((signed(mark, value)?, end))
+            }
+            _ => None,
+        }
+    }
+
+    fn number(&self, raw: &Raw) -> Option<i64> {
+        let text = spelling(raw, self.names, self.spelled);
+        let kind = match raw.kind {
+            RawKind::Letter => letter_of(text)?,
+            _ => number_of(text)?,
+        };
+        match kind {
+            Kind::Number(value, _) => Some(i64::from_ne_bytes(value.to_ne_bytes())),
+            _ => None,
+        }
+    }
+}
+
+fn signed(mark: Mark, value: i64) -> Option<i64> {
+    match mark {
+        Mark::Plus => Some(value),
+        Mark::Minus => Some(0i64.wrapping_sub(value)),
+        Mark::Not => Some(i64::from(value == 0)),
+        Mark::Complement => Some(!value),
+        _ => None,
+    }
+}

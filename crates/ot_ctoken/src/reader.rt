@@ -1,0 +1,189 @@
+//! A text, preprocessed.
+use crate::fault::{Fault, ReadError, Why};
+use crate::letter::letters_of;
+use crate::macros::{Hidden, Macro};
+use crate::names::Names;
+use crate::number::{letter_of, number_of};
+use crate::raw::{Raw, RawKind, raws_of};
+use crate::spelling::{spelling, text_len};
+use crate::token::{Kind, Token};
+use std::alloc::{AllocError, Global};
+use std::collections::BTreeMap;
+
+/// The tokens of a text, and its names.
+#[derive(Drop)]
+pub struct Tokens {
+    /// The last one is `End`.
+    pub tokens: Vec<Token>,
+    pub names: Names,
+}
+
+/// How many tokens macros may become.
+const MOST_TOKENS: u32 = 2_000_000;
+
+/// What is preprocessed, as far as it has come.
+#[derive(Drop)]
+pub(crate) struct Reader {
+    pub alloc: Global,
+    pub names: Names,
+    /// The bytes of tokens that aren't names.
+    pub spelled: Vec<u8>,
+    pub macros: BTreeMap<u32, Macro>,
+    pub hidden: Hidden,
+    /// How many more tokens macros may become.
+    pub left: u32,
+    pub tokens: Vec<Token>,
+}
+
+impl Reader {
+    fn new(alloc: Global) -> Result<Reader, AllocError> {
+        Ok(Reader {
+            alloc,
+            names: Names::new(alloc)?,
+            spelled: Vec::new(alloc),
+            macros: BTreeMap::new(alloc),
+            hidden: Hidden::new(alloc),
+            left: MOST_TOKENS,
+            tokens: Vec::new(alloc),
+        })
+    }
+
+    /// The tokens of a text, before they are preprocessed.
+    pub(crate) fn raws(&mut self, text: &[u8]) -> Result<Vec<Raw>, ReadError> {
+        let letters = letters_of(self.alloc, text)?;
+        raws_of(self.alloc, &letters, &mut self.names, &mut self.spelled)
+    }
+
+    /// Puts a token behind the others.
+    pub(crate) fn put(&mut self, raw: &Raw) -> Result<(), ReadError> {
+        let text = spelling(raw, &self.names, &self.spelled);
+        let kind = match raw.kind {
+            RawKind::Name(name) => Some(Kind::Name(name)),
+            RawKind::Mark(mark) => Some(Kind::Mark(mark)),
+            RawKind::Text => Some(Kind::Text(text_len(text))),
+            RawKind::Letter => letter_of(text),
+            RawKind::Number => number_of(text),
+            RawKind::Other => return Err(ReadError::new(raw.at, Why::NoToken)),
+        };
+        match kind {
+            Some(kind) => self.put_kind(kind, raw),
+            None => Err(ReadError::new(raw.at, Why::NoNumber)),
+        }
+    }
+
+    /// Puts one of this kind behind the others, where this stands.
+    pub(crate) fn put_kind(&mut self, kind: Kind, raw: &Raw) -> Result<(), ReadError> {
+        self.tokens.push(Token {
+            kind,
+            at: raw.at,
+            origin: raw.origin,
+        })?;
+        Ok(())
+    }
+}
+
+/// The tokens of a text behind these definitions, each `NAME=VALUE` or `NAME`, as a command line has them; or its first fault.
+pub fn tokens_of(alloc: Global, definitions: &[String], text: &[u8]) -> Result<Tokens, ReadError> {
+    let mut reader = Reader::new(alloc)?;
+    reader.read(PREDEFINED.as_bytes())?;
+    for definition in definitions {
+        let line = line_of(alloc, definition.as_str())?;
+        match reader.read(&line) {
+            Err(ReadError::Fault(fault)) => return Err(ReadError::Fault(Fault { at: 0, ..fault })),
+            read => read?,
+        }
+    }
+    reader.tokens.clear();
+    reader.read(text)?;
+    reader.tokens.push(Token {
+        kind: Kind::End,
+        at: text.len(),
+        origin: None,
+    })?;
+    let Reader {
+        alloc: _,
+        names,
+        spelled: _,
+        macros: _,
+        hidden: _,
+        left: _,
+        tokens,
+    } = reader;
+    Ok(Tokens { tokens, names })
+}
+
+/// The line that a definition of a command line stands for.
+fn line_of(alloc: Global, definition: &str) -> Result<Vec<u8>, AllocError> {
+    let (name, value) = match definition.split_once('=') {
+        Some(found) => found,
+        None => (definition, "1"),
+    };
+    let mut line = Vec::new(alloc);
+    for part in ["#define ", name, " ", value, "\n"] {
+        line.extend_from_slice(part.as_bytes())?;
+    }
+    Ok(line)
+}
+
+/// What is defined before the text begins: of the compiler and of headers that are known.
+const PREDEFINED: &str = "\
+#define NULL ((void*)0)
+#define RAND_MAX 2147483647
+#define INT_MAX 2147483647
+#define INT_MIN (-2147483647-1)
+#define UINT_MAX 4294967295U
+#define LONG_MAX 9223372036854775807L
+#define LONG_MIN (-9223372036854775807L-1)
+#define ULONG_MAX 18446744073709551615UL
+#define CHAR_BIT 8
+#define CHAR_MAX 127
+#define SHRT_MAX 32767
+#define LLONG_MAX 9223372036854775807LL
+#define ULLONG_MAX 18446744073709551615ULL
+#define UINT64_MAX 18446744073709551615UL
+#define INT64_MAX 9223372036854775807L
+#define INT64_MIN (-9223372036854775807L-1)
+#define UINT32_MAX 4294967295U
+#define INT32_MAX 2147483647
+#define SIZE_MAX 18446744073709551615UL
+#define EXIT_SUCCESS 0
+#define EXIT_FAILURE 1
+#define PRIu64 \"lu\"
+#define PRId64 \"ld\"
+#define PRIx64 \"lx\"
+#define PRIu32 \"u\"
+#define PRId32 \"d\"
+#define UINT64_C(x) x##UL
+#define INT64_C(x) x##L
+#define bool _Bool
+#define true 1
+#define false 0
+#define _OPENMP 202111
+#define __STDC__ 1
+#define __STDC_VERSION__ 201112L
+#define DBL_MAX 1.7e308
+#define DBL_MIN 2.2e-308
+#define DBL_EPSILON 2.2e-16
+#define FLT_MAX 3.4e38f
+#define FLT_EPSILON 1.2e-7f
+#define HUGE_VAL 1e999
+#define INFINITY 1e999
+#define stderr ((FILE*)1)
+#define stdout ((FILE*)1)
+#define stdin ((FILE*)1)
+#define M_PI 3.14159265358979323846
+#define CLOCK_REALTIME 0
+#define CLOCK_MONOTONIC 1
+#define CLOCKS_PER_SEC 1000000L
+#define __func__ \"function\"
+#define __FUNCTION__ \"function\"
+#define __FILE__ \"file\"
+#define __LINE__ 0
+#define __restrict restrict
+#define __restrict__ restrict
+#define __inline inline
+#define __inline__ inline
+#define __volatile__ volatile
+#define __const const
+#define __extension__
+";

@@ -1,0 +1,15 @@
+-- What the code's values stand for.
+use Rattle.std.specs.Prelude.{ℕ, List, map, string_bytes}
+use Rattle.ot_diagnosis.specs.Diagnoses as d
+use Rattle.ot_diagnosis.specs.declared.diagnosis.Turn.{Turn}
+use Rattle.ot_diagnosis.specs.declared.diagnosis.Remark.{Remark}
+use Rattle.ot_diagnosis.specs.declared.diagnosis.Diagnosis.{Diagnosis}
+
+abbrev pub turn_by : Turn → List ℕ × ℕ
+turn_by turn = (string_bytes turn.name, turn.number)
+
+abbrev pub remark_by : Remark → d.Remark
+remark_by r = record { place = r.place; turns = map turn_by r.turns.items; message = string_bytes r.message }
+
+abbrev pub diagnosis_by : Diagnosis → d.Diagnosis
+diagnosis_by one = record { severity = one.severity; code = one.code; told = remark_by one.told; notes = map remark_by one.notes.items }

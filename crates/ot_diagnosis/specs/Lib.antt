@@ -1,0 +1,11 @@
+pub mod Diagnoses
+pub mod DiagnosisView
+pub mod Codes
+pub mod Pictures
+pub mod Texts
+pub mod Values
+pub mod Escapes
+pub mod Sarif
+pub mod Annotations
+pub mod Formats
+pub mod Summaries

@@ -1,0 +1,93 @@
+//! What is found in a file.
+ghost use Rattle.std.specs.Prelude.{◌≡◌, ◌≤◌, length};
+ghost use Rattle.ot_diagnosis.specs.Diagnoses.{place_in};
+
+use ot_file::{Position, Positions, position_of};
+
+/// How much is wrong.
+#[derive(Clone, Copy, Debug, PartialEq, Eq)]
+pub enum Severity {
+    /// What is told is wrong.
+    Error,
+    /// What is told is good to know.
+    Note,
+}
+
+/// What kind of thing is told.
+#[derive(Clone, Copy, Debug, PartialEq, Eq)]
+pub enum Code {
+    /// Two touches race.
+    Race,
+    /// More races than are told.
+    MoreRaces,
+    /// The file isn't judged.
+    Outside,
+    /// Of the file only the run was judged.
+    OnlyRun,
+    /// A server refuses a program, by this code.
+    Refused(u32),
+    /// A server answers a request by this code.
+    Answered(u32),
+    /// A request has too many bytes.
+    Long,
+    /// The log has no room for a request.
+    Full,
+}
+
+/// A byte of a file, by how many stand before it, and its line and column.
+#[derive(Clone, Copy, Debug, PartialEq, Eq)]
+pub struct Place {
+    pub byte: usize,
+    pub position: Position,
+}
+
+impl Place {
+    /// The byte of a text that has so many before it, or the one behind the text.
+    pub fn at(text: &[u8], byte: usize) -> Place
+        ensures { result ≡ place_in text.now byte }
+    {
+        Place {
+            byte,
+            position: position_of(text, byte.min(text.len())),
+        }
+    }
+
+    /// The same of a text whose positions are asked for one after another.
+    pub fn among(positions: &mut Positions<'_>, byte: usize) -> Place
+        requires { byte ≤ length positions.old }
+        ensures place { result ≡ place_in positions.old byte }
+        ensures text { positions.new ≡ positions.old }
+    {
+        Place {
+            byte,
+            position: positions.position_of(byte),
+        }
+    }
+}
+
+/// A loop's variable, and its number in one turn.
+#[derive(Debug, Drop)]
+pub struct Turn {
+    pub name: String,
+    pub number: u64,
+}
+
+/// What is said of a place in a file, or of the file.
+#[derive(Debug, Drop)]
+pub struct Remark {
+    /// None where it is said of the whole file.
+    pub place: Option<Place>,
+    /// The turns of the loops around the place, the outermost first.
+    pub turns: Vec<Turn>,
+    pub message: String,
+}
+
+/// What is found in a file.
+#[derive(Debug, Drop)]
+pub struct Diagnosis {
+    pub severity: Severity,
+    pub code: Code,
+    pub told: Remark,
+    /// What else is said of it.
+    pub notes: Vec<Remark>,
+}

@@ -1,0 +1,2 @@
+pub mod OpenRaces
+pub mod Kinds

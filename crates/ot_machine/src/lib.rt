@@ -1,0 +1,18 @@
+//! The machine that executes code, and notes what its tasks do with cells.
+#![tactic(auto)]
+
+mod calls;
+mod cells;
+mod faults;
+mod machine;
+mod run;
+mod step;
+mod tasks;
+mod telling;
+mod ways;
+
+pub use faults::{Met, first_fault};
+pub use ot_state::{Context, Entered, Fault, Limits, Object, Reason, Row, Value};
+pub use run::{Run, run_code};
+pub use telling::contexts_of;
+pub use ways::Ways;

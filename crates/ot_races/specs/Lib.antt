@@ -1,0 +1,2 @@
+pub mod AllRaces
+pub mod Found

@@ -1,0 +1,61 @@
+-- What clauses name.
+use Rattle.std.specs.Prelude.{ℕ, suc, ◌++◌, nat_le, List, [], ◌∷◌, length, slice_set, if◌then◌else◌, Option, Some, None, Result, Ok, Err}
+use Rattle.std.specs.List.{insert}
+use Rattle.ot_code.specs.declared.form.Folded.{Folded}
+use Rattle.ot_code.specs.declared.form.Item.{Item}
+use Rattle.ot_model.specs.Cells.{is_before, same_cell}
+use Rattle.ot_model.specs.declared.expr.Cell.{Cell}
+use Rattle.ot_model.specs.declared.stmt.Mode.{Mode}
+use Rattle.ot_model.specs.declared.stmt.Mode.TheVariants.{Reads, Writes}
+use Rattle.ot_model.specs.declared.stmt.Use.{Use}
+use Rattle.ot_parts.specs.Modes.{use_as}
+use Rattle.ot_state.specs.Results.{◌>>=◌, each}
+use Rattle.ot_state.specs.Memory.{Memory, cell, span_at}
+use Rattle.ot_state.specs.Nest.{part}
+use Rattle.ot_state.specs.Slots.{Slots, read}
+use Rattle.ot_state.specs.declared.fault.Reason.{Reason}
+use Rattle.ot_state.specs.declared.fault.Reason.TheVariants.{TooManyItems}
+use Rattle.ot_state.specs.declared.limits.Limits.{Limits}
+use Rattle.ot_state.specs.declared.nest.Part.{Part}
+
+-- how a task depends by a cell that two items name
+abbrev pub both : Mode → Mode → Mode
+both Reads Reads = Reads
+both one other = Writes
+
+-- a declaration with one use more: cells stay in order, each once
+abbrev pub with_use : Use → List Use → List Use
+with_use u [] = u ∷ []
+with_use u (v ∷ vs) =
+    if is_before v.cell u.cell then v ∷ with_use u vs
+    else (if same_cell v.cell u.cell then use_as (both v.mode u.mode) v.cell ∷ vs else u ∷ v ∷ vs)
+
+-- how many of its uses stand before a cell
+abbrev pub before : Cell → List Use → ℕ
+before c [] = 0
+before c (v ∷ vs) = if is_before v.cell c then suc (before c vs) else 0
+
+-- a declaration with one use more, before which so many stand, where this one may be of its cell
+abbrev pub placed : Use → List Use → ℕ → Option Use → List Use
+placed u us n None = insert us n u
+placed u us n (Some v) = if same_cell v.cell u.cell then slice_set us n (use_as (both v.mode u.mode) v.cell) else insert us n u
+
+-- a declaration with one item more: the cell where it begins
+unfoldable pub with_item : Slots → Memory → Item → List Use → Result (List Use) Reason
+with_item s m i us = do
+  p ← read s i.slot
+  c ← span_at m p 1
+  Ok (with_use (use_as i.mode (cell c.object c.index)) us)
+
+unfoldable pub items_of : Limits → Slots → Memory → List Item → Result (List Use) Reason
+items_of l s m is = if nat_le (length is) l.items then each (with_item s m) is [] else Err TooManyItems
+
+-- an item more of a region's reductions, with its cells
+unfoldable pub with_part : Slots → Memory → Folded → List Part → Result (List Part) Reason
+with_part s m x ps = do
+  p ← read s x.slot
+  c ← span_at m p x.cells
+  Ok (ps ++ part x.fold c ∷ [])
+
+unfoldable pub parts_of : Limits → Slots → Memory → List Folded → Result (List Part) Reason
+parts_of l s m xs = if nat_le (length xs) l.items then each (with_part s m) xs [] else Err TooManyItems

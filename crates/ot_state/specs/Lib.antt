@@ -1,0 +1,9 @@
+pub mod Results
+pub mod Values
+pub mod Slots
+pub mod Memory
+pub mod Trail
+pub mod Nest
+pub mod Clauses
+pub mod View
+pub mod Laws

@@ -1,0 +1,25 @@
+ghost use Rattle.std.specs.Prelude.{◌≡◌};
+ghost use Rattle.ot_state.specs.Values.{is_unknown};
+
+/// What a slot or a cell has.
+#[derive(Clone, Copy, Debug, PartialEq, Eq)]
+pub enum Value {
+    /// A number of some integer type, kept in 64 bits.
+    Number(u64),
+    /// The place of an object at an index, as two's complement has it: it may lie outside, where nothing may be touched.
+    Pointer(u32, u64),
+    /// A place somewhere in an object.
+    Within(u32),
+    /// A function, by its number.
+    Function(u32),
+    Unknown,
+}
+
+pub fn is_unknown(value: Value) -> bool
+    ensures { result ≡ is_unknown value }
+{
+    match value {
+        Value::Unknown => true,
+        Value::Number(_) | Value::Pointer(_, _) | Value::Within(_) | Value::Function(_) => false,
+    }
+}
