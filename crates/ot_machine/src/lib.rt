@@ -4,6 +4,7 @@
 mod calls;
 mod cells;
 mod faults;
+mod locks;
 mod machine;
 mod run;
 mod step;

@@ -89,7 +89,7 @@ impl Machine {
         self.begin_task(alloc, limits, it.site, Decl::new(uses))
     }
 
-    /// The next task begins, which declares this.
+    /// The next task begins, which declares this, and holds no lock.
     #[tactic(auto, unfolding(crate::specs::Steps::beginning_task))]
     fn begin_task(
         &mut self,
@@ -109,7 +109,8 @@ impl Machine {
         self.tasks = task;
         self.trail.by_task(task, context);
         self.trail
-            .note(limits, site, Did::Begins(parent, decl), Vec::new(alloc))?;
+            .note(limits, site, 0, Did::Begins(parent, decl), Vec::new(alloc))?;
+        self.locks.held = 0;
         Ok(())
     }
 
@@ -124,7 +125,7 @@ impl Machine {
             Kept::AtOnce(site, object) => {
                 let decl = only_read(alloc, object)?;
                 self.trail
-                    .note(limits, site, Did::Awaits(Some(decl)), Vec::new(alloc))?;
+                    .note(limits, site, 0, Did::Awaits(Some(decl)), Vec::new(alloc))?;
                 Ok(())
             }
         }
@@ -136,6 +137,7 @@ impl Machine {
     {
         let frame = self.nest.close()?;
         self.resume(frame);
+        self.hold_again(frame.held);
         self.await_it(alloc, limits, frame.kept)
     }
 
@@ -144,7 +146,7 @@ impl Machine {
         ensures { Gives (λ _. state_of self.new) result (waiting limits site (state_of self.old)) }
     {
         self.trail
-            .note(limits, site, Did::Awaits(None), Vec::new(alloc))?;
+            .note(limits, site, 0, Did::Awaits(None), Vec::new(alloc))?;
         Ok(())
     }
 
@@ -162,6 +164,7 @@ impl Machine {
         self.trail.note(
             limits,
             site,
+            0,
             Did::Awaits(Some(Decl::new(uses))),
             Vec::new(alloc),
         )?;

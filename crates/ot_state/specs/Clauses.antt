@@ -1,6 +1,8 @@
 -- What clauses name.
 use Rattle.std.specs.Prelude.{ℕ, suc, ◌++◌, nat_le, List, [], ◌∷◌, length, slice_set, if◌then◌else◌, Option, Some, None, Result, Ok, Err}
 use Rattle.std.specs.List.{insert}
+use Rattle.ot_code.specs.declared.form.Depends.{Depends}
+use Rattle.ot_code.specs.declared.form.Depends.TheVariants.{In, InOut, MutexInOutSet, InOutSet}
 use Rattle.ot_code.specs.declared.form.Folded.{Folded}
 use Rattle.ot_code.specs.declared.form.Item.{Item}
 use Rattle.ot_model.specs.Cells.{is_before, same_cell}
@@ -17,6 +19,13 @@ use Rattle.ot_state.specs.declared.fault.Reason.{Reason}
 use Rattle.ot_state.specs.declared.fault.Reason.TheVariants.{TooManyItems}
 use Rattle.ot_state.specs.declared.limits.Limits.{Limits}
 use Rattle.ot_state.specs.declared.nest.Part.{Part}
+
+-- how an item is told by what a task declares
+abbrev pub mode_of : Depends → Mode
+mode_of In = Reads
+mode_of InOut = Writes
+mode_of MutexInOutSet = Reads
+mode_of InOutSet = Reads
 
 -- how a task depends by a cell that two items name
 abbrev pub both : Mode → Mode → Mode
@@ -45,7 +54,7 @@ unfoldable pub with_item : Slots → Memory → Item → List Use → Result (Li
 with_item s m i us = do
   p ← read s i.slot
   c ← span_at m p 1
-  Ok (with_use (use_as i.mode (cell c.object c.index)) us)
+  Ok (with_use (use_as (mode_of i.mode) (cell c.object c.index)) us)
 
 unfoldable pub items_of : Limits → Slots → Memory → List Item → Result (List Use) Reason
 items_of l s m is = if nat_le (length is) l.items then each (with_item s m) is [] else Err TooManyItems

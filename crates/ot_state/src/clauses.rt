@@ -3,16 +3,26 @@ ghost use Rattle.std.specs.Prelude.{◌≡◌, ◌≤◌, length, Ok, IfOk};
 ghost use Rattle.ot_model.specs.Cells.{AreInOrder};
 ghost use Rattle.ot_state.specs.Results.{Gives, each};
 ghost use Rattle.ot_state.specs.View.{slots_of, memory_of};
-ghost use Rattle.ot_state.specs.Clauses.{both, before, with_use, with_item, items_of, with_part, parts_of};
+ghost use Rattle.ot_state.specs.Clauses.{mode_of, both, before, with_use, with_item, items_of, with_part, parts_of};
 
 use crate::fault::{Halt, Reason};
 use crate::limits::Limits;
 use crate::memory::Memory;
 use crate::nest::Part;
 use crate::slots::Slots;
-use ot_code::{Folded, Item};
+use ot_code::{Depends, Folded, Item};
 use ot_model::{Cell, Decl, Mode, Use};
 use std::alloc::Global;
+
+/// How an item is told by what a task declares.
+fn mode_of(depends: Depends) -> Mode
+    ensures { result ≡ mode_of depends }
+{
+    match depends {
+        Depends::InOut => Mode::Writes,
+        Depends::In | Depends::MutexInOutSet | Depends::InOutSet => Mode::Reads,
+    }
+}
 
 /// How a task depends by a cell that two items name.
 fn both(one: Mode, other: Mode) -> Mode
@@ -101,7 +111,7 @@ fn add_item(slots: &Slots, memory: &Memory, item: Item, uses: &mut Vec<Use>) -> 
         uses,
         Use {
             cell,
-            mode: item.mode,
+            mode: mode_of(item.mode),
         },
     )
 }

@@ -18,6 +18,8 @@ pub struct Limits {
     pub objects: u32,
     /// The cells of all objects that there have been.
     pub members: u32,
+    /// How many locks there are, and how many sets of them that tasks hold.
+    pub locks: u32,
 }
 
 impl Limits {
@@ -34,6 +36,7 @@ impl Limits {
             contexts: 1 << 22,
             objects: 1 << 22,
             members: 1 << 24,
+            locks: 1 << 10,
         }
     }
 }
