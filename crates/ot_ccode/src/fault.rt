@@ -43,6 +43,8 @@ pub enum Why {
     /// A function of the library that isn't modelled.
     Library,
     Atomic,
+    /// A form of `atomic` that isn't translated.
+    AtomicForm,
     Threadprivate,
     Initial,
     /// No function begins the run.
@@ -136,6 +138,7 @@ fn words(why: Why) -> &'static str {
         Why::Arguments => "too few arguments",
         Why::Library => "this function of the library isn't executed yet",
         Why::Atomic => "`_Atomic` isn't executed yet",
+        Why::AtomicForm => "this form of `atomic` isn't executed yet",
         Why::Threadprivate => "`threadprivate` isn't executed yet",
         Why::Initial => "this initial value isn't executed yet",
         Why::NoEntry => "no function begins the run",
