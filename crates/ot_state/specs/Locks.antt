@@ -1,5 +1,5 @@
 -- Locks that tasks hold. Each has a number, and so has each set of them that a task held.
-use Rattle.std.specs.Prelude.{ℕ, suc, ◌+◌, ◌++◌, ◌==◌, nat_lt, Bool, true, false, not, ◌&&◌, List, [], ◌∷◌, length, filter, get_or, if◌then◌else◌, Result, Ok, Err}
+use Rattle.std.specs.Prelude.{ℕ, suc, ◌+◌, ◌++◌, ◌==◌, nat_lt, nat_le, Bool, true, false, not, ◌&&◌, List, [], ◌∷◌, length, filter, get_or, if◌then◌else◌, Result, Ok, Err}
 use Rattle.std.specs.List.{list_any}
 use Rattle.ot_state.specs.Results.{◌>>=◌}
 use Rattle.ot_state.specs.declared.fault.Reason.{Reason}
@@ -59,7 +59,7 @@ without n ns = filter (λ m. not (m == n)) ns
 
 abbrev pub same_set : List ℕ → List ℕ → Bool
 same_set [] [] = true
-same_set (a ∷ as) (b ∷ bs) = a == b && same_set as bs
+same_set (n ∷ ns) (m ∷ ms) = n == m && same_set ns ms
 same_set one other = false
 
 -- how many sets stand before it
@@ -77,7 +77,7 @@ own s = get_or s.sets s.held []
 -- it holds these
 unfoldable pub holding : Limits → List ℕ → Locks → Result Locks Reason
 holding l ns s =
-    if nat_lt (set_place ns s.sets) l.locks then Ok (locks s.known (with_set ns s.sets) (set_place ns s.sets) s.taken) else Err TooManyLocks
+    if nat_le (length ns) l.held && nat_lt (set_place ns s.sets) l.locks then Ok (locks s.known (with_set ns s.sets) (set_place ns s.sets) s.taken) else Err TooManyLocks
 
 -- it goes on with the set of this number
 abbrev pub with_held : ℕ → Locks → Locks

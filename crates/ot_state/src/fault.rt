@@ -39,7 +39,7 @@ pub enum Reason {
     /// Too many events, or they name too many cells.
     TooManyEvents,
     TooManyTasks,
-    /// Too many locks, or sets of them.
+    /// Too many locks, or sets of them, or a task holds too many.
     TooManyLocks,
     /// Too many calls and turns of loops.
     TooManyTurns,

@@ -20,6 +20,8 @@ pub struct Limits {
     pub members: u32,
     /// How many locks there are, and how many sets of them that tasks hold.
     pub locks: u32,
+    /// How many a task holds at once.
+    pub held: u32,
 }
 
 impl Limits {
@@ -36,7 +38,8 @@ impl Limits {
             contexts: 1 << 22,
             objects: 1 << 22,
             members: 1 << 24,
-            locks: 1 << 10,
+            locks: 512,
+            held: 16,
         }
     }
 }

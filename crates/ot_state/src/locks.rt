@@ -149,6 +149,9 @@ impl Locks {
     fn hold(&mut self, limits: Limits, set: Vec<u32>) -> Result<(), Halt>
         ensures { Gives (λ _. locks_of self.new) result (holding limits set.items (locks_of self.old)) }
     {
+        if set.len() > limits.held as usize {
+            return Err(Halt::For(Reason::TooManyLocks));
+        }
         let place = set_place(&self.sets, &set);
         if place >= limits.locks as usize {
             return Err(Halt::For(Reason::TooManyLocks));
