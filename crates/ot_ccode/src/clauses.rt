@@ -30,12 +30,12 @@ pub(crate) fn fold_of(reducing: Reducing) -> Fold {
     }
 }
 
-fn mode_of(at: u32, dependence: Dependence) -> Result<Depends, Fault> {
+fn mode_of(dependence: Dependence) -> Depends {
     match dependence {
-        Dependence::In => Ok(Depends::In),
-        Dependence::Out | Dependence::Inout => Ok(Depends::InOut),
-        // mutexinoutset and inoutset come here
-        other => Err(Fault::Refused(at, Why::Dependence(other))),
+        Dependence::In => Depends::In,
+        Dependence::Out | Dependence::Inout => Depends::InOut,
+        Dependence::Mutexinoutset => Depends::MutexInOutSet,
+        Dependence::Inoutset => Depends::InOutSet,
     }
 }
 
@@ -172,7 +172,7 @@ impl<'a> Maker<'a> {
     pub(crate) fn dependences(&mut self, clauses: &[Clause]) -> Result<(), Fault> {
         for clause in clauses {
             if let Role::Depend(dependence) = clause.role {
-                let mode = mode_of(clause.at, dependence)?;
+                let mode = mode_of(dependence);
                 match clause.iterators.as_slice() {
                     [] => self.dependence(mode, clause.items.as_slice())?,
                     [iterator] => self.iterated(

@@ -67,7 +67,7 @@ run code l answers (suc steps) asked s = goes_on (run code l answers steps) (nex
 unfoldable pub beginning : Code → Limits → Step
 beginning code l = do
   own ← enter l (slots 0 []) 0 code.slots
-  Ok (state 0 own (memory [] []) (trail 0 0 (context 0 0 entered.Run ∷ []) [] [] [] 0) (nest [] [] []) no_locks 0 false)
+  Ok (state 0 own (memory [] []) (trail 0 0 (context 0 0 entered.Run ∷ []) [] [] [] 0) (nest [] [] []) no_locks [] 0 false)
 
 abbrev pub run_from : Code → Limits → (ℕ → Bool) → Step → Reached
 run_from code l answers (Ok s) = run code l answers l.steps 0 s

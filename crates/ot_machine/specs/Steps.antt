@@ -1,29 +1,35 @@
 -- What each form makes of a state, whose next form is already that behind it.
 use Rattle.std.specs.Prelude.{ℕ, ◌+◌, ◌-◌, ◌*◌, ◌==◌, nat_lt, nat_le, Bool, true, false, not, List, [], ◌∷◌, length, Option, Some, None, slice_get, if◌then◌else◌, Result, Ok, Err}
 use Rattle.ot_code.specs.declared.form.Code.{Code}
+use Rattle.ot_code.specs.declared.form.Depends.{Depends}
+use Rattle.ot_code.specs.declared.form.Depends.TheVariants.{MutexInOutSet}
 use Rattle.ot_code.specs.declared.form.Folded.{Folded}
 use Rattle.ot_code.specs.declared.form.Form.{Form}
 use Rattle.ot_code.specs.declared.form.Form.TheVariants as f
 use Rattle.ot_code.specs.declared.form.Item.{Item}
 use Rattle.ot_code.specs.declared.kind.Kind.{Kind}
 use Rattle.ot_code.specs.declared.operation.Operation.{Operation}
+use Rattle.ot_model.specs.declared.expr.Cell.{Cell}
 use Rattle.ot_model.specs.declared.fold.Fold.{Fold}
 use Rattle.ot_model.specs.declared.stmt.Mode.TheVariants.{Reads, Writes}
 use Rattle.ot_model.specs.declared.stmt.Use.{Use}
 use Rattle.ot_parts.specs.Modes.{use_as}
 use Rattle.ot_race.specs.Events.{Begins, Awaits}
-use Rattle.ot_state.specs.Results.{◌>>=◌, found}
+use Rattle.ot_state.specs.Results.{◌>>=◌, found, each}
 use Rattle.ot_state.specs.Values.{is_unknown, is_so, combined, converted, advanced, distance}
+use Rattle.ot_state.specs.Siblings.{mode_at, turns, behind}
 use Rattle.ot_state.specs.Slots.{Slots, slots, read, put, enter}
 use Rattle.ot_state.specs.Memory.{Memory, cell, count_of, span_of, span_at, taken, kept, filled, begun, finished}
 use Rattle.ot_state.specs.Trail.{note, touch, charged, leaves, enters, within, by_task}
-use Rattle.ot_state.specs.Locks.{with_held, has, taking, giving_back}
+use Rattle.ot_state.specs.Locks.{Locks, with_held, has, adding, holding, taking, giving_back}
 use Rattle.ot_state.specs.Nest.{Nest, frame, opened, closed, grouped, ungrouped, joins}
 use Rattle.ot_state.specs.Clauses.{with_use, items_of, parts_of}
 use Rattle.ot_machine.specs.State.{State, state, with_slots, with_trail, with_locks, from}
 use Rattle.ot_state.specs.declared.fault.Reason.{Reason}
 use Rattle.ot_state.specs.declared.fault.Reason.TheVariants.{Broken, Null, Changes, NoFunction, NoGroup, UnknownCondition, UnknownLength, TooManyTasks, TooMuch}
 use Rattle.ot_state.specs.declared.limits.Limits.{Limits}
+use Rattle.ot_state.specs.declared.locks.Lock.{Lock}
+use Rattle.ot_state.specs.declared.locks.Lock.TheVariants.{ByItem}
 use Rattle.ot_state.specs.declared.memory.Span.{Span}
 use Rattle.ot_state.specs.declared.nest.Frame.{Frame}
 use Rattle.ot_state.specs.declared.nest.Kept.{Kept}
@@ -97,7 +103,7 @@ unfoldable pub beginning : Limits → ℕ → ℕ → ℕ → Bool → State →
 beginning l to count name zero s = do
   m ← begun l count (first_value zero) name s.memory
   slots ← put s.slots to (Pointer m.0 0)
-  Ok (state s.at slots m.1 s.trail s.nest s.locks s.tasks s.ended)
+  Ok (state s.at slots m.1 s.trail s.nest s.locks s.siblings s.tasks s.ended)
 
 unfoldable pub allocating : Limits → ℕ → ℕ → ℕ → ℕ → Bool → State → Step
 allocating l to name r cells zero s = do
@@ -111,7 +117,7 @@ ending l site r s = do
   x ← read s.slots r
   m ← finished s.memory x
   trail ← touch l site 0 Writes m.0 s.trail
-  Ok (state s.at s.slots m.1 trail s.nest s.locks s.tasks s.ended)
+  Ok (state s.at s.slots m.1 trail s.nest s.locks s.siblings s.tasks s.ended)
 
 -- ---- locks
 
@@ -165,7 +171,7 @@ storing code l site r other s = do
   there ← written code s.memory s.locks.held span (kept place x)
   trail ← touch l site s.locks.held Writes span s.trail
   memory ← filled s.memory span there
-  Ok (state s.at s.slots memory trail s.nest s.locks s.tasks s.ended)
+  Ok (state s.at s.slots memory trail s.nest s.locks s.siblings s.tasks s.ended)
 
 unfoldable pub loading_own : ℕ → ℕ → State → Step
 loading_own to r s = do
@@ -181,7 +187,7 @@ storing_own l r other s = do
   span ← span_of s.memory place 1
   trail ← charged l (count_of span - 1) s.trail
   memory ← filled s.memory span (kept place x)
-  Ok (state s.at s.slots memory trail s.nest s.locks s.tasks s.ended)
+  Ok (state s.at s.slots memory trail s.nest s.locks s.siblings s.tasks s.ended)
 
 unfoldable pub reading_range : Limits → ℕ → ℕ → ℕ → State → Step
 reading_range l site r other s = do
@@ -201,7 +207,7 @@ writing_range code l site r other s = do
   there ← written code s.memory s.locks.held span Unknown
   trail ← touch l site s.locks.held Writes span s.trail
   memory ← filled s.memory span there
-  Ok (state s.at s.slots memory trail s.nest s.locks s.tasks s.ended)
+  Ok (state s.at s.slots memory trail s.nest s.locks s.siblings s.tasks s.ended)
 
 -- ---- where the run goes on
 
@@ -225,7 +231,7 @@ calling code l site k first s = do
   n ← opened l (frame_here s.at kept_as.Call s) s.nest
   slots ← enter l s.slots first it.slots
   trail ← enters l site entered.Call s.trail
-  Ok (state it.start slots s.memory trail n s.locks s.tasks s.ended)
+  Ok (state it.start slots s.memory trail n s.locks s.siblings s.tasks s.ended)
 
 unfoldable pub calling_by : Code → Limits → ℕ → ℕ → ℕ → State → Step
 calling_by code l site r first s = do
@@ -235,7 +241,7 @@ calling_by code l site r first s = do
 
 -- what goes on where a frame ends
 abbrev pub resumed : State → ℕ → ℕ → ℕ → ℕ → Nest → State
-resumed s back base task context n = state back (slots base s.slots.values) s.memory (by_task task context s.trail) n s.locks s.tasks s.ended
+resumed s back base task context n = state back (slots base s.slots.values) s.memory (by_task task context s.trail) n s.locks s.siblings s.tasks s.ended
 
 abbrev pub is_call : Kept → Bool
 is_call kept_as.Call = true
@@ -262,21 +268,64 @@ apart l site true uses m = do
   o ← begun l 0 Unknown 0 m
   Ok ((with_use (use_as Writes (cell o.0 0)) uses, kept_as.AtOnce site o.0), o.1)
 
--- the next task begins, and holds no lock
+-- the next task begins
 unfoldable pub beginning_task : Limits → ℕ → List Use → State → Step
 beginning_task l site uses s = do
   tasks ← if nat_lt s.tasks l.tasks then Ok (s.tasks + 1) else Err TooManyTasks
   trail ← note l site 0 (Begins s.trail.task uses) [] (by_task tasks s.trail.context s.trail)
-  Ok (state s.at s.slots s.memory trail s.nest (with_held 0 s.locks) tasks s.ended)
+  Ok (state s.at s.slots s.memory trail s.nest s.locks s.siblings tasks s.ended)
 
-unfoldable pub tasking : Limits → ℕ → ℕ → ℕ → ℕ → List Item → Option ℕ → Bool → State → Step
-tasking l site first count behind items when answer s = do
-  uses ← items_of l s.slots s.memory items
+-- an empty child that writes a cell stands between siblings that name it
+unfoldable pub parting : Limits → ℕ → Cell → State → Step
+parting l site c s = do
+  t ← beginning_task l site (use_as Writes c ∷ []) s
+  Ok (with_trail t (by_task s.trail.task s.trail.context t.trail))
+
+unfoldable pub parting_where : Bool → Limits → ℕ → Cell → State → Step
+parting_where true l site c s = parting l site c s
+parting_where false l site c s = Ok s
+
+-- the locks of a child that excludes its siblings by an item
+unfoldable pub excluding : Limits → Depends → Lock → List ℕ → Locks → Result (List ℕ × Locks) Reason
+excluding l MutexInOutSet x ns locks = adding l x ns locks
+excluding l mode x ns locks = Ok (ns, locks)
+
+-- behind a child that depends by a cell so, and holds these locks besides
+unfoldable pub siding_at : Limits → ℕ → Depends → Cell → State × List ℕ → Result (State × List ℕ) Reason
+siding_at l site mode c p = do
+  s ← parting_where (turns mode (mode_at p.0.trail.task c p.0.siblings)) l site c p.0
+  siblings ← behind l s.trail.task c mode s.siblings
+  locks ← excluding l mode (ByItem s.trail.task c.array c.index) p.1 s.locks
+  Ok (state s.at s.slots s.memory s.trail s.nest locks.1 siblings s.tasks s.ended, locks.0)
+
+-- by an item
+unfoldable pub siding : Limits → ℕ → Item → State × List ℕ → Result (State × List ℕ) Reason
+siding l site i p = do
+  place ← read p.0.slots i.slot
+  c ← span_at p.0.memory place 1
+  siding_at l site i.mode (cell c.object c.index) p
+
+-- it begins with locks of its items alone
+unfoldable pub holding_own : Limits → List ℕ → State → Step
+holding_own l ns s = do
+  locks ← holding l ns s.locks
+  Ok (with_locks s locks)
+
+-- a task begins that declares this, and holds these locks
+unfoldable pub opening : Limits → ℕ → ℕ → ℕ → ℕ → List Use → Option ℕ → Bool → State → List ℕ → Step
+opening l site first count back uses when answer s ns = do
   now ← at_once s.slots when answer
   own ← apart l site now uses s.memory
-  n ← opened l (frame_here behind own.0.1 s) s.nest
+  n ← opened l (frame_here back own.0.1 s) s.nest
   slots ← enter l s.slots first count
-  beginning_task l site own.0.0 (state s.at slots own.1 s.trail n s.locks s.tasks s.ended)
+  t ← holding_own l ns (state s.at slots own.1 s.trail n s.locks s.siblings s.tasks s.ended)
+  beginning_task l site own.0.0 t
+
+unfoldable pub tasking : Limits → ℕ → ℕ → ℕ → ℕ → List Item → Option ℕ → Bool → State → Step
+tasking l site first count back items when answer s = do
+  uses ← items_of l s.slots s.memory None s.siblings items
+  sided ← each (siding l site) items (s, [])
+  opening l site first count back uses when answer sided.0 sided.1
 
 -- the parent of a task that was undeferred awaits it
 unfoldable pub awaiting : Limits → Kept → State → Step
@@ -302,7 +351,7 @@ waiting l site s = do
 
 unfoldable pub waiting_for : Limits → ℕ → List Item → State → Step
 waiting_for l site items s = do
-  uses ← items_of l s.slots s.memory items
+  uses ← items_of l s.slots s.memory (Some s.trail.task) s.siblings items
   trail ← note l site 0 (Awaits (Some uses)) [] s.trail
   Ok (with_trail s trail)
 
@@ -312,13 +361,13 @@ unfoldable pub grouping : Limits → List Folded → State → Step
 grouping l items s = do
   parts ← parts_of l s.slots s.memory items
   n ← grouped l (length s.trail.rows) parts s.nest
-  Ok (state s.at s.slots s.memory s.trail n s.locks s.tasks s.ended)
+  Ok (state s.at s.slots s.memory s.trail n s.locks s.siblings s.tasks s.ended)
 
 unfoldable pub leaving : Limits → ℕ → State → Step
 leaving l site s = do
   g ← ungrouped s.nest
   trail ← leaves l site g.0.0 g.0.1 s.trail
-  Ok (state s.at s.slots s.memory trail g.1 s.locks s.tasks s.ended)
+  Ok (state s.at s.slots s.memory trail g.1 s.locks s.siblings s.tasks s.ended)
 
 unfoldable pub joining : Fold → ℕ → State → Step
 joining fold r s = do
@@ -342,7 +391,7 @@ going_back l r s = do
   Ok (with_trail s trail)
 
 abbrev pub stopping : State → State
-stopping s = state s.at s.slots s.memory s.trail s.nest s.locks s.tasks true
+stopping s = state s.at s.slots s.memory s.trail s.nest s.locks s.siblings s.tasks true
 
 -- ---- all forms; the answer is that to the question that one asks
 

@@ -4,4 +4,4 @@ use Rattle.ot_machine.specs.State as states
 use Rattle.ot_machine.specs.declared.machine.Machine.{Machine}
 
 abbrev pub state_of : Machine → states.State
-state_of x = states.state x.at (slots_of x.slots) (memory_of x.memory) (trail_of x.trail) (nest_of x.nest) (locks_of x.locks) x.tasks x.ended
+state_of x = states.state x.at (slots_of x.slots) (memory_of x.memory) (trail_of x.trail) (nest_of x.nest) (locks_of x.locks) x.siblings.items x.tasks x.ended

@@ -7,6 +7,7 @@ mod faults;
 mod locks;
 mod machine;
 mod run;
+mod siblings;
 mod step;
 mod tasks;
 mod telling;

@@ -166,6 +166,7 @@ impl Machine {
                 parts: Vec::new(alloc),
             },
             locks,
+            siblings: Vec::new(alloc),
             tasks: 0,
             ended: false,
         })

@@ -2,7 +2,7 @@
 ghost use Rattle.std.specs.Prelude.{◌≡◌, IfOk};
 ghost use Rattle.ot_model.specs.Cells.{AreInOrder};
 ghost use Rattle.ot_state.specs.Results.{Gives};
-ghost use Rattle.ot_machine.specs.Steps.{at_once, apart, beginning_task, tasking, awaiting, finishing, waiting, waiting_for, grouping, leaving, joining};
+ghost use Rattle.ot_machine.specs.Steps.{at_once, apart, beginning_task, opening, tasking, awaiting, finishing, waiting, waiting_for, grouping, leaving, joining};
 ghost use Rattle.ot_machine.specs.View.{state_of};
 ghost use Rattle.ot_state.specs.View.{slots_of, memory_of};
 
@@ -80,18 +80,48 @@ impl Machine {
         ensures { Gives (λ _. state_of self.new) result
             (tasking limits it.entry.site it.entry.first it.entry.slots it.entry.behind it.entry.items.now.items it.entry.when answer (state_of self.old)) }
     {
-        let mut uses = items_of(alloc, limits, &self.slots, &self.memory, it.items)?;
+        let uses = items_of(
+            alloc,
+            limits,
+            &self.slots,
+            &self.memory,
+            None,
+            &self.siblings,
+            it.items,
+        )?;
+        let mut set = Vec::new(alloc);
+        self.side(alloc, limits, it.site, it.items, &mut set)?;
+        self.open(alloc, limits, it, uses, answer, set)
+    }
+
+    /// A task begins that declares this, and holds these locks.
+    #[tactic(auto, unfolding(crate::specs::Steps::opening))]
+    fn open(
+        &mut self,
+        alloc: Global,
+        limits: Limits,
+        it: Created<'_>,
+        declared: Vec<Use>,
+        answer: bool,
+        set: Vec<u32>,
+    ) -> Result<(), Halt>
+        requires { AreInOrder declared.items }
+        ensures { Gives (λ _. state_of self.new) result
+            (opening limits it.entry.site it.entry.first it.entry.slots it.entry.behind declared.items it.entry.when answer (state_of self.old) set.items) }
+    {
+        let mut uses = declared;
         let now = at_once(&self.slots, it.when, answer)?;
         let kept = apart(limits, it.site, now, &mut uses, &mut self.memory)?;
         let frame = self.frame(it.behind as usize, kept);
         self.nest.open(limits, frame)?;
         self.slots.enter(limits, it.first, it.slots)?;
+        self.hold_own(limits, set)?;
         self.begin_task(alloc, limits, it.site, Decl::new(uses))
     }
 
-    /// The next task begins, which declares this, and holds no lock.
+    /// The next task begins, which declares this.
     #[tactic(auto, unfolding(crate::specs::Steps::beginning_task))]
-    fn begin_task(
+    pub(crate) fn begin_task(
         &mut self,
         alloc: Global,
         limits: Limits,
@@ -108,9 +138,7 @@ impl Machine {
         let task = self.tasks + 1;
         self.tasks = task;
         self.trail.by_task(task, context);
-        self.trail
-            .note(limits, site, 0, Did::Begins(parent, decl), Vec::new(alloc))?;
-        self.locks.held = 0;
+        self.trail.note(limits, site, 0, Did::Begins(parent, decl), Vec::new(alloc))?;
         Ok(())
     }
 
@@ -160,7 +188,16 @@ impl Machine {
     ) -> Result<(), Halt>
         ensures { Gives (λ _. state_of self.new) result (waiting_for limits site items.now.items (state_of self.old)) }
     {
-        let uses = items_of(alloc, limits, &self.slots, &self.memory, items)?;
+        let task = self.trail.task;
+        let uses = items_of(
+            alloc,
+            limits,
+            &self.slots,
+            &self.memory,
+            Some(task),
+            &self.siblings,
+            items,
+        )?;
         self.trail.note(
             limits,
             site,

@@ -5,6 +5,7 @@ pub mod Memory
 pub mod Trail
 pub mod Nest
 pub mod Locks
+pub mod Siblings
 pub mod Clauses
 pub mod View
 pub mod Laws

@@ -1,5 +1,5 @@
 -- Locks that tasks hold. Each has a number, and so has each set of them that a task held.
-use Rattle.std.specs.Prelude.{ℕ, suc, ◌+◌, ◌++◌, ◌==◌, nat_lt, nat_le, Bool, true, false, not, ◌&&◌, List, [], ◌∷◌, length, filter, get_or, if◌then◌else◌, Result, Ok, Err}
+use Rattle.std.specs.Prelude.{ℕ, suc, ◌++◌, ◌==◌, nat_lt, nat_le, Bool, true, false, not, ◌&&◌, List, [], ◌∷◌, length, filter, get_or, if◌then◌else◌, Result, Ok, Err}
 use Rattle.std.specs.List.{list_any}
 use Rattle.ot_state.specs.Results.{◌>>=◌}
 use Rattle.ot_state.specs.declared.fault.Reason.{Reason}
@@ -78,6 +78,12 @@ own s = get_or s.sets s.held []
 unfoldable pub holding : Limits → List ℕ → Locks → Result Locks Reason
 holding l ns s =
     if nat_le (length ns) l.held && nat_lt (set_place ns s.sets) l.locks then Ok (locks s.known (with_set ns s.sets) (set_place ns s.sets) s.taken) else Err TooManyLocks
+
+-- a lock more in a set that no task holds yet
+unfoldable pub adding : Limits → Lock → List ℕ → Locks → Result (List ℕ × Locks) Reason
+adding l x ns s = do
+  n ← numbered l x s
+  Ok (if has n.0 ns then ns else ns ++ n.0 ∷ [], n.1)
 
 -- it goes on with the set of this number
 abbrev pub with_held : ℕ → Locks → Locks

@@ -1,7 +1,7 @@
 //! Locks that tasks hold.
 ghost use Rattle.std.specs.Prelude.{◌≡◌, map, Ok, IfOk};
 ghost use Rattle.ot_state.specs.Results.{Gives};
-ghost use Rattle.ot_state.specs.Locks.{named, same_lock, lock_place, with_lock, numbered, has, without, same_set, set_place, own, holding, taking, giving_back, no_locks};
+ghost use Rattle.ot_state.specs.Locks.{named, same_lock, lock_place, with_lock, numbered, has, without, same_set, set_place, own, adding, holding, taking, giving_back, no_locks};
 ghost use Rattle.ot_state.specs.View.{locks_of};
 
 use crate::fault::{Halt, Reason};
@@ -144,9 +144,21 @@ impl Locks {
         }
     }
 
+    /// A lock more in a set that no task holds yet.
+    #[tactic(auto, unfolding(crate::specs::Locks::adding))]
+    pub fn add(&mut self, limits: Limits, lock: Lock, set: &mut Vec<u32>) -> Result<(), Halt>
+        ensures { Gives (λ _. (set.new.items, locks_of self.new)) result (adding limits lock set.old.items (locks_of self.old)) }
+    {
+        let number = self.number(limits, lock)?;
+        if !has(set, number) {
+            set.push(number)?;
+        }
+        Ok(())
+    }
+
     /// It holds these.
     #[tactic(auto, unfolding(crate::specs::Locks::holding))]
-    fn hold(&mut self, limits: Limits, set: Vec<u32>) -> Result<(), Halt>
+    pub fn hold(&mut self, limits: Limits, set: Vec<u32>) -> Result<(), Halt>
         ensures { Gives (λ _. locks_of self.new) result (holding limits set.items (locks_of self.old)) }
     {
         if set.len() > limits.held as usize {
