@@ -39,6 +39,20 @@ TooManyLocks 5 0 none|number 0 1; number 1 2000; number 2 1; less 3 0 1; repeat 
 TooManyLocks 5 0 none|number 0 1; number 1 2000; number 2 1; less 3 0 1; repeat 30 3 9; lock 31 0; unlock 32 0; add 0 0 2; jump 3; stop
 "#;
 
+/// Tasks that depend by object 7 and touch object 8. In this order: two of `inoutset`, two of `mutexinoutset`; `inoutset` and then `in`, and
+/// then `inout`; `mutexinoutset` of children of two tasks; a wait of `in` behind `inoutset`, and one of `inoutset`; `mutexinoutset` and then
+/// `inoutset`; `in` and then `inoutset`.
+const SETS: &str = r#"5 0 21 25 8.0|begin 0 1 7; begin 1 1 8; copy 2 1; copy 3 1; task 20 2 2 7 0 3 0; store 21 0 1; finish; copy 2 1; task 24 2 2 11 0 3 0; store 25 0 1; finish; stop
+5 0 none|changes 8; begin 0 1 7; begin 1 1 8; copy 2 1; copy 3 1; task 20 2 2 7 0 2 0; store 21 0 1; finish; copy 2 1; task 24 2 2 11 0 2 0; store 25 0 1; finish; stop
+6 0 none|begin 0 1 7; begin 1 1 8; copy 2 1; copy 3 1; task 20 2 2 7 0 3 0; store 21 0 1; finish; copy 2 1; task 24 2 2 11 0 0 0; load 25 1 0; finish; stop
+5 0 none|begin 0 1 7; begin 1 1 8; copy 2 1; copy 3 1; task 20 2 2 7 0 3 0; store 21 0 1; finish; copy 2 1; task 24 2 2 11 0 1 0; load 25 1 0; finish; stop
+8 0 21 25 8.0|changes 8; begin 0 1 7; begin 1 1 8; copy 2 0; copy 3 1; task 10 2 4 11 0; copy 2 1; copy 3 1; task 20 2 2 10 0 2 0; store 21 0 1; finish; finish; copy 2 0; copy 3 1; task 12 2 4 20 0; copy 2 1; copy 3 1; task 24 2 2 19 0 2 0; store 25 0 1; finish; finish; stop
+5 0 none|begin 0 1 7; begin 1 1 8; copy 2 1; copy 3 1; task 20 2 2 7 0 3 0; store 21 0 1; finish; waitfor 23 0 0; load 25 4 1; stop
+5 0 21 25 8.0|begin 0 1 7; begin 1 1 8; copy 2 1; copy 3 1; task 20 2 2 7 0 3 0; store 21 0 1; finish; waitfor 23 3 0; load 25 4 1; stop
+6 0 none|changes 8; begin 0 1 7; begin 1 1 8; copy 2 1; copy 3 1; task 20 2 2 7 0 2 0; store 21 0 1; finish; copy 2 1; task 24 2 2 11 0 3 0; store 25 0 1; finish; stop
+5 0 none|begin 0 1 7; begin 1 1 8; copy 2 1; copy 3 1; task 20 2 2 7 0 0 0; load 21 1 0; finish; copy 2 1; task 24 2 2 11 0 3 0; store 25 0 1; finish; stop
+"#;
+
 fn passed(alloc: Global, table: &'static str) -> Result<(u32, String), AllocError> {
     let mut rows = 0u32;
     for line in table.lines() {
@@ -65,5 +79,12 @@ fn locks(rt: HostRuntime) -> Result<(), Fail> {
 fn faults_of_locks(rt: HostRuntime) -> Result<(), Fail> {
     let (rows, wrong) = passed(rt.alloc(), FAULTS)?;
     assert!(rt; rows == 10, "{wrong}");
+    Ok(())
+}
+
+#[test]
+fn sets_of_siblings(rt: HostRuntime) -> Result<(), Fail> {
+    let (rows, wrong) = passed(rt.alloc(), SETS)?;
+    assert!(rt; rows == 9, "{wrong}");
     Ok(())
 }

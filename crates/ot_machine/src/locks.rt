@@ -66,11 +66,10 @@ pub(crate) fn written(
         return Ok(value);
     }
     let name = named_at(memory, span)?;
-    if has(&code.changing, name) {
-        Ok(Value::Unknown)
-    } else {
-        Err(Halt::For(Reason::Changes(name)))
+    if !has(&code.changing, name) {
+        return Err(Halt::For(Reason::Changes(name)));
     }
+    Ok(Value::Unknown)
 }
 
 impl Machine {
