@@ -1,4 +1,4 @@
-/* A kind of dependence that isn't read. */
+/* A kind of dependence that isn't read, nor executed yet. */
 #include <stdint.h>
 #include <stdio.h>
 int main(void)

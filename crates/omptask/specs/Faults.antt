@@ -137,7 +137,6 @@ abbrev pub outcome_of : Verdict → Outcome
 outcome_of verdict.Clean = o.Clean
 outcome_of verdict.OnlyRun = o.OnlyRun
 outcome_of verdict.Races = o.Races
-outcome_of verdict.Outside = o.Outside
 
 -- how it ends where a file ended so
 abbrev pub ended_by : Outcome → Ended

@@ -1,5 +1,5 @@
 -- What is told of a text that is judged, or written as lines, and how that ends.
-use Rattle.std.specs.Prelude.{◌≡◌, ℕ, Bool, true, false, List, [], ◌∷◌, ◌++◌, map, codes, Option, None, Ok, if◌then◌else◌}
+use Rattle.std.specs.Prelude.{◌≡◌, ℕ, Bool, true, false, List, [], ◌∷◌, ◌++◌, map, codes, Option, Some, None, Ok, ⊤, if◌then◌else◌}
 use Rattle.std.specs.Io.KnownBytes.{Appends}
 use Rattle.serde_json.specs.Data.{Data}
 use Rattle.serde_json.specs.Written.{has_float}
@@ -18,7 +18,7 @@ use Rattle.ot_file.specs.Comments.{blanked}
 use Rattle.ot_store.specs.Arrays.{Named}
 use Rattle.ot_judge.specs.Judging.{refusals_in, finds, made}
 use Rattle.ot_report.specs.Report.{Reports}
-use Rattle.ot_cjudge.specs.declared.report.Verdict.{Verdict}
+use Rattle.ot_cjudge.specs.Reports.{Told}
 use Rattle.ot_ctext.specs.Judging.{Judges}
 use Rattle.ot_ctext.specs.declared.session.Session.{Session}
 use Rattle.ot_ctext.specs.declared.session.Session.TheVariants as session
@@ -32,11 +32,15 @@ abbrev pub kept_where : Bool → List Diagnosis → List Diagnosis
 kept_where true found = without_refusals found
 kept_where false found = found
 
--- A text in C of this name is judged: what is found is told, and it ends by the verdict.
+-- what was found in a text in C is told, and it ends by the verdict; nothing is said where there is none
+abbrev pub TellsC : Bool → Told → Judged → Type 0
+TellsC races_only (Some told) judged =
+    (map diagnosis_by judged.found.items ≡ kept_where races_only told.1) × (judged.outcome ≡ outcome_of told.0)
+TellsC races_only None judged = ⊤
+
+-- A text in C of this name is judged where it means a program that can be judged. Of another one, which is executed, nothing is said.
 abbrev pub JudgesC : Bool → List ℕ → List ℕ → Judged → Type 0
-JudgesC races_only name text judged =
-    (verdict : Verdict) × (found : List Diagnosis) × Judges name text verdict found
-    × (map diagnosis_by judged.found.items ≡ kept_where races_only found) × (judged.outcome ≡ outcome_of verdict)
+JudgesC races_only name text judged = (told : Told) × Judges name text told × TellsC races_only told judged
 
 -- how it ends where these requests are refused
 abbrev pub outcome_after : List Diagnosis → Outcome

@@ -57,11 +57,12 @@ The status is 1 where a line isn't taken, behind the last run too, or none runs 
 
 /// What `check` reads and writes.
 const CHECK_HELP: &str = "\
-A FILE whose name ends in .c is C with OpenMP: it is told which touches race as its tasks run with its numbers.
+A FILE whose name ends in .c is C with OpenMP: it is told which touches race as its tasks run with its numbers. Where it
+means no program of the server, or --define is given, it is executed step by step, with each NAME=VALUE as a macro.
 Any other FILE has requests over any number of lines, and comments from `//` to a line's end; what begins with \"program\"
 or \"program2\" stands for the `run` of it. `-` is standard input, and a folder stands for each .c file below it.
-No program is run. What is found is told with its line of the source, in colours at a terminal unless NO_COLOR is set.
-A FILE of requests begins with the arrays of --define; it makes others by its own requests.
+Nothing of a FILE runs on the machine. What is found is told with its line of the source, in colours at a terminal
+unless NO_COLOR is set. A FILE of requests begins with the arrays of --define; it makes others by its own requests.
 The status is 3 where anything was refused or races, else 1 where a FILE couldn't be judged, else 4 where only the
 run of a FILE was judged.";
 

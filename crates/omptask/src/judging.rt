@@ -58,7 +58,8 @@ pub(crate) fn write_session<W: Sink>(session: &Session, to: &mut W) -> Result<En
     Ok(ended)
 }
 
-/// Judges a text in C of this name; where only its races are to be told, nothing else is kept. Behind definitions it is executed.
+/// Judges a text in C of this name; where only its races are to be told, what a server refuses isn't kept. Behind definitions it is
+/// executed.
 pub(crate) fn judge_c(
     alloc: Global,
     races_only: bool,
@@ -69,12 +70,12 @@ pub(crate) fn judge_c(
     ensures { IfOk result (λ judged. defined.now ≡ [] → meant.JudgesC races_only name.now text.now judged) }
 {
     if !defined.is_empty() {
-        return executed(alloc, defined, name, text);
+        return executed(alloc, races_only, defined, name, text);
     }
     judge_as_it_stands(alloc, races_only, name, text)
 }
 
-/// Judges a text in C of this name, to which no definitions are added.
+/// Judges a text in C of this name, to which no definitions are added. It is executed where it means no program that can be judged.
 fn judge_as_it_stands(
     alloc: Global,
     races_only: bool,
@@ -83,16 +84,19 @@ fn judge_as_it_stands(
 ) -> Result<Judged, AllocError>
     ensures { IfOk result (meant.JudgesC races_only name.now text.now) }
 {
-    let report = judge_text(alloc, name, text)?;
-    Ok(Judged {
-        outcome: outcome_of(report.verdict),
-        found: kept_where(alloc, races_only, report.found)?,
-    })
+    match judge_text(alloc, name, text)? {
+        Some(report) => Ok(Judged {
+            outcome: outcome_of(report.verdict),
+            found: kept_where(alloc, races_only, report.found)?,
+        }),
+        None => executed(alloc, races_only, &[], name, text),
+    }
 }
 
 /// What is told of a text that is executed.
 fn executed(
     alloc: Global,
+    races_only: bool,
     defined: &[String],
     name: &str,
     text: &[u8],
@@ -106,7 +110,7 @@ fn executed(
     };
     Ok(Judged {
         outcome,
-        found: told.found,
+        found: kept_where(alloc, races_only, told.found)?,
     })
 }
 
@@ -124,7 +128,7 @@ fn kept_where(
     }
 }
 
-/// How the judging of a text in C ended, by its verdict.
+/// How the judging of a text in C ended that means a program, by its verdict.
 fn outcome_of(verdict: Verdict) -> Outcome
     ensures { result ≡ outcome_of verdict }
 {
@@ -132,7 +136,6 @@ fn outcome_of(verdict: Verdict) -> Outcome
         Verdict::Clean => Outcome::Clean,
         Verdict::OnlyRun => Outcome::OnlyRun,
         Verdict::Races => Outcome::Races,
-        Verdict::Outside => Outcome::Outside,
     }
 }
 

@@ -11,10 +11,8 @@ use Rattle.ot_program.specs.declared.fault.Refusal.{Refusal}
 use Rattle.ot_cjudge.specs.Start.{numbers_of, shape_of, cells_of}
 use Rattle.ot_cjudge.specs.Sites.{Source}
 use Rattle.ot_cjudge.specs.Lacks.{lacks_by}
-use Rattle.ot_diagnosis.specs.Diagnoses.{Diagnosis}
-use Rattle.ot_cjudge.specs.Reports.{ReportsRead}
+use Rattle.ot_cjudge.specs.Reports.{ReportsRead, Told}
 use Rattle.ot_cjudge.specs.declared.lowered.CArray.{CArray}
-use Rattle.ot_cjudge.specs.declared.report.Verdict.{Verdict}
 
 pub if_both : {A E : Type 0} (r : Result A E) (P Q R : A → Type 0) → ((x : A) → P x → Q x → R x) → IfOk r P → IfOk r Q → IfOk r R
 if_both (Ok x) P Q R f h k = f x h k
@@ -37,7 +35,7 @@ source name text order request arrays bytes = record { name = name; text = text;
 pub same_source : (name text : List ℕ) (o : Order) (d e : Data) (a b : List (List ℕ × ℕ)) (m n : List ℕ) → d ≡ e → a ≡ b → m ≡ n → source name text o d a m ≡ source name text o e b n
 same_source name text o d e a b m n p q r = ap (λ x. source name text o x a m) p ∙ ap (λ x. source name text o e x m) q ∙ ap (λ x. source name text o e b x) r
 
-pub same_reports : (s z : Source) (cells start : List (List ℕ)) (r q : Result Expanded Refusal) (told : Verdict) (t : List Diagnosis) → s ≡ z → cells ≡ start → r ≡ q
-    → ReportsRead s cells r told t → ReportsRead z start q told t
-same_reports s z cells start r q told t same begun is h =
-    subst (λ x. ReportsRead z start x told t) is (subst (λ c. ReportsRead z c r told t) begun (subst (λ y. ReportsRead y cells r told t) same h))
+pub same_reports : (s z : Source) (cells start : List (List ℕ)) (r q : Result Expanded Refusal) (told : Told) → s ≡ z → cells ≡ start → r ≡ q
+    → ReportsRead s cells r told → ReportsRead z start q told
+same_reports s z cells start r q told same begun is h =
+    subst (λ x. ReportsRead z start x told) is (subst (λ c. ReportsRead z c r told) begun (subst (λ y. ReportsRead y cells r told) same h))

@@ -1,5 +1,5 @@
 -- What is told of a C text.
-use Rattle.std.specs.Prelude.{◌≡◌, ℕ, Bool, true, false, ◌==◌, List, [], ◌∷◌, ◌++◌, map, reverse, codes, if◌then◌else◌, Option, Some, None, option_map, unwrap_or, Result, Ok, Err}
+use Rattle.std.specs.Prelude.{◌≡◌, ℕ, Bool, true, false, ◌==◌, List, [], ◌∷◌, ◌++◌, map, reverse, codes, if◌then◌else◌, Option, Some, None, option_map, Result, Ok, Err}
 use Rattle.std.specs.Fmt.{decimal}
 use Rattle.serde_json.specs.Data.{Data, string, array, no_items, item}
 use Rattle.serde_json.specs.View.{view}
@@ -11,8 +11,8 @@ use Rattle.ot_model.specs.declared.stmt.Use.{Use}
 use Rattle.ot_check.specs.Offences.{code_of, Offends, IsFirstOf}
 use Rattle.ot_check.specs.declared.fault.Offence.{Offence}
 use Rattle.ot_check.specs.declared.fault.Offence.TheVariants.{NotDeclared, ChildBeyond, ReductionMisuse, ConflictsWithChild, EndsWithChildren}
-use Rattle.ot_fault.specs.Whys.{first_fault}
 use Rattle.ot_diagnosis.specs.Diagnoses.{Remark, Diagnosis}
+use Rattle.ot_diagnosis.specs.DiagnosisView.{diagnosis_by}
 use Rattle.ot_diagnosis.specs.Texts.{place_text}
 use Rattle.ot_diagnosis.specs.declared.diagnosis.Code.{Code}
 use Rattle.ot_diagnosis.specs.declared.diagnosis.Code.TheVariants as code
@@ -21,7 +21,6 @@ use Rattle.ot_diagnosis.specs.declared.diagnosis.Severity.{Severity}
 use Rattle.ot_diagnosis.specs.declared.diagnosis.Severity.TheVariants.{Error, Note}
 use Rattle.ot_program.specs.Programs.{program_of}
 use Rattle.ot_program.specs.declared.fault.Refusal.{Refusal}
-use Rattle.ot_program.specs.declared.fault.Refusal.TheVariants.{Form, Size, UnknownArray, OutOfRange, EmptySection, TooLarge, TooManyTasks, MixedReduction}
 use Rattle.ot_race.specs.declared.race.Race.{Race}
 use Rattle.ot_races.specs.declared.races.More.{More}
 use Rattle.ot_races.specs.declared.races.More.TheVariants.{Exactly, AtLeast}
@@ -31,14 +30,15 @@ use Rattle.ot_overlap.specs.Items.{items_of, ground}
 use Rattle.ot_overlap.specs.Overlaps.{IsFirst}
 use Rattle.ot_corder.specs.declared.order.Order.{Order}
 use Rattle.ot_corder.specs.declared.order.Order.TheVariants.{OfLanguage, OfC, OfCByPointers}
-use Rattle.ot_cjudge.specs.Start.{named, shape_by, shape_of, cells_of}
-use Rattle.ot_cjudge.specs.Sites.{Source, Site, site_of, entry_site}
+use Rattle.ot_cjudge.specs.Start.{named, shape_of, cells_of}
+use Rattle.ot_cjudge.specs.Sites.{Source, Site, site_of}
 use Rattle.ot_cjudge.specs.Lines.{turns_text, cell_text}
 use Rattle.ot_cjudge.specs.Lacks.{lacks}
 use Rattle.ot_cjudge.specs.Findings.{Finds}
 use Rattle.ot_cjudge.specs.declared.finding.Finding.{Finding}
 use Rattle.ot_cjudge.specs.declared.finding.Finding.TheVariants.{InRun, OnWay, Nowhere, OnlyRun}
 use Rattle.ot_cjudge.specs.declared.lowered.Lowered.{Lowered}
+use Rattle.ot_cjudge.specs.declared.report.Report.{Report}
 use Rattle.ot_cjudge.specs.declared.report.Verdict.{Verdict}
 use Rattle.ot_cjudge.specs.declared.report.Verdict.TheVariants as v
 
@@ -153,19 +153,6 @@ only_run = of_file code.OnlyRun (codes "only the run with these numbers was judg
 
 -- ---- what isn't judged
 
-abbrev pub reason_of : Refusal → List ℕ
-reason_of Form = codes "this is of no form that is judged"
-reason_of Size = codes "a size or an index isn't exact, or not from 0 to 4294967295"
-reason_of UnknownArray = codes "no array has this name"
-reason_of OutOfRange = codes "an index is outside of its array"
-reason_of EmptySection = codes "a section has length 0"
-reason_of TooLarge = codes "the program is too large or too deep"
-reason_of TooManyTasks = codes "the program has too many tasks"
-reason_of MixedReduction = codes "a cell is in a reduction and in a clause beside it"
-
-abbrev pub overlaps : List ℕ
-overlaps = codes "an item of a depend clause overlaps in part with another one of this task or of a sibling"
-
 abbrev pub outside : Place → List ℕ → Diagnosis
 outside place reason = alone Error code.Outside (record { place = Some place; turns = []; message = reason })
 
@@ -189,34 +176,41 @@ has_red_items OfLanguage = false
 has_red_items OfC = false
 has_red_items OfCByPointers = true
 
--- of one of which an item of a `depend` clause overlaps in part with one that writes, or none does
-abbrev pub ReportsItems : Source → List (List ℕ) → Body → Option ℕ → Verdict → List Diagnosis → Type 0
-ReportsItems s cells body (Some entry) verdict found = (verdict ≡ v.Outside) × (found ≡ outside (entry_site s entry).place overlaps ∷ [])
-ReportsItems s cells body None verdict found = ReportsRun s cells body verdict found
+-- what is told of a text that is judged, its verdict and what is found; nothing of one that isn't
+abbrev pub Told : Type 0
+Told = Option (Verdict × List Diagnosis)
 
-abbrev pub ReportsProgram : Source → List (List ℕ) → Body → Verdict → List Diagnosis → Type 0
-ReportsProgram s cells body verdict found =
-    (first : Option ℕ) × IsFirst (items_of (ground s.arrays (has_red_items s.order)) s.request) first × ReportsItems s cells body first verdict found
+abbrev pub told_by : Option Report → Told
+told_by told = option_map (λ report. (report.verdict, map diagnosis_by report.found.items)) told
+
+-- a verdict is told, and what is found, and they are so
+abbrev pub Tells : (Verdict → List Diagnosis → Type 0) → Told → Type 0
+Tells are_so None = ⊥
+Tells are_so (Some told) = are_so told.0 told.1
+
+-- Of one of which an item of a `depend` clause overlaps in part with one that writes nothing is told: C doesn't say how they order.
+abbrev pub ReportsItems : Source → List (List ℕ) → Body → Option ℕ → Told → Type 0
+ReportsItems s cells body (Some entry) told = told ≡ None
+ReportsItems s cells body None told = Tells (ReportsRun s cells body) told
+
+abbrev pub ReportsProgram : Source → List (List ℕ) → Body → Told → Type 0
+ReportsProgram s cells body told =
+    (first : Option ℕ) × IsFirst (items_of (ground s.arrays (has_red_items s.order)) s.request) first × ReportsItems s cells body first told
 
 -- the request that runs a program
 abbrev pub run_of : Data → Data
 run_of program = array (item (string (codes "run")) (item program no_items))
 
--- which entry of a program that isn't read is told: the first one that has a fault
-unfoldable pub faulty : Source → ℕ
-faulty s = unwrap_or (option_map (λ found. found.0) (first_fault (shape_by s.arrays) s.request)) 0
-
--- of a program that was read, or wasn't
-abbrev pub ReportsRead : Source → List (List ℕ) → Result Expanded Refusal → Verdict → List Diagnosis → Type 0
-ReportsRead s cells (Ok program) verdict found = ReportsProgram s cells program.body verdict found
-ReportsRead s cells (Err refusal) verdict found =
-    (verdict ≡ v.Outside) × (found ≡ outside (entry_site s (faulty s)).place (reason_of refusal) ∷ [])
+-- of a program that was read; nothing of one that wasn't
+abbrev pub ReportsRead : Source → List (List ℕ) → Result Expanded Refusal → Told → Type 0
+ReportsRead s cells (Ok program) told = ReportsProgram s cells program.body told
+ReportsRead s cells (Err refusal) told = told ≡ None
 
 abbrev pub source_of : List ℕ → List ℕ → Lowered → Source
 source_of name text lowered =
     record { name = name; text = text; request = run_of (view lowered.program); arrays = named lowered.arrays.items; bytes = lowered.places.items; order = lowered.order }
 
 -- of what stands for a C text
-abbrev pub Reports : List ℕ → List ℕ → Lowered → Verdict → List Diagnosis → Type 0
-Reports name text lowered verdict found =
-    ReportsRead (source_of name text lowered) (cells_of lowered.arrays.items) (program_of (shape_of lowered.arrays.items) (view lowered.program)) verdict found
+abbrev pub Reports : List ℕ → List ℕ → Lowered → Told → Type 0
+Reports name text lowered told =
+    ReportsRead (source_of name text lowered) (cells_of lowered.arrays.items) (program_of (shape_of lowered.arrays.items) (view lowered.program)) told

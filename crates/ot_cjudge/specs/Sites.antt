@@ -1,11 +1,11 @@
 -- Where in a C text its statements stand.
-use Rattle.std.specs.Prelude.{ℕ, List, [], slice_get, Option, Some, None, option_map, unwrap_or}
+use Rattle.std.specs.Prelude.{ℕ, List, [], Option, Some, None, option_map, unwrap_or}
 use Rattle.serde_json.specs.Data.{Data}
 use Rattle.ot_corder.specs.declared.order.Order.{Order}
 use Rattle.ot_diagnosis.specs.Diagnoses.{place_in}
 use Rattle.ot_diagnosis.specs.declared.diagnosis.Place.{Place}
 use Rattle.ot_program.specs.Meanings.{Bindings}
-use Rattle.ot_place.specs.Spots.{Path, place_at, spots_of, statements_of, numbered}
+use Rattle.ot_place.specs.Spots.{Path, place_at, statements_of, numbered}
 use Rattle.ot_cjudge.specs.TextOrder.{told_of}
 
 -- A C text, its name, and what stands for it: a request that runs a program over arrays with these names and lengths. For each
@@ -31,7 +31,3 @@ site_at s (Some place) = record { place = place_in s.text (unwrap_or (told_of s.
 -- that of the C statement that stands for the statement of this number
 abbrev pub site_of : Source → ℕ → Site
 site_of s number = site_at s (option_map place_at (numbered number (statements_of s.request)))
-
--- that of an entry among all that the program has in order
-abbrev pub entry_site : Source → ℕ → Site
-entry_site s index = site_at s (option_map place_at (slice_get (spots_of s.request) index))

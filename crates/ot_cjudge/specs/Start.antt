@@ -12,11 +12,8 @@ abbrev pub named : List CArray → List (List ℕ × ℕ)
 named arrays = map (λ a. (string_bytes a.name, length (numbers_of a))) arrays
 
 -- what its program may name, by names and lengths; of tasks it may have as many as it may have statements
-abbrev pub shape_by : List (List ℕ × ℕ) → Arrays
-shape_by arrays = record { arrays = arrays; tasks = 20000 }
-
 abbrev pub shape_of : List CArray → Arrays
-shape_of arrays = shape_by (named arrays)
+shape_of arrays = record { arrays = named arrays; tasks = 20000 }
 
 -- the numbers at the start
 abbrev pub cells_of : List CArray → List (List ℕ)

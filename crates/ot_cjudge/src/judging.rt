@@ -5,17 +5,15 @@ ghost use Rattle.ot_model.specs.View.{stmts_of};
 ghost use Rattle.ot_model.specs.Cells.{lengths};
 ghost use Rattle.ot_model.specs.Programs.{Expanded, IsNamedIn, expanded_of, array_lengths};
 ghost use Rattle.ot_check.specs.Offences.{Offends, IsFirstOf};
-ghost use Rattle.ot_diagnosis.specs.Diagnoses.{place_in};
 ghost use Rattle.ot_diagnosis.specs.DiagnosisView.{remark_by, diagnosis_by};
 ghost use Rattle.ot_program.specs.Programs.{program_of};
-ghost use Rattle.ot_program.specs.Returned.{Fails, Gives};
+ghost use Rattle.ot_program.specs.Returned.{Gives};
 ghost use Rattle.ot_program.specs.declared.fault.Refusal.{Refusal};
-ghost use Rattle.ot_cjudge.specs.Sites.{entry_site};
 ghost use Rattle.ot_cjudge.specs.SiteView.{site_by, source_by};
 ghost use Rattle.ot_cjudge.specs.Fits.{Fits};
 ghost use Rattle.ot_cjudge.specs.Start.{cells_of as begun};
 ghost use Rattle.ot_cjudge.specs.Lacks.{lacks};
-ghost use Rattle.ot_cjudge.specs.Reports.{Reports, ReportsRead, ReportsProgram, ReportsRun, ReportsFinding, has_red_items, faulty, overlaps, run_of};
+ghost use Rattle.ot_cjudge.specs.Reports.{Reports, ReportsRead, ReportsProgram, ReportsRun, ReportsFinding, has_red_items, run_of, told_by};
 ghost use Rattle.ot_cjudge.specs.Reports as meant;
 
 use crate::doing::done_at;
@@ -26,31 +24,28 @@ use crate::line::cell_text;
 use crate::lowered::{CArray, Lowered};
 use crate::report::{Report, Verdict};
 use crate::source::{Site, Source};
-use crate::start::{MAX_TASKS, cells_of, shape_of};
-use crate::telling::{
-    advice, here_told, more_races, only_run, other_told, outside, reason_of, refused,
-};
+use crate::start::{cells_of, shape_of};
+use crate::telling::{advice, here_told, more_races, only_run, other_told, refused};
 use ot_check::{Offence, first_offence};
 use ot_corder::Order;
-use ot_diagnosis::{Code, Diagnosis, Place, Remark, Severity};
-use ot_fault::first_fault;
+use ot_diagnosis::{Code, Diagnosis, Remark, Severity};
 use ot_model::{Cells, Program, Shape, Use};
 use ot_overlap::first_overlap;
-use ot_program::{ProgramFault, Refusal, read_program};
+use ot_program::{ProgramFault, read_program};
 use ot_race::Race;
 use ot_races::Races;
 use serde_json::Value;
 use std::alloc::{AllocError, Global};
 
 /// Judges a C text of this name over the program that stands for it, as it runs with the C's numbers and on all ways through its
-/// branches, and tells what is found.
+/// branches, and tells what is found. Nothing is told where the program can't be judged.
 pub fn report_c(
     alloc: Global,
     name: &str,
     text: &[u8],
     lowered: Lowered,
-) -> Result<Report, AllocError>
-    ensures { IfOk result (λ report. Reports name.now text.now lowered report.verdict (map diagnosis_by report.found.items)) }
+) -> Result<Option<Report>, AllocError>
+    ensures { IfOk result (λ told. Reports name.now text.now lowered (told_by told)) }
 {
     let Lowered {
         arrays,
@@ -75,21 +70,22 @@ pub fn report_c(
     report_read(alloc, &source, &shape, arrays, read)
 }
 
-/// What is told of a program over these arrays, where it is read. Of one that isn't, the cells aren't asked for.
+/// What is told of a program over these arrays, where it is read. Of one that isn't, nothing is, and the cells aren't asked for.
 fn report_read(
     alloc: Global,
     source: &Source<'_>,
     shape: &Shape,
     arrays: Vec<CArray>,
     read: Result<Program, ProgramFault>,
-) -> Result<Report, AllocError>
+) -> Result<Option<Report>, AllocError>
     requires named { IfOk read (λ program. IsNamedIn (array_lengths shape.now) (expanded_of program)) }
     requires cells { lengths (begun arrays.items) ≡ array_lengths shape.now }
-    ensures { (program : Result Expanded Refusal) → Gives expanded_of read program → IfOk result (λ report. ReportsRead (source_by source.now) (begun arrays.items) program report.verdict (map diagnosis_by report.found.items)) }
+    ensures { (program : Result Expanded Refusal) → Gives expanded_of read program → IfOk result (λ told. ReportsRead (source_by source.now) (begun arrays.items) program (told_by told)) }
 {
     match read {
         Ok(program) => report_with_cells(alloc, source, shape, program, arrays),
-        Err(fault) => report_unread(alloc, source, fault),
+        Err(ProgramFault::Refused(_)) => Ok(None),
+        Err(ProgramFault::Memory) => Err(AllocError),
     }
 }
 
@@ -100,27 +96,13 @@ fn report_with_cells(
     shape: &Shape,
     program: Program,
     arrays: Vec<CArray>,
-) -> Result<Report, AllocError>
+) -> Result<Option<Report>, AllocError>
     requires named { IsNamedIn (array_lengths shape.now) (expanded_of program) }
     requires cells { lengths (begun arrays.items) ≡ array_lengths shape.now }
-    ensures { IfOk result (λ report. ReportsProgram (source_by source.now) (begun arrays.items) (stmts_of program.body.items) report.verdict (map diagnosis_by report.found.items)) }
+    ensures { IfOk result (λ told. ReportsProgram (source_by source.now) (begun arrays.items) (stmts_of program.body.items) (told_by told)) }
 {
     let cells = cells_of(alloc, arrays)?;
     report_program(alloc, source, shape, program, cells)
-}
-
-/// What is told of a program that isn't read.
-fn report_unread(
-    alloc: Global,
-    source: &Source<'_>,
-    fault: ProgramFault,
-) -> Result<Report, AllocError>
-    ensures { (cells : List (List ℕ)) (program : Result Expanded Refusal) → Fails fault program → IfOk result (λ report. ReportsRead (source_by source.now) cells program report.verdict (map diagnosis_by report.found.items)) }
-{
-    match fault {
-        ProgramFault::Refused(refusal) => report_refused(alloc, source, refusal),
-        ProgramFault::Memory => Err(AllocError),
-    }
 }
 
 /// The request that runs a program.
@@ -131,17 +113,18 @@ fn run_of(alloc: Global, program: Value) -> Result<Value, AllocError>
     Ok(Value::Array(vec![in alloc; word, program]?))
 }
 
-/// What is told of a program over these arrays that begins with these cells.
+/// What is told of a program over these arrays that begins with these cells. Where items of which one writes overlap in part C doesn't
+/// say how they order, and nothing is told.
 fn report_program(
     alloc: Global,
     source: &Source<'_>,
     shape: &Shape,
     program: Program,
     cells: Cells,
-) -> Result<Report, AllocError>
+) -> Result<Option<Report>, AllocError>
     requires named { IsNamedIn (array_lengths shape.now) (expanded_of program) }
     requires cells { lengths cells ≡ array_lengths shape.now }
-    ensures { IfOk result (λ report. ReportsProgram (source_by source.now) cells (stmts_of program.body.items) report.verdict (map diagnosis_by report.found.items)) }
+    ensures { IfOk result (λ told. ReportsProgram (source_by source.now) cells (stmts_of program.body.items) (told_by told)) }
 {
     match first_overlap(
         alloc,
@@ -149,8 +132,11 @@ fn report_program(
         source.arrays,
         has_red_items(source.order),
     )? {
-        Some(entry) => report_overlap(alloc, source, entry),
-        None => report_run(alloc, source, shape, &program, cells),
+        Some(_) => Ok(None),
+        None => {
+            let report = report_run(alloc, source, shape, &program, cells)?;
+            Ok(Some(report))
+        }
     }
 }
 
@@ -162,31 +148,6 @@ fn has_red_items(order: Order) -> bool
         Order::OfCByPointers => true,
         Order::OfLanguage | Order::OfC => false,
     }
-}
-
-/// What is told of a program of which this entry has an item that overlaps in part with one that writes.
-fn report_overlap(alloc: Global, source: &Source<'_>, entry: u32) -> Result<Report, AllocError>
-    ensures verdict { IfOk result (λ report. report.verdict ≡ Verdict.Outside) }
-    ensures found { IfOk result (λ report. map diagnosis_by report.found.items ≡ meant.outside (entry_site (source_by source.now) entry).place overlaps ∷ []) }
-{
-    let site = source.entry_site(alloc, entry)?;
-    let reason =
-        "an item of a depend clause overlaps in part with another one of this task or of a sibling";
-    let found = outside(alloc, site.place, reason)?;
-    report_of(alloc, Verdict::Outside, found)
-}
-
-/// A verdict, and the one thing that is found.
-fn report_of(alloc: Global, verdict: Verdict, found: Diagnosis) -> Result<Report, AllocError>
-    ensures verdict { IfOk result (λ report. report.verdict ≡ verdict) }
-    ensures found { IfOk result (λ report. map diagnosis_by report.found.items ≡ diagnosis_by found ∷ []) }
-{
-    let mut all = Vec::new(alloc);
-    all.push(found)?;
-    Ok(Report {
-        verdict,
-        found: all,
-    })
 }
 
 /// What is told of a program in which no items of which one writes overlap in part. What a server refuses is asked first: a
@@ -281,8 +242,13 @@ fn report_race(
     ensures verdict { IfOk result (λ report. report.verdict ≡ Verdict.Races) }
     ensures found { IfOk result (λ report. map diagnosis_by report.found.items ≡ meant.race_found (source_by source.now) (stmts_of program.now.body.items) meant.on_path race ∷ []) }
 {
-    let found = race_found(alloc, source, program, "some path has both", race)?;
-    report_of(alloc, Verdict::Races, found)
+    let race = race_found(alloc, source, program, "some path has both", race)?;
+    let mut found = Vec::new(alloc);
+    found.push(race)?;
+    Ok(Report {
+        verdict: Verdict::Races,
+        found,
+    })
 }
 
 /// A race: the touch that comes later in the serial run, and the other one as its note, with what is known of the two.
@@ -394,43 +360,4 @@ fn lacking(program: &Program, place: u32, offence: Offence) -> Option<Use>
         Ok(_) => None,
         Err(stood) => lacks_by(offence, stood),
     }
-}
-
-/// What is told of a program that can't be read.
-fn report_refused(
-    alloc: Global,
-    source: &Source<'_>,
-    refusal: Refusal,
-) -> Result<Report, AllocError>
-    ensures verdict { IfOk result (λ report. report.verdict ≡ Verdict.Outside) }
-    ensures found { IfOk result (λ report. map diagnosis_by report.found.items ≡ meant.outside (entry_site (source_by source.now) (faulty (source_by source.now))).place (meant.reason_of refusal) ∷ []) }
-{
-    let index = faulty_entry(alloc, source)?;
-    let site = source.entry_site(alloc, index)?;
-    let found = outside(alloc, site.place, reason_of(refusal))?;
-    report_of(alloc, Verdict::Outside, found)
-}
-
-/// The first entry with a fault.
-fn faulty_entry(alloc: Global, source: &Source<'_>) -> Result<u32, AllocError>
-    ensures { IfOk result (λ index. index ≡ faulty (source_by source.now)) }
-{
-    match first_fault(alloc, source.request, source.arrays, MAX_TASKS)? {
-        Some(found) => Ok(found.index),
-        None => Ok(0),
-    }
-}
-
-/// What is told of a C text that isn't judged, for this reason, at this byte.
-pub fn report_outside(
-    alloc: Global,
-    text: &[u8],
-    byte: usize,
-    reason: &str,
-) -> Result<Report, AllocError>
-    ensures verdict { IfOk result (λ report. report.verdict ≡ Verdict.Outside) }
-    ensures found { IfOk result (λ report. map diagnosis_by report.found.items ≡ meant.outside (place_in text.now byte) reason.now ∷ []) }
-{
-    let found = outside(alloc, Place::at(text, byte), reason)?;
-    report_of(alloc, Verdict::Outside, found)
 }

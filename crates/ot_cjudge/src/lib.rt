@@ -14,7 +14,7 @@ mod start;
 mod telling;
 mod text_order;
 
-pub use judging::{report_c, report_outside};
+pub use judging::report_c;
 pub use lowered::{CArray, Lowered};
 pub use ot_corder::Order;
 pub use report::{Report, Verdict};

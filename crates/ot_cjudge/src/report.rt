@@ -1,7 +1,7 @@
 //! What is told of a C text.
 use ot_diagnosis::Diagnosis;
 
-/// What is told of a C text.
+/// What is told of a C text that is judged.
 #[derive(Clone, Copy, Debug, PartialEq, Eq)]
 pub enum Verdict {
     /// No way through its branches races; the server may still refuse it.
@@ -10,11 +10,9 @@ pub enum Verdict {
     OnlyRun,
     /// Two touches race.
     Races,
-    /// It isn't judged.
-    Outside,
 }
 
-/// What is told of a C text, and what is found in it.
+/// What is told of a C text that is judged, and what is found in it.
 #[derive(Drop)]
 pub struct Report {
     pub verdict: Verdict,

@@ -6,7 +6,7 @@ use crate::text_order::told_of;
 use ot_corder::Order;
 use ot_diagnosis::Place;
 use ot_model::ArrayShape;
-use ot_place::{Turn, entry_of, place_of};
+use ot_place::{Turn, place_of};
 use serde_json::Value;
 use std::alloc::{AllocError, Global};
 
@@ -34,7 +34,7 @@ pub(crate) struct Site<'a> {
 impl<'a> Source<'a> {
     ghost use Rattle.ot_place.specs.Spots.{place_by};
     ghost use Rattle.ot_cjudge.specs.TextOrder.{told_of};
-    ghost use Rattle.ot_cjudge.specs.Sites.{site_at, site_of, entry_site};
+    ghost use Rattle.ot_cjudge.specs.Sites.{site_at, site_of};
     ghost use Rattle.ot_cjudge.specs.SiteView.{site_by, source_by};
 
     /// Where the C statement stands that stands for the statement of this number.
@@ -42,14 +42,6 @@ impl<'a> Source<'a> {
         ensures { IfOk result (λ site. site_by site ≡ site_of (source_by self.now) number) }
     {
         let place = place_of(alloc, self.request, number)?;
-        Ok(self.site_at(alloc, place))
-    }
-
-    /// The same of an entry among all that the program has in order.
-    pub(crate) fn entry_site(&self, alloc: Global, index: u32) -> Result<Site<'a>, AllocError>
-        ensures { IfOk result (λ site. site_by site ≡ entry_site (source_by self.now) index) }
-    {
-        let place = entry_of(alloc, self.request, index)?;
         Ok(self.site_at(alloc, place))
     }
 

@@ -11,7 +11,6 @@ use crate::source::Site;
 use ot_check::Offence;
 use ot_diagnosis::{Code, Diagnosis, Place, Remark, Severity, place_of};
 use ot_model::{ArrayShape, Mode, Use};
-use ot_program::Refusal;
 use ot_races::More;
 use std::alloc::{AllocError, Global};
 
@@ -229,20 +228,4 @@ pub fn outside(alloc: Global, place: Place, reason: &str) -> Result<Diagnosis, A
         },
         notes: Vec::new(alloc),
     })
-}
-
-/// Why a program isn't judged that can't be read.
-pub(crate) fn reason_of(refusal: Refusal) -> &'static str
-    ensures { result.now ≡ meant.reason_of refusal }
-{
-    match refusal {
-        Refusal::Form => "this is of no form that is judged",
-        Refusal::Size => "a size or an index isn't exact, or not from 0 to 4294967295",
-        Refusal::UnknownArray => "no array has this name",
-        Refusal::OutOfRange => "an index is outside of its array",
-        Refusal::EmptySection => "a section has length 0",
-        Refusal::TooLarge => "the program is too large or too deep",
-        Refusal::TooManyTasks => "the program has too many tasks",
-        Refusal::MixedReduction => "a cell is in a reduction and in a clause beside it",
-    }
 }

@@ -14,7 +14,7 @@ use Rattle.ot_ctext.specs.Reasons.{file_reason, program_reason, word_reason}
 use Rattle.ot_ctext.specs.declared.reading.Meaning.{Meaning}
 use Rattle.ot_ctext.specs.declared.reading.Meaning.TheVariants as m
 
--- a program, with its arrays and the places of its statements; or a byte, and why what stands there isn't judged
+-- a program, with its arrays and the places of its statements; or a byte, and why what stands there isn't read
 abbrev pub Meant : Type 0
 Meant = Result Program (ℕ × List ℕ)
 

@@ -1,4 +1,4 @@
--- Why a text isn't judged, in words.
+-- Why a text means no program, in words.
 use Rattle.std.specs.Prelude.{List, ℕ, codes}
 use Rattle.ot_words.specs.declared.fault.Wrong.{Wrong}
 use Rattle.ot_words.specs.declared.fault.Wrong.TheVariants as w
@@ -88,10 +88,6 @@ use_reason why.Shift = codes "<< is of a uint64_t, by a known number below 64, o
 use_reason why.Quotient = codes "/ and >> are of numbers that are known"
 use_reason why.LeftOut = codes "what && || ?: may leave out here reads no cell and has no ?:"
 use_reason other = directive_reason other
-
--- why a file that has one isn't judged
-abbrev pub mixed_reason : List ℕ
-mixed_reason = codes "all reductions of a text are by names, or all are by pointers"
 
 -- why a file has no program
 abbrev pub program_reason : Reason → List ℕ

@@ -1,44 +1,39 @@
 //! A text, judged.
 ghost use Rattle.std.specs.Prelude.{◌≡◌, map, IfOk};
 ghost use Rattle.ot_clower.specs.Files.{lowered_of};
-ghost use Rattle.ot_diagnosis.specs.DiagnosisView.{diagnosis_by};
+ghost use Rattle.ot_cjudge.specs.Reports.{told_by};
 ghost use Rattle.ot_cdeclare.specs.Arrays.{array_of};
 ghost use Rattle.ot_ctext.specs.Judging.{Judges, JudgesProgram, JudgesBy, IsJudged, judged_array};
 
 use crate::reading::{Meaning, meaning_of};
-use ot_cjudge::{Order, Report, report_c, report_outside};
+use ot_cjudge::{Order, Report, report_c};
 use ot_clower::Reductions;
 use std::alloc::{AllocError, Global};
 
-/// Judges a text of this name, and tells what is found.
-pub fn judge_text(alloc: Global, name: &str, text: &[u8]) -> Result<Report, AllocError>
-    ensures { IfOk result (λ report. Judges name.now text.now report.verdict (map diagnosis_by report.found.items)) }
+/// Judges a text of this name, and tells what is found. Nothing is told where it means no program that can be judged.
+pub fn judge_text(alloc: Global, name: &str, text: &[u8]) -> Result<Option<Report>, AllocError>
+    ensures { IfOk result (λ told. Judges name.now text.now (told_by told)) }
 {
     match meaning_of(alloc, text)? {
         Meaning::Program(lowered) => judge_program(alloc, name, text, lowered),
-        Meaning::Outside(byte, reason) => report_outside(alloc, text, byte, reason),
+        Meaning::Outside(_, _) => Ok(None),
     }
 }
 
 /// Judges a program by what orders its tasks in C: there a task that takes part in a reduction by a name has no dependence by
-/// that, and one that does by a pointer has the one of an `in`.
+/// that, and one that does by a pointer has the one of an `in`. Where some do so and some so neither order is C's.
 fn judge_program(
     alloc: Global,
     name: &str,
     text: &[u8],
     lowered: ot_clower::Lowered,
-) -> Result<Report, AllocError>
-    ensures { IfOk result (λ report. JudgesProgram name.now text.now (lowered_of lowered) lowered.reductions report.verdict (map diagnosis_by report.found.items)) }
+) -> Result<Option<Report>, AllocError>
+    ensures { IfOk result (λ told. JudgesProgram name.now text.now (lowered_of lowered) lowered.reductions (told_by told)) }
 {
     match lowered.reductions {
         Reductions::ByNames => judge_by(alloc, name, text, Order::OfC, lowered),
         Reductions::ByPointers => judge_by(alloc, name, text, Order::OfCByPointers, lowered),
-        Reductions::Mixed(byte) => report_outside(
-            alloc,
-            text,
-            byte,
-            "all reductions of a text are by names, or all are by pointers",
-        ),
+        Reductions::Mixed(_) => Ok(None),
     }
 }
 
@@ -48,8 +43,8 @@ fn judge_by(
     text: &[u8],
     order: Order,
     lowered: ot_clower::Lowered,
-) -> Result<Report, AllocError>
-    ensures { IfOk result (λ report. JudgesBy order name.now text.now (lowered_of lowered) report.verdict (map diagnosis_by report.found.items)) }
+) -> Result<Option<Report>, AllocError>
+    ensures { IfOk result (λ told. JudgesBy order name.now text.now (lowered_of lowered) (told_by told)) }
 {
     let judged = judged(alloc, order, lowered)?;
     report_c(alloc, name, text, judged)

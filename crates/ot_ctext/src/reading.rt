@@ -17,7 +17,7 @@ use std::alloc::{AllocError, Global};
 #[derive(Drop)]
 pub enum Meaning {
     Program(Lowered),
-    /// At this byte stands what isn't judged, and why.
+    /// At this byte stands what isn't read, and why.
     Outside(usize, &'static str),
 }
 

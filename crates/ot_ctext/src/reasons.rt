@@ -1,4 +1,4 @@
-//! Why a text isn't judged, in words.
+//! Why a text means no program, in words.
 ghost use Rattle.std.specs.Prelude.{◌≡◌};
 ghost use Rattle.ot_ctext.specs.Reasons as meant;
 

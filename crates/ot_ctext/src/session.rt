@@ -15,7 +15,7 @@ use std::alloc::{AllocError, Global};
 pub enum Session {
     /// Its requests, one a line.
     Lines(Vec<u8>),
-    /// Why a text isn't judged.
+    /// Why a text has none.
     Outside(Diagnosis),
 }
 

@@ -1,10 +1,9 @@
-use Rattle.std.proofs.Common.{map, refl, sym, ap, ◌∙◌}
+use Rattle.std.proofs.Common.{refl, sym, ap, ◌∙◌}
 use Rattle.serde_json.specs.View.{view}
 use Rattle.ot_model.specs.Programs.{Arrays, array_lengths, arrays_of}
 use Rattle.ot_check.proofs.Cited.{if_ok}
 use Rattle.ot_program.specs.Programs.{program_of}
-use Rattle.ot_diagnosis.specs.DiagnosisView.{diagnosis_by}
-use Rattle.ot_cjudge.specs.Reports.{run_of, source_of}
+use Rattle.ot_cjudge.specs.Reports.{run_of, source_of, told_by}
 use Rattle.ot_cjudge.specs.Start.{named, shape_of, cells_of}
 use Rattle.ot_cjudge.proofs.ReportLemmas.{same_lengths, same_source, same_reports}
 use Rattle.ot_cjudge.proofs.judging.report_c.Goals as goal
@@ -20,6 +19,6 @@ returns c =
     let same = same_source c.args.name.now c.args.text.now l.order (view c.in_ok-request.request) (run_of (view l.program)) (arrays_of c.arrays-names.result.now) (named l.arrays.items)
     c.as_slice-bytes.result.now l.places.items c.in_ok-request.ensures (c.arrays-names.ensures.arrays ∙ ap (λ (s : Arrays). s.arrays) shape) c.as_slice-bytes.ensures.value in
     if_ok c.report_read.result _ _
-    (λ report h. same_reports _ (source_of c.args.name.now c.args.text.now l) _ (cells_of l.arrays.items) _ _ report.verdict (map diagnosis_by report.found.items) same
+    (λ told h. same_reports _ (source_of c.args.name.now c.args.text.now l) _ (cells_of l.arrays.items) _ _ (told_by told) same
     refl (ap (λ s. program_of s (view l.program)) shape) h)
     (c.report_read.ensures _ c.read_program-read.ensures.read)

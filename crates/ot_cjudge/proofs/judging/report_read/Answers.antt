@@ -1,10 +1,9 @@
 use Rattle.std.proofs.Common.{sym, subst}
-use Rattle.std.specs.Prelude.{map, IfOk}
+use Rattle.std.specs.Prelude.{IfOk}
 use Rattle.ot_model.specs.Programs.{IsNamedIn, expanded_of, array_lengths}
 use Rattle.ot_program.specs.Returned.{Gives}
 use Rattle.ot_check.proofs.Cited.{if_ok}
-use Rattle.ot_diagnosis.specs.DiagnosisView.{diagnosis_by}
-use Rattle.ot_cjudge.specs.Reports.{ReportsRead}
+use Rattle.ot_cjudge.specs.Reports.{ReportsRead, told_by}
 use Rattle.ot_cjudge.specs.SiteView.{source_by}
 use Rattle.ot_cjudge.specs.Start.{cells_of}
 use Rattle.ot_cjudge.proofs.judging.report_read.Goals as goal
@@ -15,9 +14,6 @@ report_with_cells-requires-clause-named c = subst (λ r. IfOk r (λ program. IsN
 pub returns-in-Ok : goal.returns-in-Ok
 returns-in-Ok c = λ program gives.
     let s = source_by c.args.source.now in
-    if_ok c.report_with_cells.result _ (λ report. ReportsRead s (cells_of c.args.arrays.items) program report.verdict (map diagnosis_by report.found.items))
-    (λ report h. subst (λ r. ReportsRead s (cells_of c.args.arrays.items) r report.verdict (map diagnosis_by report.found.items)) (sym (subst (λ r. Gives expanded_of r program) c.in-Ok.is gives)) h)
+    if_ok c.report_with_cells.result _ (λ told. ReportsRead s (cells_of c.args.arrays.items) program (told_by told))
+    (λ told h. subst (λ r. ReportsRead s (cells_of c.args.arrays.items) r (told_by told)) (sym (subst (λ r. Gives expanded_of r program) c.in-Ok.is gives)) h)
     c.report_with_cells.ensures
-
-pub returns-in-Err : goal.returns-in-Err
-returns-in-Err c = λ program gives. c.report_unread.ensures (cells_of c.args.arrays.items) program (subst (λ r. Gives expanded_of r program) c.in-Err.is gives)

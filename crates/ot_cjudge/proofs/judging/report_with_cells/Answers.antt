@@ -1,9 +1,8 @@
 use Rattle.std.proofs.Common.{ap, ◌∙◌, subst}
-use Rattle.std.specs.Prelude.{map, IfOk}
+use Rattle.std.specs.Prelude.{IfOk}
 use Rattle.ot_model.specs.Cells.{lengths}
 use Rattle.ot_model.specs.View.{stmts_of}
-use Rattle.ot_diagnosis.specs.DiagnosisView.{diagnosis_by}
-use Rattle.ot_cjudge.specs.Reports.{ReportsProgram}
+use Rattle.ot_cjudge.specs.Reports.{ReportsProgram, told_by}
 use Rattle.ot_cjudge.specs.SiteView.{source_by}
 use Rattle.ot_cjudge.proofs.judging.report_with_cells.Goals as goal
 
@@ -12,5 +11,5 @@ report_program-requires-clause-cells c = ap lengths c.in_ok-cells.ensures ∙ c.
 
 pub returns : goal.returns
 returns c =
-    subst (λ cells. IfOk c.report_program.result (λ report. ReportsProgram (source_by c.args.source.now) cells (stmts_of c.args.program.body.items) report.verdict (map diagnosis_by report.found.items)))
+    subst (λ cells. IfOk c.report_program.result (λ told. ReportsProgram (source_by c.args.source.now) cells (stmts_of c.args.program.body.items) (told_by told)))
     c.in_ok-cells.ensures c.report_program.ensures

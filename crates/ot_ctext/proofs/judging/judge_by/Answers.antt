@@ -3,4 +3,4 @@ use Rattle.ot_ctext.proofs.judging.judge_by.Goals as goal
 
 pub returns : goal.returns
 returns c =
-    IfOk-weaker c.report_c.result _ _ (λ report reports. (c.in_ok-judged.judged, c.in_ok-judged.ensures, reports)) c.report_c.ensures
+    IfOk-weaker c.report_c.result _ _ (λ told reports. (c.in_ok-judged.judged, c.in_ok-judged.ensures, reports)) c.report_c.ensures

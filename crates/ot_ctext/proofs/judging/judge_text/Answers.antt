@@ -1,4 +1,4 @@
-use Rattle.std.proofs.Common.{Ok, subst}
+use Rattle.std.proofs.Common.{Ok, Err, refl, subst}
 use Rattle.std.proofs.lemmas.Result.{IfOk-weaker}
 use Rattle.ot_clower.specs.Files.{lowered_of}
 use Rattle.ot_ctext.specs.Reading.{Means, seen}
@@ -9,5 +9,10 @@ returns-in-Program c =
     let means : Means c.args.text.now (Ok (lowered_of c.in-Program.lowered)) =
     subst (λ m. Means c.args.text.now (seen m)) c.in-Program.is c.in_ok-lowered.ensures in
     IfOk-weaker c.judge_program.result _ _
-    (λ report judges. (Ok (lowered_of c.in-Program.lowered), means, judges))
+    (λ told judges. (Ok (lowered_of c.in-Program.lowered), means, judges))
     c.judge_program.ensures
+
+pub returns-in-Outside : goal.returns-in-Outside
+returns-in-Outside c =
+    let means : Means c.args.text.now (seen c.in_ok-lowered.field-0) = c.in_ok-lowered.ensures in
+    (seen c.in_ok-lowered.field-0, means, refl)
