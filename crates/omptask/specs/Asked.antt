@@ -77,7 +77,9 @@ AsksFor entered (asked.Save ask) =
 AsksFor entered (asked.Restore ask replace) =
     (entered_name entered ≡ Some (codes "restore"))
     × IfSome (entered_rows entered) (λ rows. AsksServer rows ask × IsSaid (one_of (codes "replace") rows) replace)
-AsksFor entered asked.Graph = entered_name entered ≡ Some (codes "graph")
+AsksFor entered (asked.Graph path) =
+    (entered_name entered ≡ Some (codes "graph"))
+    × IfSome (entered_rows entered) (λ rows. string_bytes path ≡ unwrap_or (first_of (codes "file") rows) [])
 AsksFor entered asked.C = entered_name entered ≡ Some (codes "c")
 AsksFor entered (asked.Check check) =
     (entered_name entered ≡ Some (codes "check")) × IfSome (entered_rows entered) (λ rows. AsksFiles rows check)
@@ -96,5 +98,6 @@ abbrev pub word_of : Words → Fault → List ℕ
 word_of (asked.Check check) (of.BadDefinition place) = unwrap_or (option_map string_bytes (slice_get check.defined.items place)) []
 word_of (asked.Check check) of.BadFormat = string_bytes check.format
 word_of (asked.Check check) (of.Unread place want) = unwrap_or (option_map string_bytes (slice_get check.files.items place)) []
+word_of (asked.Graph path) (of.Unread place want) = string_bytes path
 word_of (asked.Lines check) (of.Unread place want) = unwrap_or (option_map string_bytes (slice_get check.files.items place)) []
 word_of words fault = socket_of words

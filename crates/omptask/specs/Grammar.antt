@@ -26,8 +26,12 @@ save_words = (with_rule (with_rule (new_app (codes "save")) socket_rule) name_ru
 unfoldable pub restore_words : Shape
 restore_words = (with_rule (with_rule (with_rule (new_app (codes "restore")) socket_rule) (flag_rule (codes "replace"))) name_rule).top
 
+-- a text in C may be given
+unfoldable pub file_rule : Rule
+file_rule = record (new_rule (codes "file")) { value_names = 1 }
+
 unfoldable pub graph_words : Shape
-graph_words = (new_app (codes "graph")).top
+graph_words = (with_rule (new_app (codes "graph")) file_rule).top
 
 unfoldable pub c_words : Shape
 c_words = (new_app (codes "c")).top

@@ -12,8 +12,8 @@ pub enum Words {
     Save(Ask),
     /// A file as a tenant of a server, and whether arrays that he has are to be replaced.
     Restore(Ask, bool),
-    /// The last run of a session as a task graph.
-    Graph,
+    /// The last run of a session as a task graph; or, where a path is given, the run of the text in C there, with its race.
+    Graph(String),
     /// The last run of a session as a program in C.
     C,
     /// Files of requests, or in C, judged with no program run.

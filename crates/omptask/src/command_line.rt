@@ -42,8 +42,8 @@ fn asked_for(alloc: Global, matches: &ArgMatches<'_>) -> Result<Words, AllocErro
     if let Some(found) = matches.subcommand_matches("explain") {
         return Ok(Words::Explain(number(found, "code", MAX_CODE), flag(found, "quiet")));
     }
-    if matches.subcommand_matches("graph").is_some() {
-        return Ok(Words::Graph);
+    if let Some(found) = matches.subcommand_matches("graph") {
+        return Ok(Words::Graph(text(alloc, found, "file")?));
     }
     if matches.subcommand_matches("c").is_some() {
         return Ok(Words::C);

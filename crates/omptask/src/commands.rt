@@ -2,7 +2,7 @@
 ghost use Rattle.std.specs.Prelude.{◌≡◌, IfOk, false};
 ghost use Rattle.clap.specs.Words.{app_of, rule_of, shape_of};
 ghost use Rattle.clap.specs.declared.builder.command.Command.TheViews.{out-Command as fields_of};
-ghost use Rattle.omptask.specs.Grammar.{program_words, session_words, explain_words, ask_words, save_words, restore_words, graph_words, c_words, judging_words, check_words, lines_words, call_rule, format_rule, code_rule, name_rule, define_rule};
+ghost use Rattle.omptask.specs.Grammar.{program_words, session_words, explain_words, ask_words, save_words, restore_words, graph_words, c_words, judging_words, check_words, lines_words, call_rule, format_rule, code_rule, file_rule, name_rule, define_rule};
 
 use clap::{Arg, ArgAction, Command, value_parser};
 use ot_commands::{flag_arg, names_arg, socket_arg, with_subcommand};
@@ -47,7 +47,9 @@ It reads a session of one tenant on standard input, as `omptaskd solo` reads it,
 of Graphviz. Each task is a node, and each wait a box. A dashed edge leads from the task that creates or
 executes one to it, a solid one to a task from each that it waits for by itself, with the cells, and a dotted
 one to a wait from each task that it awaits. Above 200 tasks standard error tells how many there are.
-The status is 1 where a line isn't taken, behind the last run too, or none runs a program.";
+Of a FILE in C the run is drawn as it is executed, up to the first race that is found: its two touches are red, with a
+dashed red line between them. Standard error tells what `check` tells of it, and the status is that of `check`.
+Else the status is 1 where a line isn't taken, behind the last run too, or none runs a program.";
 
 /// What `c` writes.
 const C_HELP: &str = "\
@@ -78,9 +80,8 @@ const SOCKET_HELP: &str = "Where the server's socket stands";
 pub(crate) fn program_command<'a>(alloc: Global) -> Result<Command<'a>, AllocError>
     ensures { IfOk result (λ command. app_of command ≡ program_words) }
 {
-    let command = session_command(alloc)?
-        .subcommand(graph_command(alloc))?
-        .subcommand(c_command(alloc))?;
+    let command = with_subcommand(session_command(alloc)?, graph_command(alloc))?;
+    let command = command.subcommand(c_command(alloc))?;
     let command = with_subcommand(command, check_command(alloc))?;
     with_subcommand(command, lines_command(alloc))
 }
@@ -160,13 +161,23 @@ fn restore_command<'a>(alloc: Global) -> Result<Command<'a>, AllocError>
         .arg(name_arg(alloc))
 }
 
-fn graph_command<'a>(alloc: Global) -> Command<'a>
-    ensures words { shape_of result ≡ graph_words }
-    ensures own { (fields_of result).has_globals ≡ false }
+fn graph_command<'a>(alloc: Global) -> Result<Command<'a>, AllocError>
+    ensures words { IfOk result (λ command. shape_of command ≡ graph_words) }
+    ensures own { IfOk result (λ command. (fields_of command).has_globals ≡ false) }
 {
     Command::new(alloc, "graph")
-        .about("Draw the last run of a session as a task graph")
+        .about("Draw the last run of a session, or the run of a text in C, as a task graph")
         .after_help(GRAPH_HELP)
+        .arg(file_arg(alloc))
+}
+
+fn file_arg<'a>(alloc: Global) -> Arg<'a>
+    ensures rule { rule_of result ≡ file_rule }
+    ensures own { result.global ≡ false }
+{
+    Arg::new(alloc, "file")
+        .value_name("FILE")
+        .help("A text in C: its run is drawn, with the first race that is found in it")
 }
 
 fn c_command<'a>(alloc: Global) -> Command<'a>

@@ -1,4 +1,4 @@
-use Rattle.std.proofs.Common.{ap, ap₂, ◌∙◌, true, Some}
+use Rattle.std.proofs.Common.{ap, ◌∙◌, true, Some}
 use Rattle.std.proofs.lemmas.Result.{IfOk-weaker}
 use Rattle.clap.specs.Words.{Shape, with_subcommand}
 use Rattle.clap.specs.Simple.{app_of_fields, on_top}
