@@ -13,6 +13,4 @@ returns-in-Program c =
     c.judge_program.ensures
 
 pub returns-in-Outside : goal.returns-in-Outside
-returns-in-Outside c =
-    let means : Means c.args.text.now (seen c.in_ok-lowered.field-0) = c.in_ok-lowered.ensures in
-    (seen c.in_ok-lowered.field-0, means, refl)
+returns-in-Outside c = (Err _, subst (λ m. Means c.args.text.now (seen m)) c.in-Outside.is c.in_ok-lowered.ensures, refl)
