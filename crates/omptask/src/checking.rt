@@ -135,7 +135,7 @@ fn check_file<R: Input + Print + Eprint + Files>(
 }
 
 /// What a file is called.
-fn name_of<'a>(path: &'a str, given: &'a str) -> &'a str {
+pub(crate) fn name_of<'a>(path: &'a str, given: &'a str) -> &'a str {
     if path != "-" {
         path
     } else if given.is_empty() {
@@ -194,7 +194,7 @@ fn format_of(word: &str, paint: Paint) -> Option<Format>
 }
 
 /// How the program ends where a file ended so.
-fn ended_by(outcome: Outcome) -> Ended
+pub(crate) fn ended_by(outcome: Outcome) -> Ended
     ensures { result ≡ ended_by outcome }
 {
     match outcome {
@@ -265,7 +265,7 @@ fn tell_outside(
 }
 
 /// Writes a text to standard error, where that takes it.
-fn say(rt: &impl Eprint, text: &[u8]) {
+pub(crate) fn say(rt: &impl Eprint, text: &[u8]) {
     if let Ok(text) = str::from_utf8(text) {
         let _ = eprint!(rt; "{text}");
     }
@@ -343,7 +343,7 @@ fn has_directives(text: &[u8]) -> bool {
 }
 
 /// The text of a file; `-` is standard input.
-fn text_of<R: Input + Files>(
+pub(crate) fn text_of<R: Input + Files>(
     rt: &R,
     alloc: Global,
     path: &str,

@@ -175,9 +175,9 @@ fn file_arg<'a>(alloc: Global) -> Arg<'a>
     ensures rule { rule_of result ≡ file_rule }
     ensures own { result.global ≡ false }
 {
-    Arg::new(alloc, "file")
-        .value_name("FILE")
-        .help("A text in C: its run is drawn, with the first race that is found in it")
+    Arg::new(alloc, "file").value_name("FILE").help(
+        "A text in C: its run is drawn, with the first race that is found in it",
+    )
 }
 
 fn c_command<'a>(alloc: Global) -> Command<'a>

@@ -102,16 +102,20 @@ fn executed(
     text: &[u8],
 ) -> Result<Judged, AllocError> {
     let told = judge_run(alloc, name, defined, text)?;
-    let outcome = match told.verdict {
+    Ok(Judged {
+        outcome: outcome_of_run(told.verdict),
+        found: kept_where(alloc, races_only, told.found)?,
+    })
+}
+
+/// How the judging of a text in C ended that is executed, by its verdict.
+pub(crate) fn outcome_of_run(verdict: ot_crun::Verdict) -> Outcome {
+    match verdict {
         ot_crun::Verdict::Clean => Outcome::Clean,
         ot_crun::Verdict::OnlyRun => Outcome::OnlyRun,
         ot_crun::Verdict::Races => Outcome::Races,
         ot_crun::Verdict::Outside => Outcome::Outside,
-    };
-    Ok(Judged {
-        outcome,
-        found: kept_where(alloc, races_only, told.found)?,
-    })
+    }
 }
 
 fn kept_where(

@@ -15,6 +15,7 @@ pub mod ended;
 mod explaining;
 pub mod fault;
 mod folder;
+mod graphing;
 mod judging;
 mod prompt;
 pub mod reaching;
@@ -26,6 +27,7 @@ pub use command_line::words;
 pub use ended::Ended;
 use explaining::ask_explained;
 pub use fault::{Fault, Want, fault_line, want_text};
+use graphing::draw_file;
 use ot_ask::{Asked, LineSource, LinesOf, Tally, ask};
 use ot_commands::hold_standard;
 use ot_cprinted::{NoC, c_checked};
@@ -122,7 +124,8 @@ fn run<R: Input + Print + Eprint + Files + Net + AllocGlobal + Clone + Drop>(
         Words::Restore(asked, replace) => restore_tenant(rt, alloc, asked, *replace),
         Words::Explain(None, quiet) => explain_session(rt, alloc, *quiet),
         Words::Explain(Some(code), _) => explain_code(rt, alloc, *code),
-        Words::Graph => draw_run(rt, alloc),
+        Words::Graph(path) if path.is_empty() => draw_run(rt, alloc),
+        Words::Graph(path) => draw_file(rt, alloc, path.as_str()),
         Words::C => write_run(rt, alloc),
         Words::Check(asked) | Words::Lines(asked) => check_files(rt, alloc, asked, terminal.paint),
     };
@@ -142,6 +145,7 @@ fn word_of<'a>(asked: &'a Words, fault: &Fault) -> &'a str
         (Words::Check(check) | Words::Lines(check), Fault::Unread(place, _)) => {
             word_at(&check.files, *place)
         }
+        (Words::Graph(path), Fault::Unread(_, _)) => path.as_str(),
         _ => socket_of(asked),
     }
 }
