@@ -1,12 +1,11 @@
 //! A C text, judged over the program that stands for it.
-ghost use Rattle.std.specs.Prelude.{◌≡◌, ◌++◌, [], ◌∷◌, ℕ, List, map, IfOk, Some, Result, string_bytes};
+ghost use Rattle.std.specs.Prelude.{◌≡◌, ◌++◌, [], ◌∷◌, map, IfOk, Some, Result};
 ghost use Rattle.serde_json.specs.View.{view};
 ghost use Rattle.ot_model.specs.View.{stmts_of};
 ghost use Rattle.ot_model.specs.Cells.{lengths};
 ghost use Rattle.ot_model.specs.Programs.{Expanded, IsNamedIn, expanded_of, array_lengths};
 ghost use Rattle.ot_check.specs.Offences.{Offends, IsFirstOf};
 ghost use Rattle.ot_diagnosis.specs.DiagnosisView.{remark_by, diagnosis_by};
-ghost use Rattle.ot_program.specs.Programs.{program_of};
 ghost use Rattle.ot_program.specs.Returned.{Gives};
 ghost use Rattle.ot_program.specs.declared.fault.Refusal.{Refusal};
 ghost use Rattle.ot_cjudge.specs.SiteView.{site_by, source_by};
