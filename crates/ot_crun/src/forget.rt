@@ -1,72 +1,8 @@
-//! What branches and indexes rest on: slots whose values come from memory, or aren't known.
+//! What branches and indexes rest on: values that come from memory, or aren't known. What an automatic variable has that only its own task
+//! changes isn't from memory.
+use crate::trace::{Trace, traced};
 use ot_code::{Code, Form};
 use std::alloc::{AllocError, Global};
-use std::collections::BTreeSet;
-
-/// How many slots are looked at: in later ones nothing is taken to be from memory.
-const MOST: usize = 4_096;
-
-/// Slots whose values come from memory, or aren't known.
-#[derive(Drop)]
-struct Slots {
-    read: Vec<bool>,
-}
-
-impl Slots {
-    fn has(&self, slot: u32) -> bool {
-        match self.read.get(slot as usize) {
-            Some(is_read) => *is_read,
-            None => false,
-        }
-    }
-
-    fn put(&mut self, slot: u32, is_read: bool) -> Result<(), AllocError> {
-        let slot = slot as usize;
-        if slot >= MOST {
-            return Ok(());
-        }
-        if slot >= self.read.len() {
-            if !is_read {
-                return Ok(());
-            }
-            self.read.resize(slot.saturating_add(1), false)?;
-        }
-        if let Some(it) = self.read.get_mut(slot) {
-            *it = is_read;
-        }
-        Ok(())
-    }
-
-    /// Takes in what a form gives, and tells whether its branch or its index is from memory.
-    fn take(&mut self, form: &Form) -> Result<bool, AllocError> {
-        match form {
-            Form::Load(_, to, _) | Form::LoadOwn(_, to, _) | Form::Unknown(to) => {
-                self.put(*to, true)?;
-            }
-            Form::Copy(to, from) | Form::Convert(to, _, from) => {
-                let is_read = self.has(*from);
-                self.put(*to, is_read)?;
-            }
-            Form::Operate(to, _, _, one, other) | Form::Distance(to, one, other, _) => {
-                let is_read = self.has(*one) || self.has(*other);
-                self.put(*to, is_read)?;
-            }
-            Form::Advance(to, place, number, _) => {
-                let is_index = self.has(*number);
-                let is_read = self.has(*place);
-                self.put(*to, is_read)?;
-                return Ok(is_index);
-            }
-            Form::Branch(_, slot, _) => return Ok(self.has(*slot)),
-            other => {
-                if let Some(to) = given_by(other) {
-                    self.put(to, false)?;
-                }
-            }
-        }
-        Ok(false)
-    }
-}
 
 /// The slot that a form gives, if it gives one.
 pub(crate) fn given_by(form: &Form) -> Option<u32> {
@@ -91,65 +27,33 @@ pub(crate) fn given_by(form: &Form) -> Option<u32> {
     }
 }
 
-/// What is known of slots where code runs, and around it: a task has the slots from one of its parent's on.
-#[derive(Drop)]
-struct Nest {
-    slots: Slots,
-    around: Vec<Slots>,
-}
-
-impl Nest {
-    /// A function begins: of its parameters nothing is taken to be from memory.
-    fn begin(&mut self, alloc: Global) {
-        self.slots = Slots {
-            read: Vec::new(alloc),
-        };
-        self.around.clear();
+/// By form, whether its branch or its index is from memory, or isn't known, or whether a task is deferred. None where it is too much.
+pub(crate) fn marks_of(
+    alloc: Global,
+    code: &Code,
+    parameters: &[u32],
+    variables: u32,
+) -> Result<Option<Vec<bool>>, AllocError> {
+    let Trace {
+        mut graph,
+        asked,
+        loads,
+        stores,
+        ..
+    } = traced(alloc, code, parameters, variables)?;
+    if !graph.is_full {
+        graph.settle(alloc, &loads, &stores)?;
     }
-
-    fn take(&mut self, alloc: Global, form: &Form) -> Result<bool, AllocError> {
-        match form {
-            Form::Task { first, .. } => {
-                let own = match self.slots.read.get(*first as usize..) {
-                    Some(own) => own.to_vec(alloc)?,
-                    None => Vec::new(alloc),
-                };
-                let outer = std::mem::replace(&mut self.slots, Slots { read: own });
-                self.around.push(outer)?;
-                Ok(false)
-            }
-            Form::Finish => {
-                if let Some(outer) = self.around.pop() {
-                    self.slots = outer;
-                }
-                Ok(false)
-            }
-            other => self.slots.take(other),
+    if graph.is_full {
+        return Ok(None);
+    }
+    let mut marks = vec![in alloc; false; code.forms.len()]?;
+    for it in &asked {
+        if let Some(mark) = marks.get_mut(it.at) {
+            *mark = graph.is_memory(it.value);
         }
     }
-}
-
-/// By form, whether its branch or its index is from memory, or isn't known.
-pub(crate) fn marks_of(alloc: Global, code: &Code) -> Result<Vec<bool>, AllocError> {
-    let mut starts = BTreeSet::new(alloc);
-    for function in &code.functions {
-        let _ = starts.insert(function.start as usize)?;
-    }
-    let mut nest = Nest {
-        slots: Slots {
-            read: Vec::new(alloc),
-        },
-        around: Vec::new(alloc),
-    };
-    let mut marks = Vec::new(alloc);
-    for (at, form) in code.forms.iter().enumerate() {
-        if starts.contains(&at) {
-            nest.begin(alloc);
-        }
-        let is_marked = nest.take(alloc, form)?;
-        marks.push(is_marked)?;
-    }
-    Ok(marks)
+    Ok(Some(marks))
 }
 
 /// A slot that no function and no task has.

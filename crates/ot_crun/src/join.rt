@@ -1,6 +1,6 @@
 //! The same code with less that is known: what a branch or an index reads from memory isn't known any more. So its ways are those of the
 //! run with any numbers in memory, for the lengths and the turns of loops that it has. Branches whose bodies create nothing are joined.
-use crate::forget::{given_by, marks_of, spare_of};
+use crate::forget::{given_by, spare_of};
 use crate::region::{Region, Regions, regions_of};
 use ot_code::{Code, Form, Function};
 use std::alloc::{AllocError, Global};
@@ -13,10 +13,37 @@ pub(crate) struct Placed {
     pub sites: Vec<u32>,
 }
 
+/// The code in which less is known, and by its form the one of which that is made.
+#[derive(Drop)]
+pub(crate) struct Other {
+    pub placed: Placed,
+    olds: Vec<u32>,
+    regions: Regions,
+}
+
+impl Other {
+    fn old(&self, at: usize) -> usize {
+        match self.olds.get(at) {
+            Some(old) => *old as usize,
+            None => 0,
+        }
+    }
+
+    /// Whether a form stands in a body that is joined: what it comes to need not be so on any way.
+    pub(crate) fn is_joined(&self, at: usize) -> bool {
+        self.regions.has(self.old(at))
+    }
+
+    /// The branch that joins it, in the old code.
+    pub(crate) fn joined_by(&self, at: usize) -> Option<usize> {
+        self.regions.around(self.old(at))
+    }
+}
+
 /// What is asked of a form.
 #[derive(Drop)]
-struct Plan {
-    marks: Vec<bool>,
+struct Plan<'a> {
+    marks: &'a [bool],
     regions: Regions,
     /// By form, whether a region begins there, and whether it is the jump that ends a first body: the other body comes next.
     begins: Vec<bool>,
@@ -24,16 +51,13 @@ struct Plan {
     spare: u32,
 }
 
-impl Plan {
+impl<'a> Plan<'a> {
     fn is_marked(&self, at: usize) -> bool {
         matches!(self.marks.get(at), Some(true))
     }
 
     fn is_joined(&self, at: usize) -> bool {
-        match self.regions.depths.get(at) {
-            Some(depth) => *depth > 0,
-            None => false,
-        }
+        self.regions.has(at)
     }
 
     fn begins(&self, at: usize) -> bool {
@@ -50,17 +74,20 @@ impl Plan {
 struct Made {
     forms: Vec<Form>,
     sites: Vec<u32>,
+    olds: Vec<u32>,
     /// By form of the old code, where it stands in the new one.
     places: Vec<u32>,
     /// Tests in the new code, which go on behind themselves.
     tests: Vec<u32>,
     site: u32,
+    old: u32,
 }
 
 impl Made {
     fn put(&mut self, form: Form) -> Result<(), AllocError> {
         self.forms.push(form)?;
         self.sites.push(self.site)?;
+        self.olds.push(self.old)?;
         Ok(())
     }
 
@@ -85,12 +112,13 @@ impl Made {
     }
 }
 
-fn plan_of(alloc: Global, code: &Code) -> Result<Option<Plan>, AllocError> {
-    let marks = marks_of(alloc, code)?;
-    if !marks.iter().any(|is_marked| *is_marked) {
-        return Ok(None);
-    }
-    let Some(regions) = regions_of(alloc, &code.forms, &marks)? else {
+fn plan_of<'a>(
+    alloc: Global,
+    code: &Code,
+    marks: &'a [bool],
+    split: &[bool],
+) -> Result<Option<Plan<'a>>, AllocError> {
+    let Some(regions) = regions_of(alloc, &code.forms, marks, split)? else {
         return Ok(None);
     };
     let mut begins = vec![in alloc; false; code.forms.len()]?;
@@ -117,7 +145,7 @@ fn set(flags: &mut [bool], at: usize) {
 }
 
 /// What is joined is blurred where its first body ends, and at the end.
-fn blurs(alloc: Global, code: &Code, plan: &Plan) -> Result<Vec<Vec<Region>>, AllocError> {
+fn blurs(alloc: Global, code: &Code, plan: &Plan<'_>) -> Result<Vec<Vec<Region>>, AllocError> {
     let mut blurs = Vec::new(alloc);
     for _ in 0..code.forms.len().saturating_add(1) {
         blurs.push(Vec::new(alloc))?;
@@ -136,20 +164,23 @@ fn blurs(alloc: Global, code: &Code, plan: &Plan) -> Result<Vec<Vec<Region>>, Al
 }
 
 /// The forms of the code at their new places, whose jumps still name old ones.
-fn made_of(alloc: Global, code: &Code, sites: &[u32], plan: &Plan) -> Result<Made, AllocError> {
+fn made_of(alloc: Global, code: &Code, sites: &[u32], plan: &Plan<'_>) -> Result<Made, AllocError> {
     let blurs = blurs(alloc, code, plan)?;
     let mut made = Made {
         forms: Vec::new(alloc),
         sites: Vec::new(alloc),
+        olds: Vec::new(alloc),
         places: Vec::new(alloc),
         tests: Vec::new(alloc),
         site: 0,
+        old: 0,
     };
     for (at, form) in code.forms.iter().enumerate() {
         made.site = match sites.get(at) {
             Some(site) => *site,
             None => 0,
         };
+        made.old = u32::try_from(at).unwrap_or(u32::MAX);
         let here = made.here();
         made.places.push(here)?;
         if let Some(list) = blurs.get(at) {
@@ -169,7 +200,7 @@ fn put_form(
     made: &mut Made,
     form: &Form,
     at: usize,
-    plan: &Plan,
+    plan: &Plan<'_>,
 ) -> Result<(), AllocError> {
     let spare = plan.spare;
     match form {
@@ -202,14 +233,14 @@ fn put_form(
             made.put(Form::StoreOwn(*site, *place, spare))
         }
         other => {
-            let copied = copy_of(alloc, other, spare)?;
+            let copied = copy_of(alloc, other, spare, plan.is_marked(at))?;
             made.put(copied)
         }
     }
 }
 
-/// A form once more, with one slot more where it is a task.
-fn copy_of(alloc: Global, form: &Form, spare: u32) -> Result<Form, AllocError> {
+/// A form once more, with one slot more where it is a task. A task of which it isn't known whether it is deferred is: that orders less.
+fn copy_of(alloc: Global, form: &Form, spare: u32, is_marked: bool) -> Result<Form, AllocError> {
     match form {
         Form::Task {
             site,
@@ -224,7 +255,7 @@ fn copy_of(alloc: Global, form: &Form, spare: u32) -> Result<Form, AllocError> {
             slots: spare.saturating_add(1),
             behind: *behind,
             items: items.as_slice().to_vec(alloc)?,
-            when: *when,
+            when: if is_marked { None } else { *when },
         }),
         Form::WaitFor(site, items) => Ok(Form::WaitFor(*site, items.as_slice().to_vec(alloc)?)),
         Form::Group(site, items) => Ok(Form::Group(*site, items.as_slice().to_vec(alloc)?)),
@@ -298,10 +329,16 @@ fn move_jumps(forms: &mut [Form], places: &[u32]) {
     }
 }
 
-/// The code in which what branches and indexes read from memory isn't known; none where they read nothing there, or it is too much.
-pub(crate) fn forgotten(alloc: Global, placed: &Placed) -> Result<Option<Placed>, AllocError> {
+/// The code in which what branches and indexes read from memory isn't known, by these marks; branches that are split aren't joined. None
+/// where it is too much.
+pub(crate) fn forgotten(
+    alloc: Global,
+    placed: &Placed,
+    marks: &[bool],
+    split: &[bool],
+) -> Result<Option<Other>, AllocError> {
     let code = &placed.code;
-    let Some(plan) = plan_of(alloc, code)? else {
+    let Some(plan) = plan_of(alloc, code, marks, split)? else {
         return Ok(None);
     };
     let mut made = made_of(alloc, code, &placed.sites, &plan)?;
@@ -317,19 +354,27 @@ pub(crate) fn forgotten(alloc: Global, placed: &Placed) -> Result<Option<Placed>
         let start = moved(&made.places, function.start);
         functions.push(Function { start, slots })?;
     }
+    Ok(Some(other_of(made, slots, functions, plan)))
+}
+
+fn other_of(made: Made, slots: u32, functions: Vec<Function>, plan: Plan<'_>) -> Other {
     let Made {
         forms,
         sites,
-        places: _,
-        tests: _,
-        site: _,
+        olds,
+        ..
     } = made;
-    Ok(Some(Placed {
-        code: Code {
-            forms,
-            slots,
-            functions,
+    let Plan { regions, .. } = plan;
+    Other {
+        placed: Placed {
+            code: Code {
+                forms,
+                slots,
+                functions,
+            },
+            sites,
         },
-        sites,
-    }))
+        olds,
+        regions,
+    }
 }

@@ -1,11 +1,12 @@
 //! A text, executed and judged.
-use crate::join::{Placed, forgotten};
+use crate::join::{Other, Placed};
+use crate::others::judge_others;
 use crate::reading::{Read, Reading, byte_of, reading_of};
 use crate::reason::of_run;
-use crate::telling::{Source, more_races, of_file, outside, race_found};
-use crate::ways::{QUESTIONS, STEPS, WAYS, first_limit};
+use crate::telling::{Source, more_races, outside, race_found, with_untouched};
+use crate::ways::{QUESTIONS, STEPS, WAYS, asks_at, first_limit};
 use ot_corder::{Order, races_by};
-use ot_diagnosis::{Code, Diagnosis};
+use ot_diagnosis::Diagnosis;
 use ot_machine::{Fault, Limits, Run, Ways, run_code};
 use ot_outline::{Told, events_of, race_of};
 use ot_races::More;
@@ -39,6 +40,16 @@ const ALL: usize = 1_000_000;
 /// More events than any run has.
 const EVENTS: usize = 1 << 32;
 
+const TOO_LONG: &str = "the run touches too many cells";
+
+/// How far each of several ways goes.
+fn way_limits() -> Limits {
+    Limits {
+        steps: STEPS,
+        ..Limits::usual()
+    }
+}
+
 /// What is known of a race of the run with the text's own numbers.
 const IN_RUN: &str = "with these numbers nothing orders the two";
 
@@ -59,17 +70,18 @@ pub fn judge_run(
                 text,
                 reading: &reading,
             };
-            judge(alloc, of, placed)
+            let judged = judge(alloc, of, placed)?;
+            with_untouched(alloc, &reading, judged)
         }
     }
 }
 
 /// What is judged: the text's name, its bytes, and what it is read as.
 #[derive(Clone, Copy)]
-struct Of<'a> {
-    name: &'a str,
-    text: &'a [u8],
-    reading: &'a Reading,
+pub(crate) struct Of<'a> {
+    pub name: &'a str,
+    pub text: &'a [u8],
+    pub reading: &'a Reading,
 }
 
 impl<'a> Of<'a> {
@@ -86,7 +98,11 @@ impl<'a> Of<'a> {
     }
 }
 
-fn one_found(alloc: Global, verdict: Verdict, one: Diagnosis) -> Result<Judged, AllocError> {
+pub(crate) fn one_found(
+    alloc: Global,
+    verdict: Verdict,
+    one: Diagnosis,
+) -> Result<Judged, AllocError> {
     let mut found = Vec::new(alloc);
     found.push(one)?;
     Ok(Judged { verdict, found })
@@ -95,24 +111,46 @@ fn one_found(alloc: Global, verdict: Verdict, one: Diagnosis) -> Result<Judged, 
 fn judge(alloc: Global, of: Of<'_>, placed: Placed) -> Result<Judged, AllocError> {
     let none = Vec::new(alloc);
     let run = run_code(alloc, &placed.code, Limits::usual(), &none)?;
-    let first = if run.asked > 0 {
-        judge_ways(alloc, of, &placed)?
-    } else if let Some(fault) = run.fault {
+    if run.asked > 0 {
+        return judge_asking(alloc, of, placed);
+    }
+    if let Some(fault) = run.fault {
         return ended(alloc, of, &placed, fault);
-    } else {
-        judge_one(alloc, &of.source(&run))?
-    };
-    if first.verdict == Verdict::Races {
+    }
+    let first = judge_one(alloc, &of.source(&run))?;
+    if first.verdict != Verdict::Clean {
         return Ok(first);
     }
     judge_others(alloc, of, placed, first)
+}
+
+/// Of a text whose run asks: its ways. Where they are too many it isn't judged, unless it is with less that is known.
+fn judge_asking(alloc: Global, of: Of<'_>, placed: Placed) -> Result<Judged, AllocError> {
+    let mut budget = WAYS;
+    match ways_of(alloc, of, &placed, None, &mut budget)? {
+        Met::Races(judged) => Ok(judged),
+        Met::Fault(fault) => ended(alloc, of, &placed, fault),
+        Met::Nothing => judge_others(alloc, of, placed, clean(alloc)),
+        Met::TooMany => {
+            let at = asks_at(alloc, &placed.code, way_limits())?;
+            let first = at_form(
+                alloc,
+                of,
+                &placed,
+                at,
+                "it has more ways than are judged: nothing is known of this condition",
+            )?;
+            judge_others(alloc, of, placed, first)
+        }
+    }
 }
 
 /// Of a run that asks nothing: its races, each pair of places in the text once, in the order of the later touch.
 fn judge_one(alloc: Global, source: &Source<'_>) -> Result<Judged, AllocError> {
     let events = events_of(alloc, &source.run.log)?;
     if events.len() >= EVENTS {
-        return only_run(alloc);
+        let one = outside(alloc, source.text, 0, String::from_str(alloc, TOO_LONG)?);
+        return one_found(alloc, Verdict::Outside, one);
     }
     let races = races_by(alloc, Order::OfC, events, ALL)?;
     let mut pairs = BTreeSet::new(alloc);
@@ -144,76 +182,69 @@ fn judge_one(alloc: Global, source: &Source<'_>) -> Result<Judged, AllocError> {
     })
 }
 
-/// Of the other ways of a run that doesn't race, of which this was told: those of other numbers in memory.
-fn judge_others(
-    alloc: Global,
-    of: Of<'_>,
-    placed: Placed,
-    first: Judged,
-) -> Result<Judged, AllocError> {
-    let Some(other) = forgotten(alloc, &placed)? else {
-        return Ok(first);
-    };
-    let judged = judge_ways(alloc, of, &other)?;
-    match judged.verdict {
-        Verdict::Races | Verdict::Clean => Ok(judged),
-        Verdict::OnlyRun | Verdict::Outside => match first.verdict {
-            Verdict::Clean => only_run(alloc),
-            _ => Ok(first),
-        },
-    }
-}
-
-fn clean(alloc: Global) -> Judged {
+pub(crate) fn clean(alloc: Global) -> Judged {
     Judged {
         verdict: Verdict::Clean,
         found: Vec::new(alloc),
     }
 }
 
-fn only_run(alloc: Global) -> Result<Judged, AllocError> {
-    let words =
-        "only the run with these numbers was judged: other numbers in memory may take other ways, and there are too many";
-    let words = String::from_str(alloc, words)?;
-    one_found(
-        alloc,
-        Verdict::OnlyRun,
-        of_file(alloc, Code::OnlyRun, words),
-    )
+/// What is met on all ways.
+#[derive(Drop)]
+pub(crate) enum Met {
+    Nothing,
+    Races(Judged),
+    /// What the judge can't do.
+    Fault(Fault),
+    TooMany,
 }
 
-/// Of code that asks: all its ways, unless there are too many.
-fn judge_ways(alloc: Global, of: Of<'_>, placed: &Placed) -> Result<Judged, AllocError> {
+/// Of code that asks: all its ways, unless there are too many. Each takes one from the budget.
+pub(crate) fn ways_of(
+    alloc: Global,
+    of: Of<'_>,
+    placed: &Placed,
+    joined: Option<&Other>,
+    budget: &mut u32,
+) -> Result<Met, AllocError> {
     let code = &placed.code;
-    let limits = Limits {
-        steps: STEPS,
-        ..Limits::usual()
-    };
+    let limits = way_limits();
     let ways = Ways { code, limits };
     let none = Vec::new(alloc);
-    let mut budget = WAYS;
-    match race_of(alloc, Order::OfC, &ways, QUESTIONS, &mut budget, &none)? {
+    match race_of(alloc, Order::OfC, &ways, QUESTIONS, budget, &none)? {
         Told::RacesOn(answers, race) => {
             let run = run_code(alloc, code, limits, &answers)?;
             let found = race_found(alloc, &of.source(&run), "some path has both", race)?;
-            one_found(alloc, Verdict::Races, found)
+            let judged = one_found(alloc, Verdict::Races, found)?;
+            Ok(Met::Races(judged))
         }
-        Told::RacesNowhere => match first_limit(alloc, code, limits)? {
-            Some(fault) => ended(alloc, of, placed, fault),
-            None => Ok(clean(alloc)),
+        Told::RacesNowhere => match first_limit(alloc, code, limits, joined)? {
+            Some(fault) => Ok(Met::Fault(fault)),
+            None => Ok(Met::Nothing),
         },
-        Told::TooMany => only_run(alloc),
+        Told::TooMany => Ok(Met::TooMany),
     }
 }
 
 /// Of a run that ends with a fault.
 fn ended(alloc: Global, of: Of<'_>, placed: &Placed, fault: Fault) -> Result<Judged, AllocError> {
-    let token = match placed.sites.get(fault.at) {
+    at_form(alloc, of, placed, fault.at, of_run(fault.reason))
+}
+
+/// It isn't judged, for this reason at a form.
+fn at_form(
+    alloc: Global,
+    of: Of<'_>,
+    placed: &Placed,
+    at: usize,
+    words: &str,
+) -> Result<Judged, AllocError> {
+    let token = match placed.sites.get(at) {
         Some(token) => *token,
         None => 0,
     };
     let byte = byte_of(&of.reading.tokens, token);
-    let words = String::from_str(alloc, of_run(fault.reason))?;
+    let words = String::from_str(alloc, words)?;
     one_found(
         alloc,
         Verdict::Outside,

@@ -3,13 +3,17 @@
 
 mod beyond;
 mod forget;
+mod graph;
 mod join;
 mod judging;
 mod naming;
+mod others;
 mod reading;
 mod reason;
 mod region;
+mod spots;
 mod telling;
+mod trace;
 mod ways;
 
 pub use judging::{Judged, Verdict, judge_run};

@@ -15,6 +15,24 @@ pub(crate) struct Reading {
     pub names: Names,
     pub tokens: Vec<Token>,
     pub unit: Unit,
+    /// The names of functions without a body that are called.
+    pub untouched: Vec<u32>,
+}
+
+impl Reading {
+    /// The number of parameters of each function.
+    pub(crate) fn parameters(&self, alloc: Global) -> Result<Vec<u32>, AllocError> {
+        let mut counts = Vec::new(alloc);
+        for function in &self.unit.functions {
+            counts.push(u32::try_from(function.parameters.len()).unwrap_or(u32::MAX))?;
+        }
+        Ok(counts)
+    }
+
+    /// How many variables there are.
+    pub(crate) fn variables(&self) -> u32 {
+        u32::try_from(self.unit.variables.len()).unwrap_or(u32::MAX)
+    }
 }
 
 /// What a text is read as; or at which byte it isn't, and why.
@@ -123,6 +141,7 @@ fn code_of(
                 names,
                 tokens,
                 unit,
+                untouched: translated.untouched,
             };
             Ok(Read::Whole(reading, placed))
         }

@@ -96,17 +96,18 @@ pub(crate) struct Regions {
 /// How much regions may have in all, so that what is made of them is no longer than that.
 const MOST: usize = 2_000_000;
 
-/// The regions of the branches that are marked; none where they are too much in all.
+/// The regions of the branches that are marked, but for those that are split; none where they are too much in all.
 pub(crate) fn regions_of(
     alloc: Global,
     forms: &[Form],
     marks: &[bool],
+    split: &[bool],
 ) -> Result<Option<Regions>, AllocError> {
     let mut all = Vec::new(alloc);
     let mut depths = vec![in alloc; 0u32; forms.len()]?;
     let mut left = MOST;
     for (at, is_marked) in marks.iter().enumerate() {
-        if !*is_marked {
+        if !*is_marked || matches!(split.get(at), Some(true)) {
             continue;
         }
         if let Some(region) = region_at(forms, at) {
@@ -120,6 +121,27 @@ pub(crate) fn regions_of(
         }
     }
     Ok(Some(Regions { all, depths }))
+}
+
+impl Regions {
+    /// Whether a form stands in a region.
+    pub(crate) fn has(&self, at: usize) -> bool {
+        match self.depths.get(at) {
+            Some(depth) => *depth > 0,
+            None => false,
+        }
+    }
+
+    /// The branch of the innermost region in which a form stands.
+    pub(crate) fn around(&self, at: usize) -> Option<usize> {
+        let mut found = None;
+        for region in &self.all {
+            if region.start < at && at < region.end {
+                found = Some(region.start);
+            }
+        }
+        found
+    }
 }
 
 /// Counts a region at each of its forms.

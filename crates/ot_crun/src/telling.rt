@@ -1,4 +1,5 @@
 //! What is said of a text that is executed.
+use crate::judging::{Judged, Verdict};
 use crate::naming::cell_name;
 use crate::reading::{Reading, byte_of};
 use ot_ctoken::{Kind, Mark};
@@ -236,4 +237,30 @@ pub(crate) fn outside(alloc: Global, text: &[u8], byte: usize, message: String) 
         },
         notes: Vec::new(alloc),
     }
+}
+
+/// What is told, with a note for each function without a body that was called.
+pub(crate) fn with_untouched(
+    alloc: Global,
+    reading: &Reading,
+    judged: Judged,
+) -> Result<Judged, AllocError> {
+    let Judged { verdict, found } = judged;
+    let mut found = found;
+    if verdict == Verdict::Outside {
+        return Ok(Judged { verdict, found });
+    }
+    for name in &reading.untouched {
+        let name = reading.names.text(*name);
+        let words = format!(in alloc; "judged as if `{name}` touched nothing")?;
+        match found.last_mut() {
+            Some(last) => last.notes.push(Remark {
+                place: None,
+                turns: Vec::new(alloc),
+                message: words,
+            })?,
+            None => found.push(of_file(alloc, Code::OnlyRun, words))?,
+        }
+    }
+    Ok(Judged { verdict, found })
 }

@@ -1,4 +1,5 @@
 //! Ways of a run, by the answers to what isn't known.
+use crate::join::Other;
 use crate::reason::is_error;
 use ot_code::Code;
 use ot_machine::{Fault, Limits, run_code};
@@ -27,27 +28,74 @@ fn next(answers: &mut Vec<bool>) -> Result<bool, AllocError> {
     Ok(false)
 }
 
-/// What ends a way that isn't an error of the program: what the judge can't do. On a way that asks nothing each fault does.
+/// What ends a way that isn't an error of the program: what the judge can't do, and what a body comes to that is joined with another. On a
+/// way that asks nothing each fault does, and so it does where no way comes to its end.
 pub(crate) fn first_limit(
     alloc: Global,
     code: &Code,
     limits: Limits,
+    joined: Option<&Other>,
 ) -> Result<Option<Fault>, AllocError> {
     let mut answers = Vec::new(alloc);
+    let mut last = None;
+    let mut has_ended = false;
     for _ in 0..WAYS.saturating_mul(QUESTIONS) {
         let run = run_code(alloc, code, limits, &answers)?;
         if run.asked > answers.len() && answers.len() < QUESTIONS as usize {
             answers.push(true)?;
             continue;
         }
-        if let Some(fault) = run.fault {
-            if fault.asked == 0 || !is_error(fault.reason) {
-                return Ok(Some(fault));
-            }
+        match run.fault {
+            Some(fault) if is_limit(fault, joined) => return Ok(Some(fault)),
+            Some(fault) => last = Some(fault),
+            None => has_ended = true,
         }
         if !next(&mut answers)? {
-            return Ok(None);
+            break;
         }
     }
-    Ok(None)
+    Ok(if has_ended { None } else { last })
+}
+
+fn is_limit(fault: Fault, joined: Option<&Other>) -> bool {
+    if fault.asked == 0 || !is_error(fault.reason) {
+        return true;
+    }
+    match joined {
+        Some(other) => other.is_joined(fault.at),
+        None => false,
+    }
+}
+
+/// The form by which a run asks more than is answered, or else the last by which it asks.
+pub(crate) fn asks_at(alloc: Global, code: &Code, limits: Limits) -> Result<usize, AllocError> {
+    let none = Vec::new(alloc);
+    let run = run_code(alloc, code, limits, &none)?;
+    let most = run.asked.min(QUESTIONS as usize + 1);
+    let mut few = 0u32;
+    let mut many = limits.steps;
+    for _ in 0..32 {
+        if few >= many {
+            break;
+        }
+        let half = few.saturating_add(many.saturating_sub(few) / 2);
+        if asked_by(alloc, code, limits, half)? >= most {
+            many = half;
+        } else {
+            few = half.saturating_add(1);
+        }
+    }
+    let steps = many.saturating_sub(1);
+    let run = run_code(alloc, code, Limits { steps, ..limits }, &none)?;
+    Ok(match run.fault {
+        Some(fault) => fault.at,
+        None => 0,
+    })
+}
+
+/// How many questions are asked in so many steps.
+fn asked_by(alloc: Global, code: &Code, limits: Limits, steps: u32) -> Result<usize, AllocError> {
+    let none = Vec::new(alloc);
+    let run = run_code(alloc, code, Limits { steps, ..limits }, &none)?;
+    Ok(run.asked)
 }
