@@ -1,6 +1,6 @@
 //! Code that stands in words.
-use ot_code::{Code, Folded, Form, Function, Item, Kind, Operation, Width};
-use ot_model::{Fold, Mode};
+use ot_code::{Code, Depends, Folded, Form, Function, Item, Kind, Operation, Width};
+use ot_model::Fold;
 use std::alloc::{AllocError, Global};
 
 /// `int` of C.
@@ -10,7 +10,7 @@ const INT: Kind = Kind {
 };
 
 /// The code of these forms, each a word and numbers, with `;` behind each. It has so many slots; functions are numbers in pairs: where each
-/// begins, and how many slots it has.
+/// begins, and how many slots it has. `changes` is no form: it names objects that tasks write under locks.
 pub(crate) fn code_of(
     alloc: Global,
     slots: u32,
@@ -18,9 +18,12 @@ pub(crate) fn code_of(
     text: &str,
 ) -> Result<Code, AllocError> {
     let mut forms = Vec::new(alloc);
+    let mut changing = Vec::new(alloc);
     for words in text.split(';') {
         let words = words.trim();
-        if !words.is_empty() {
+        if let Some(("changes", name)) = words.split_once(" ") {
+            changing.push(name.parse::<u32>().unwrap_or(0))?;
+        } else if !words.is_empty() {
             forms.push(form_of(alloc, words)?)?;
         }
     }
@@ -35,7 +38,18 @@ pub(crate) fn code_of(
         forms,
         slots,
         functions: known,
+        changing,
     })
+}
+
+/// How a task depends, by a number.
+fn depends(number: u32) -> Depends {
+    match number {
+        0 => Depends::In,
+        1 => Depends::InOut,
+        2 => Depends::MutexInOutSet,
+        _ => Depends::InOutSet,
+    }
 }
 
 /// The numbers behind the first word.
@@ -58,11 +72,7 @@ impl Numbers {
         for _ in 0..self.all.len() {
             if k < self.all.len() {
                 items.push(Item {
-                    mode: if self.at(k) == 0 {
-                        Mode::Reads
-                    } else {
-                        Mode::Writes
-                    },
+                    mode: depends(self.at(k)),
                     slot: self.at(k.wrapping_add(1)),
                 })?;
             }
@@ -175,6 +185,8 @@ fn plain_form(name: &str, n: &Numbers) -> Form {
         "finish" => Form::Finish,
         "wait" => Form::Wait(n.at(0)),
         "leave" => Form::Leave(n.at(0)),
+        "lock" => Form::Lock(n.at(0), n.at(1)),
+        "unlock" => Form::Unlock(n.at(0), n.at(1)),
         "joins" => Form::Joins(n.at(0), Fold::Plus, n.at(1)),
         "turn" => Form::Turn(n.at(0), n.at(1)),
         "context" => Form::Context(n.at(0)),

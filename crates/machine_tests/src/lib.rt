@@ -6,6 +6,8 @@ mod codes;
 #[cfg(test)]
 mod costs;
 #[cfg(test)]
+mod locks;
+#[cfg(test)]
 mod numbers;
 #[cfg(test)]
 mod runs;

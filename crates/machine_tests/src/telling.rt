@@ -1,8 +1,9 @@
 //! What is told of code.
 use ot_code::Code;
-use ot_corder::Order;
+use ot_corder::{Order, judge_apart_by};
+use ot_locks::{Apart, Locks};
 use ot_machine::{Entered, Fault, Limits, Met, Run, Ways, contexts_of, first_fault, run_code};
-use ot_outline::{Told, race_of};
+use ot_outline::{Told, events_of, race_of};
 use ot_race::Race;
 use std::alloc::{AllocError, Global};
 use std::fmt::Write;
@@ -29,6 +30,27 @@ pub(crate) fn told(alloc: Global, code: &Code) -> Result<String, AllocError> {
                 told.push_str(if *answer { "+" } else { "-" })?;
             }
         }
+    }
+    Ok(told)
+}
+
+/// The run of code whose answers are all no, and its first race without a common lock.
+pub(crate) fn told_apart(alloc: Global, code: &Code) -> Result<String, AllocError> {
+    let none = Vec::new(alloc);
+    let run = run_code(alloc, code, Limits::usual(), &none)?;
+    let mut told = told_of_run(alloc, &run)?;
+    let events = events_of(alloc, &run.log)?;
+    if events.len() > 100 {
+        return Ok(told);
+    }
+    let locks = Locks {
+        sets: &run.sets,
+        held: &run.held,
+    };
+    match judge_apart_by(alloc, Order::OfC, events, &locks)? {
+        Apart::RacesNowhere => told.push_str("none")?,
+        Apart::Races(race) => told.push_str(told_of_race(alloc, &run, race)?.as_str())?,
+        Apart::TooMany(_) => told.push_str("many")?,
     }
     Ok(told)
 }

@@ -3,9 +3,9 @@ use crate::fault::{Fault, Why};
 use crate::maker::{ALONE, Aim, FINAL, Held, Maker, WORD};
 use crate::value::DEEPEST;
 use ot_clayout::{Class, Sort};
-use ot_code::{Folded, Form, Item, Operation};
+use ot_code::{Depends, Folded, Form, Item, Operation};
 use ot_ctree::{Clause, Dependence, Directive, Expr, Integer, Iterator, Reducing, Role};
-use ot_model::{Fold, Mode};
+use ot_model::Fold;
 
 /// How many items an iterator makes at most.
 const MOST_TURNS: u64 = 64;
@@ -30,12 +30,12 @@ pub(crate) fn fold_of(reducing: Reducing) -> Fold {
     }
 }
 
-fn mode_of(at: u32, dependence: Dependence) -> Result<Mode, Fault> {
+fn mode_of(dependence: Dependence) -> Depends {
     match dependence {
-        Dependence::In => Ok(Mode::Reads),
-        Dependence::Out | Dependence::Inout => Ok(Mode::Writes),
-        // mutexinoutset and inoutset come here
-        other => Err(Fault::Refused(at, Why::Dependence(other))),
+        Dependence::In => Depends::In,
+        Dependence::Out | Dependence::Inout => Depends::InOut,
+        Dependence::Mutexinoutset => Depends::MutexInOutSet,
+        Dependence::Inoutset => Depends::InOutSet,
     }
 }
 
@@ -172,7 +172,7 @@ impl<'a> Maker<'a> {
     pub(crate) fn dependences(&mut self, clauses: &[Clause]) -> Result<(), Fault> {
         for clause in clauses {
             if let Role::Depend(dependence) = clause.role {
-                let mode = mode_of(clause.at, dependence)?;
+                let mode = mode_of(dependence);
                 match clause.iterators.as_slice() {
                     [] => self.dependence(mode, clause.items.as_slice())?,
                     [iterator] => self.iterated(
@@ -188,7 +188,7 @@ impl<'a> Maker<'a> {
         Ok(())
     }
 
-    fn dependence(&mut self, mode: Mode, items: &[Expr]) -> Result<(), Fault> {
+    fn dependence(&mut self, mode: Depends, items: &[Expr]) -> Result<(), Fault> {
         for item in items {
             if self.is_empty(item) {
                 continue;
@@ -219,7 +219,7 @@ impl<'a> Maker<'a> {
     fn iterated(
         &mut self,
         at: u32,
-        mode: Mode,
+        mode: Depends,
         iterator: &Iterator,
         items: &[Expr],
     ) -> Result<(), Fault> {

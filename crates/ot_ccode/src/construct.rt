@@ -9,7 +9,7 @@ use std::mem;
 
 /// Where a region that is executed here began.
 #[derive(Clone, Copy)]
-struct Region {
+pub(crate) struct Region {
     live: usize,
     was: usize,
     around: Around,
@@ -93,7 +93,7 @@ impl<'a> Maker<'a> {
         }
     }
 
-    fn begins_region(&mut self) -> Region {
+    pub(crate) fn begins_region(&mut self) -> Region {
         let region = Region {
             live: self.live.len(),
             was: self.was.len(),
@@ -106,7 +106,7 @@ impl<'a> Maker<'a> {
         region
     }
 
-    fn ends_region(&mut self, at: u32, region: Region) -> Result<(), Fault> {
+    pub(crate) fn ends_region(&mut self, at: u32, region: Region) -> Result<(), Fault> {
         self.end_since(at, region.live)?;
         self.restore(region.was);
         self.around = region.around;
@@ -175,6 +175,7 @@ impl<'a> Maker<'a> {
         depth: u32,
         at: u32,
         directives: &[Directive],
+        name: Option<u32>,
         clauses: &[Clause],
         body: &Option<Box<Stmt>>,
     ) -> Result<(), Fault> {
@@ -211,7 +212,15 @@ impl<'a> Maker<'a> {
                 let body = body_of(at, *first, body)?;
                 self.parallel(depth, at, rest, clauses, body)
             }
-            // what several threads do, locks, and the rest have their place here
+            Directive::Critical => {
+                let body = body_of(at, *first, body)?;
+                self.critical(depth, at, name, body)
+            }
+            Directive::Atomic => {
+                let body = body_of(at, *first, body)?;
+                self.atomic(at, clauses, body)
+            }
+            // what several threads do, and the rest have their place here
             other => Err(Fault::Refused(at, Why::Directive(*other))),
         }
     }

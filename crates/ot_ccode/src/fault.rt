@@ -1,6 +1,6 @@
 //! Why a unit isn't translated.
 use ot_csharing as sharing;
-use ot_ctree::{Dependence, Directive};
+use ot_ctree::Directive;
 use std::alloc::{AllocError, AllocFailed};
 use std::fmt;
 
@@ -13,7 +13,6 @@ pub enum Why {
     /// It is too long.
     Length,
     Directive(Directive),
-    Dependence(Dependence),
     /// Several threads of a team do something here.
     Threads,
     /// `default(none)`, and no clause names this variable.
@@ -43,6 +42,8 @@ pub enum Why {
     /// A function of the library that isn't modelled.
     Library,
     Atomic,
+    /// A form of `atomic` that isn't translated.
+    AtomicForm,
     Threadprivate,
     Initial,
     /// No function begins the run.
@@ -100,23 +101,12 @@ fn directive_name(directive: Directive) -> &'static str {
     }
 }
 
-fn dependence_name(dependence: Dependence) -> &'static str {
-    match dependence {
-        Dependence::In => "in",
-        Dependence::Out => "out",
-        Dependence::Inout => "inout",
-        Dependence::Mutexinoutset => "mutexinoutset",
-        Dependence::Inoutset => "inoutset",
-    }
-}
-
 fn words(why: Why) -> &'static str {
     match why {
         Why::Goto => "`goto` isn't executed yet",
         Why::Nesting => "this nests too deep",
         Why::Length => "this is too long",
         Why::Directive(_) => "this construct isn't executed yet",
-        Why::Dependence(_) => "this dependence isn't executed yet",
         Why::Threads => "what several threads of a team do isn't executed yet",
         Why::Unsaid(_) => "`default(none)`, and a variable is in no clause",
         Why::Clause => "this form of a clause isn't executed yet",
@@ -136,6 +126,7 @@ fn words(why: Why) -> &'static str {
         Why::Arguments => "too few arguments",
         Why::Library => "this function of the library isn't executed yet",
         Why::Atomic => "`_Atomic` isn't executed yet",
+        Why::AtomicForm => "this form of `atomic` isn't executed yet",
         Why::Threadprivate => "`threadprivate` isn't executed yet",
         Why::Initial => "this initial value isn't executed yet",
         Why::NoEntry => "no function begins the run",
@@ -148,10 +139,6 @@ impl fmt::Display for Why {
             Why::Directive(directive) => {
                 let name = directive_name(*directive);
                 write!(f, "`{name}` isn't executed yet")
-            }
-            Why::Dependence(dependence) => {
-                let name = dependence_name(*dependence);
-                write!(f, "`depend({name}: ..)` isn't executed yet")
             }
             other => {
                 let words = words(*other);

@@ -8,6 +8,7 @@ mod construct;
 mod fault;
 mod initial;
 mod library;
+mod lock;
 mod maker;
 mod names;
 mod operate;

@@ -92,6 +92,18 @@ impl<'a> Maker<'a> {
             Known::Sorts => self.sorts(at, base),
             Known::Draws => self.draws(at),
             Known::Seeds => self.seeds(at, base),
+            Known::WritesLock => {
+                let pointer = self.argument(at, base, 0)?;
+                self.writes_lock(at, pointer)
+            }
+            Known::SetsLock => {
+                let pointer = self.argument(at, base, 0)?;
+                self.sets_lock(at, pointer)
+            }
+            Known::UnsetsLock => {
+                let pointer = self.argument(at, base, 0)?;
+                self.unsets_lock(at, pointer)
+            }
             Known::Other => Err(Fault::Refused(at, Why::Library)),
         }
     }

@@ -35,6 +35,10 @@ pub enum Known {
     Sorts,
     Draws,
     Seeds,
+    /// A lock variable begins, or ends.
+    WritesLock,
+    SetsLock,
+    UnsetsLock,
     /// It isn't modelled.
     Other,
 }
@@ -162,10 +166,10 @@ const TABLE: [(&str, Known); 146] = [
     ("fminf", Known::Real(4)),
     ("floorf", Known::Real(4)),
     ("ceilf", Known::Real(4)),
-    ("omp_init_lock", Known::Other),
-    ("omp_destroy_lock", Known::Other),
-    ("omp_set_lock", Known::Other),
-    ("omp_unset_lock", Known::Other),
+    ("omp_init_lock", Known::WritesLock),
+    ("omp_destroy_lock", Known::WritesLock),
+    ("omp_set_lock", Known::SetsLock),
+    ("omp_unset_lock", Known::UnsetsLock),
     ("omp_test_lock", Known::Other),
     ("omp_init_nest_lock", Known::Other),
     ("omp_set_nest_lock", Known::Other),

@@ -2,9 +2,9 @@
 use crate::fault::{Fault, Why};
 use crate::maker::{Aim, Around, Held, Maker, Way, below};
 use crate::value::DEEPEST;
-use ot_clayout::{Class, Sort};
+use ot_clayout::{Class, Sort, promoted};
 use ot_code::{Form, Operation};
-use ot_ctree::{Expr, Initial, Stmt, Storage, Variable};
+use ot_ctree::{Expr, Initial, Integer, Stmt, Storage, Variable};
 
 /// What needs no other statement.
 impl<'a> Maker<'a> {
@@ -210,15 +210,28 @@ impl<'a> Maker<'a> {
         Ok(())
     }
 
-    /// The labels of a `switch`: for each a test and a jump, and one where none fits.
-    fn chooses(&mut self, at: u32, slot: u32, list: &[Stmt]) -> Result<(), Fault> {
+    /// The value of a `switch`, promoted, and its type (ISO C11, section 6.8.4.2).
+    fn chosen_by(&mut self, at: u32, value: &Expr) -> Result<(u32, Integer), Fault> {
+        let value = self.expression(DEEPEST, value)?;
+        match self.class(value.sort) {
+            Class::Integer(integer) => {
+                let to = promoted(integer);
+                let value = self.convert(at, value, Sort::integer(to))?;
+                Ok((value.slot, to))
+            }
+            _ => Err(Fault::Refused(at, Why::Operation)),
+        }
+    }
+
+    /// The labels of a `switch`, converted to the type of its value: for each a test and a jump, and one where none fits.
+    fn chooses(&mut self, at: u32, slot: u32, integer: Integer, list: &[Stmt]) -> Result<(), Fault> {
         let mark = self.frame.next;
         for statement in list {
             if let Stmt::Case(label, Some(value)) = statement {
                 let Some(constant) = self.layouts.constant(self.unit, value) else {
                     return Err(Fault::Refused(*label, Why::NotConstant));
                 };
-                let number = self.number(constant.number)?;
+                let number = self.number(constant.to(integer).number)?;
                 let fits = self.operate(Operation::Equal, crate::maker::WORD, slot, number)?;
                 let other = self.emit(Form::Branch(at, fits, 0))?;
                 let jump = self.jump()?;
@@ -322,9 +335,10 @@ impl<'a> Maker<'a> {
             Stmt::Return(at, value) => self.returns(*at, value),
             Stmt::Goto(at, _) => Err(Fault::Refused(*at, Why::Goto)),
             Stmt::Label(_, _) => Ok(()),
-            Stmt::Construct(at, directives, _, clauses, body) => {
+            Stmt::Construct(at, directives, name, clauses, body) => {
                 let depth = below(depth, *at)?;
-                self.construct(depth, *at, directives.as_slice(), clauses.as_slice(), body)
+                let directives = directives.as_slice();
+                self.construct(depth, *at, directives, *name, clauses.as_slice(), body)
             }
         }
     }
@@ -482,8 +496,8 @@ impl<'a> Maker<'a> {
         let outside = self.around;
         let base = self.breaks.len();
         let cases = self.cases.len();
-        let slot = self.tested(at, value)?;
-        self.chooses(at, slot, list.as_slice())?;
+        let (slot, integer) = self.chosen_by(at, value)?;
+        self.chooses(at, slot, integer, list.as_slice())?;
         self.frame.next = mark;
         let otherwise = self.jump()?;
         self.around = Around {

@@ -335,6 +335,7 @@ pub fn translate(alloc: Global, unit: &Unit, known: &[Option<Known>]) -> Result<
             forms: maker.forms,
             slots,
             functions: maker.functions,
+            changing: Vec::new(alloc),
         },
         sites: maker.sites,
         globals,

@@ -1,12 +1,22 @@
 use crate::kind::Kind;
 use crate::operation::Operation;
-use ot_model::{Fold, Mode};
+use ot_model::Fold;
+
+/// How a task depends by an item (OpenMP API 5.2, section 15.9.5): `InOut` is for `out` too.
+#[derive(Clone, Copy, Debug, PartialEq, Eq)]
+pub enum Depends {
+    In,
+    InOut,
+    /// Siblings that say so one after the other are in no order, and exclude each other.
+    MutexInOutSet,
+    /// Such siblings are in no order.
+    InOutSet,
+}
 
 /// An item of a `depend` clause: how the task depends, and the slot that has the place where the item begins.
 #[derive(Clone, Copy, Debug, PartialEq, Eq)]
 pub struct Item {
-    /// `Reads` for `in`, `Writes` for `out` and `inout`.
-    pub mode: Mode,
+    pub mode: Depends,
     pub slot: u32,
 }
 
@@ -88,6 +98,11 @@ pub enum Form {
     Group(u32, Vec<Folded>),
     /// At this site: it ends, and writes the items of its reductions.
     Leave(u32),
+    /// At this site: the task takes the lock that the slot's value names: a number that isn't 0, or a place. So `critical` has a number
+    /// for each name, `atomic` has one, and a lock variable has its place.
+    Lock(u32, u32),
+    /// At this site: the task leaves that lock.
+    Unlock(u32, u32),
     /// At this site: the cell at the slot's place has to be an item, by this operation, of a region that is open.
     Joins(u32, Fold, u32),
     /// A turn of the loop of this site begins: the second slot has its number, or its variable's.
@@ -113,6 +128,8 @@ pub struct Code {
     pub forms: Vec<Form>,
     pub slots: u32,
     pub functions: Vec<Function>,
+    /// The names of objects that tasks write under locks: their order isn't known, so what is there isn't either.
+    pub changing: Vec<u32>,
 }
 
 ghost use Rattle.std.specs.Prelude.{◌≡◌, ◌<◌, ◌+◌, length, take};
@@ -141,6 +158,8 @@ impl Form {
             | Form::WaitFor(site, _)
             | Form::Group(site, _)
             | Form::Leave(site)
+            | Form::Lock(site, _)
+            | Form::Unlock(site, _)
             | Form::Joins(site, _, _)
             | Form::Turn(site, _) => Some(*site),
             _ => None,

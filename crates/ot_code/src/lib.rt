@@ -6,7 +6,7 @@ mod kind;
 mod number;
 mod operation;
 
-pub use form::{Code, Folded, Form, Function, Item};
+pub use form::{Code, Depends, Folded, Form, Function, Item};
 pub use kind::{Kind, Width};
 pub use number::operate;
 pub use operation::Operation;

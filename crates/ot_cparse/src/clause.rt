@@ -23,8 +23,6 @@ fn alone(name: u32) -> Option<Role> {
         | word::RELEASE
         | word::ACQUIRE
         | word::RELAXED
-        | word::COMPARE
-        | word::WEAK
         | word::THREADS
         | word::SIMD
         | word::INBRANCH => Some(Role::Other),

@@ -31,6 +31,8 @@ pub enum Why {
     Dependence,
     /// A directive that stands alone, as a body.
     Alone,
+    /// A member with a width in bits.
+    Width,
     /// What nests too deep.
     Nesting,
 }

@@ -134,8 +134,8 @@ impl Parser {
                     kind: declared.kind,
                 })?;
             }
-            if self.take(Mark::Colon) {
-                let _ = self.choice(MAX_DEPTH)?;
+            if self.is_mark(Mark::Colon) {
+                return Err(self.fault(Why::Width));
             }
             if !self.take(Mark::Comma) {
                 break;

@@ -1,5 +1,5 @@
 -- Runs: form after form, by the answers to the questions that are asked on the way.
-use Rattle.std.specs.Prelude.{◌≡◌, ℕ, zero, suc, ◌+◌, nat_le, Bool, true, false, List, [], ◌∷◌, length, Option, Some, None, slice_get, if◌then◌else◌, Result, Ok, Err}
+use Rattle.std.specs.Prelude.{◌≡◌, ℕ, zero, suc, ◌+◌, nat_le, Bool, true, false, List, [], ◌∷◌, length, map, Option, Some, None, slice_get, if◌then◌else◌, Result, Ok, Err}
 use Rattle.ot_code.specs.declared.form.Code.{Code}
 use Rattle.ot_code.specs.declared.form.Form.{Form}
 use Rattle.ot_code.specs.declared.form.Form.TheVariants as f
@@ -10,6 +10,7 @@ use Rattle.ot_state.specs.Slots.{slots, read, is_question, enter}
 use Rattle.ot_state.specs.Memory.{memory}
 use Rattle.ot_state.specs.Trail.{trail, context}
 use Rattle.ot_state.specs.Nest.{nest}
+use Rattle.ot_state.specs.Locks.{no_locks}
 use Rattle.ot_machine.specs.State.{State, state, from}
 use Rattle.ot_machine.specs.Steps.{Step, step}
 use Rattle.ot_state.specs.declared.fault.Fault.{Fault}
@@ -66,7 +67,7 @@ run code l answers (suc steps) asked s = goes_on (run code l answers steps) (nex
 unfoldable pub beginning : Code → Limits → Step
 beginning code l = do
   own ← enter l (slots 0 []) 0 code.slots
-  Ok (state 0 own (memory [] []) (trail 0 0 (context 0 0 entered.Run ∷ []) [] [] 0) (nest [] [] []) 0 false)
+  Ok (state 0 own (memory [] []) (trail 0 0 (context 0 0 entered.Run ∷ []) [] [] [] 0) (nest [] [] []) no_locks [] 0 false)
 
 abbrev pub run_from : Code → Limits → (ℕ → Bool) → Step → Reached
 run_from code l answers (Ok s) = run code l answers l.steps 0 s
@@ -95,10 +96,12 @@ abbrev pub Leads : {X : Type 0} → (X → State × ℕ) → Result X Stopped �
 Leads view (Ok x) reached = reached ≡ Ok (view x)
 Leads view (Err e) reached = Ends e reached
 
--- a run that ended has these events, each of which has a row, these contexts and objects; and one that didn't has this fault
+-- a run that ended has these events, each of which has a row and the number of a set of locks, these sets, contexts and objects; and one that
+-- didn't has this fault
 abbrev pub Tells : Run → Reached → Type 0
 Tells r (Ok p) =
-    (r.fault ≡ None) × (noted_in r.log.items ≡ p.0.trail.log) × (r.rows.items ≡ p.0.trail.rows) × (r.contexts.items ≡ p.0.trail.contexts)
+    (r.fault ≡ None) × (noted_in r.log.items ≡ p.0.trail.log) × (r.rows.items ≡ p.0.trail.rows)
+    × (r.held.items ≡ p.0.trail.held) × (map (λ s. s.items) r.sets.items ≡ p.0.locks.sets) × (r.contexts.items ≡ p.0.trail.contexts)
     × (r.objects.items ≡ p.0.memory.objects) × (r.asked ≡ p.1)
 Tells r (Err e) = (r.fault ≡ Some e) × (r.log.items ≡ []) × (r.asked ≡ e.asked)
 

@@ -120,6 +120,7 @@ impl Machine {
             base: self.slots.base,
             task: self.trail.task,
             context: self.trail.context,
+            held: self.locks.held,
             groups: self.nest.groups.len(),
             kept,
         }

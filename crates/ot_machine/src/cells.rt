@@ -4,7 +4,9 @@ ghost use Rattle.ot_state.specs.Results.{Gives};
 ghost use Rattle.ot_machine.specs.Steps.{first_value, beginning, allocating, ending, loading, storing, loading_own, storing_own, reading_range, writing_range};
 ghost use Rattle.ot_machine.specs.View.{state_of};
 
+use crate::locks::{seen, written};
 use crate::machine::{Machine, number};
+use ot_code::Code;
 use ot_model::Mode;
 use ot_state::{Halt, Limits, Reason, Value};
 use std::alloc::Global;
@@ -74,7 +76,8 @@ impl Machine {
     {
         let place = self.slots.read(slot)?;
         let span = self.memory.finish(place)?;
-        self.trail.touch(alloc, limits, site, Mode::Writes, span)?;
+        self.trail
+            .touch(alloc, limits, site, 0, Mode::Writes, span)?;
         Ok(())
     }
 
@@ -82,17 +85,21 @@ impl Machine {
     pub(crate) fn load(
         &mut self,
         alloc: Global,
+        code: &Code,
         limits: Limits,
         site: u32,
         to: u32,
         slot: u32,
     ) -> Result<(), Halt>
-        ensures { Gives (λ _. state_of self.new) result (loading limits site to slot (state_of self.old)) }
+        ensures { Gives (λ _. state_of self.new) result (loading code.now limits site to slot (state_of self.old)) }
     {
         let place = self.slots.read(slot)?;
         let span = self.memory.span(place, 1)?;
-        let value = self.memory.taken(place, span)?;
-        self.trail.touch(alloc, limits, site, Mode::Reads, span)?;
+        let there = self.memory.taken(place, span)?;
+        let held = self.locks.held;
+        let value = seen(code, &self.memory, held, span, there)?;
+        self.trail
+            .touch(alloc, limits, site, held, Mode::Reads, span)?;
         self.put(to, value)
     }
 
@@ -100,18 +107,22 @@ impl Machine {
     pub(crate) fn store(
         &mut self,
         alloc: Global,
+        code: &Code,
         limits: Limits,
         site: u32,
         slot: u32,
         other: u32,
     ) -> Result<(), Halt>
-        ensures { Gives (λ _. state_of self.new) result (storing limits site slot other (state_of self.old)) }
+        ensures { Gives (λ _. state_of self.new) result (storing code.now limits site slot other (state_of self.old)) }
     {
         let place = self.slots.read(slot)?;
         let value = self.slots.read(other)?;
         let span = self.memory.span(place, 1)?;
-        self.trail.touch(alloc, limits, site, Mode::Writes, span)?;
-        self.memory.fill(span, place.kept(value))?;
+        let held = self.locks.held;
+        let there = written(code, &self.memory, held, span, place.kept(value))?;
+        self.trail
+            .touch(alloc, limits, site, held, Mode::Writes, span)?;
+        self.memory.fill(span, there)?;
         Ok(())
     }
 
@@ -152,7 +163,9 @@ impl Machine {
         let value = self.slots.read(other)?;
         let count = number(Reason::UnknownLength, value)?;
         let span = self.memory.span(place, count)?;
-        self.trail.touch(alloc, limits, site, Mode::Reads, span)?;
+        let held = self.locks.held;
+        self.trail
+            .touch(alloc, limits, site, held, Mode::Reads, span)?;
         Ok(())
     }
 
@@ -160,19 +173,23 @@ impl Machine {
     pub(crate) fn write_range(
         &mut self,
         alloc: Global,
+        code: &Code,
         limits: Limits,
         site: u32,
         slot: u32,
         other: u32,
     ) -> Result<(), Halt>
-        ensures { Gives (λ _. state_of self.new) result (writing_range limits site slot other (state_of self.old)) }
+        ensures { Gives (λ _. state_of self.new) result (writing_range code.now limits site slot other (state_of self.old)) }
     {
         let place = self.slots.read(slot)?;
         let value = self.slots.read(other)?;
         let count = number(Reason::UnknownLength, value)?;
         let span = self.memory.span(place, count)?;
-        self.trail.touch(alloc, limits, site, Mode::Writes, span)?;
-        self.memory.fill(span, Value::Unknown)?;
+        let held = self.locks.held;
+        let there = written(code, &self.memory, held, span, Value::Unknown)?;
+        self.trail
+            .touch(alloc, limits, site, held, Mode::Writes, span)?;
+        self.memory.fill(span, there)?;
         Ok(())
     }
 }

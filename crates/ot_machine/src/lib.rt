@@ -4,8 +4,10 @@
 mod calls;
 mod cells;
 mod faults;
+mod locks;
 mod machine;
 mod run;
+mod siblings;
 mod step;
 mod tasks;
 mod telling;

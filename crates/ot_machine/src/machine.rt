@@ -8,10 +8,11 @@ ghost use Rattle.ot_state.specs.declared.value.Value.TheVariants.{Number};
 
 use ot_code::{Kind, Operation};
 use ot_state::{
-    Halt, Memory, Nest, Reason, Slots, Trail, Value, advanced, combined, converted, distance,
+    Halt, Locks, Memory, Nest, Reason, Siblings, Slots, Trail, Value, advanced, combined,
+    converted, distance,
 };
 
-/// The form that is next, slots, objects, what happened, what is open, how many tasks there have been, and whether the run has ended.
+/// The form that is next, slots, objects, what happened, what is open, locks, siblings in no order, how many tasks there have been, and whether the run has ended.
 #[derive(Drop)]
 pub(crate) struct Machine {
     pub(crate) at: usize,
@@ -19,6 +20,8 @@ pub(crate) struct Machine {
     pub(crate) memory: Memory,
     pub(crate) trail: Trail,
     pub(crate) nest: Nest,
+    pub(crate) locks: Locks,
+    pub(crate) siblings: Vec<Siblings>,
     pub(crate) tasks: u32,
     pub(crate) ended: bool,
 }

@@ -15,18 +15,21 @@ use crate::machine::Machine;
 use ot_code::{Code, Form};
 use ot_outline::Noted;
 use ot_state::{
-    Context, Entered, Fault, Halt, Limits, Memory, Nest, Object, Reason, Row, Slots, Trail,
+    Context, Entered, Fault, Halt, Limits, Locks, Memory, Nest, Object, Reason, Row, Slots, Trail,
 };
 use std::alloc::{AllocError, Global};
 
-/// A run: the fault that ended it, if one did, how many questions were asked, the events, a row for each, and the contexts and objects
-/// that these name. Where it has a fault, it has no events.
+/// A run: the fault that ended it, if one did, how many questions were asked, the events, for each a row and the number of the set of
+/// locks that it holds, these sets, of which the first is empty, and the contexts and objects that are named. Where it has a fault, it has no
+/// events.
 #[derive(Debug, Drop)]
 pub struct Run {
     pub fault: Option<Fault>,
     pub asked: usize,
     pub log: Vec<Noted>,
     pub rows: Vec<Row>,
+    pub held: Vec<u32>,
+    pub sets: Vec<Vec<u32>>,
     pub contexts: Vec<Context>,
     pub objects: Vec<Object>,
 }
@@ -148,6 +151,7 @@ impl Machine {
         };
         slots.enter(limits, 0, code.slots)?;
         let trail = first_trail(alloc)?;
+        let locks = Locks::new(alloc)?;
         Ok(Machine {
             at: 0,
             slots,
@@ -161,6 +165,8 @@ impl Machine {
                 groups: Vec::new(alloc),
                 parts: Vec::new(alloc),
             },
+            locks,
+            siblings: Vec::new(alloc),
             tasks: 0,
             ended: false,
         })
@@ -169,7 +175,7 @@ impl Machine {
 
 /// Nothing has happened, in the context of the run.
 fn first_trail(alloc: Global) -> Result<Trail, Halt>
-    ensures { Gives trail_of result (Ok (trail 0 0 (context 0 0 entered.Run ∷ []) [] [] 0)) }
+    ensures { Gives trail_of result (Ok (trail 0 0 (context 0 0 entered.Run ∷ []) [] [] [] 0)) }
 {
     let mut contexts = Vec::new(alloc);
     contexts.push(Context {
@@ -182,6 +188,7 @@ fn first_trail(alloc: Global) -> Result<Trail, Halt>
         context: 0,
         contexts,
         rows: Vec::new(alloc),
+        held: Vec::new(alloc),
         log: Vec::new(alloc),
         touches: 0,
     })
@@ -245,19 +252,28 @@ fn ended_by(machine: Machine, asked: usize) -> Run
     ensures told { Tells result (Ok (state_of machine, asked)) }
     ensures log { result.log.items ≡ machine.trail.log.items }
 {
-    let Machine { memory, trail, .. } = machine;
+    let Machine {
+        memory,
+        trail,
+        locks,
+        ..
+    } = machine;
     let Trail {
         contexts,
         rows,
+        held,
         log,
         ..
     } = trail;
     let Memory { objects, .. } = memory;
+    let Locks { sets, .. } = locks;
     Run {
         fault: None,
         asked,
         log,
         rows,
+        held,
+        sets,
         contexts,
         objects,
     }
@@ -276,6 +292,8 @@ fn faulted(alloc: Global, machine: Machine, fault: Fault) -> Run
         asked: fault.asked,
         log: Vec::new(alloc),
         rows,
+        held: Vec::new(alloc),
+        sets: Vec::new(alloc),
         contexts,
         objects,
     }
@@ -291,6 +309,8 @@ fn no_run(alloc: Global, fault: Fault) -> Run
         asked: fault.asked,
         log: Vec::new(alloc),
         rows: Vec::new(alloc),
+        held: Vec::new(alloc),
+        sets: Vec::new(alloc),
         contexts: Vec::new(alloc),
         objects: Vec::new(alloc),
     }

@@ -65,15 +65,15 @@ impl Machine {
                 limits, *to, *name, *slot, *cells, *zero,
             ),
             Form::End(site, slot) => self.end(alloc, limits, *site, *slot),
-            Form::Load(site, to, slot) => self.load(alloc, limits, *site, *to, *slot),
-            Form::Store(site, slot, other) => self.store(alloc, limits, *site, *slot, *other),
+            Form::Load(site, to, slot) => self.load(alloc, code, limits, *site, *to, *slot),
+            Form::Store(site, slot, other) => self.store(alloc, code, limits, *site, *slot, *other),
             Form::LoadOwn(_, to, slot) => self.load_own(*to, *slot),
             Form::StoreOwn(_, slot, other) => self.store_own(limits, *slot, *other),
             Form::ReadRange(site, slot, other) => self.read_range(
                 alloc, limits, *site, *slot, *other,
             ),
             Form::WriteRange(site, slot, other) => self.write_range(
-                alloc, limits, *site, *slot, *other,
+                alloc, code, limits, *site, *slot, *other,
             ),
             Form::Jump(to) => {
                 self.jump(*to);
@@ -107,6 +107,8 @@ impl Machine {
             Form::WaitFor(site, items) => self.wait_for(alloc, limits, *site, items),
             Form::Group(_, items) => self.group(alloc, limits, items),
             Form::Leave(site) => self.leave(alloc, limits, *site),
+            Form::Lock(_, slot) => self.lock(alloc, limits, *slot),
+            Form::Unlock(_, slot) => self.unlock(alloc, limits, *slot),
             Form::Joins(_, fold, slot) => self.join(*fold, *slot),
             Form::Turn(site, slot) => self.turn(limits, *site, *slot),
             Form::Context(to) => self.put_context(*to),

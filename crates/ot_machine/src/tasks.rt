@@ -2,7 +2,7 @@
 ghost use Rattle.std.specs.Prelude.{◌≡◌, IfOk};
 ghost use Rattle.ot_model.specs.Cells.{AreInOrder};
 ghost use Rattle.ot_state.specs.Results.{Gives};
-ghost use Rattle.ot_machine.specs.Steps.{at_once, apart, beginning_task, tasking, awaiting, finishing, waiting, waiting_for, grouping, leaving, joining};
+ghost use Rattle.ot_machine.specs.Steps.{at_once, apart, beginning_task, opening, tasking, awaiting, finishing, waiting, waiting_for, grouping, leaving, joining};
 ghost use Rattle.ot_machine.specs.View.{state_of};
 ghost use Rattle.ot_state.specs.View.{slots_of, memory_of};
 
@@ -80,18 +80,48 @@ impl Machine {
         ensures { Gives (λ _. state_of self.new) result
             (tasking limits it.entry.site it.entry.first it.entry.slots it.entry.behind it.entry.items.now.items it.entry.when answer (state_of self.old)) }
     {
-        let mut uses = items_of(alloc, limits, &self.slots, &self.memory, it.items)?;
+        let uses = items_of(
+            alloc,
+            limits,
+            &self.slots,
+            &self.memory,
+            None,
+            &self.siblings,
+            it.items,
+        )?;
+        let mut set = Vec::new(alloc);
+        self.side(alloc, limits, it.site, it.items, &mut set)?;
+        self.open(alloc, limits, it, uses, answer, set)
+    }
+
+    /// A task begins that declares this, and holds these locks.
+    #[tactic(auto, unfolding(crate::specs::Steps::opening))]
+    fn open(
+        &mut self,
+        alloc: Global,
+        limits: Limits,
+        it: Created<'_>,
+        declared: Vec<Use>,
+        answer: bool,
+        set: Vec<u32>,
+    ) -> Result<(), Halt>
+        requires { AreInOrder declared.items }
+        ensures { Gives (λ _. state_of self.new) result
+            (opening limits it.entry.site it.entry.first it.entry.slots it.entry.behind declared.items it.entry.when answer (state_of self.old) set.items) }
+    {
+        let mut uses = declared;
         let now = at_once(&self.slots, it.when, answer)?;
         let kept = apart(limits, it.site, now, &mut uses, &mut self.memory)?;
         let frame = self.frame(it.behind as usize, kept);
         self.nest.open(limits, frame)?;
         self.slots.enter(limits, it.first, it.slots)?;
+        self.hold_own(limits, set)?;
         self.begin_task(alloc, limits, it.site, Decl::new(uses))
     }
 
     /// The next task begins, which declares this.
     #[tactic(auto, unfolding(crate::specs::Steps::beginning_task))]
-    fn begin_task(
+    pub(crate) fn begin_task(
         &mut self,
         alloc: Global,
         limits: Limits,
@@ -108,8 +138,7 @@ impl Machine {
         let task = self.tasks + 1;
         self.tasks = task;
         self.trail.by_task(task, context);
-        self.trail
-            .note(limits, site, Did::Begins(parent, decl), Vec::new(alloc))?;
+        self.trail.note(limits, site, 0, Did::Begins(parent, decl), Vec::new(alloc))?;
         Ok(())
     }
 
@@ -124,7 +153,7 @@ impl Machine {
             Kept::AtOnce(site, object) => {
                 let decl = only_read(alloc, object)?;
                 self.trail
-                    .note(limits, site, Did::Awaits(Some(decl)), Vec::new(alloc))?;
+                    .note(limits, site, 0, Did::Awaits(Some(decl)), Vec::new(alloc))?;
                 Ok(())
             }
         }
@@ -136,6 +165,7 @@ impl Machine {
     {
         let frame = self.nest.close()?;
         self.resume(frame);
+        self.hold_again(frame.held);
         self.await_it(alloc, limits, frame.kept)
     }
 
@@ -144,7 +174,7 @@ impl Machine {
         ensures { Gives (λ _. state_of self.new) result (waiting limits site (state_of self.old)) }
     {
         self.trail
-            .note(limits, site, Did::Awaits(None), Vec::new(alloc))?;
+            .note(limits, site, 0, Did::Awaits(None), Vec::new(alloc))?;
         Ok(())
     }
 
@@ -158,10 +188,20 @@ impl Machine {
     ) -> Result<(), Halt>
         ensures { Gives (λ _. state_of self.new) result (waiting_for limits site items.now.items (state_of self.old)) }
     {
-        let uses = items_of(alloc, limits, &self.slots, &self.memory, items)?;
+        let task = self.trail.task;
+        let uses = items_of(
+            alloc,
+            limits,
+            &self.slots,
+            &self.memory,
+            Some(task),
+            &self.siblings,
+            items,
+        )?;
         self.trail.note(
             limits,
             site,
+            0,
             Did::Awaits(Some(Decl::new(uses))),
             Vec::new(alloc),
         )?;

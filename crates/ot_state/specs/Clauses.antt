@@ -12,11 +12,13 @@ use Rattle.ot_parts.specs.Modes.{use_as}
 use Rattle.ot_state.specs.Results.{◌>>=◌, each}
 use Rattle.ot_state.specs.Memory.{Memory, cell, span_at}
 use Rattle.ot_state.specs.Nest.{part}
+use Rattle.ot_state.specs.Siblings.{told_mode}
 use Rattle.ot_state.specs.Slots.{Slots, read}
 use Rattle.ot_state.specs.declared.fault.Reason.{Reason}
 use Rattle.ot_state.specs.declared.fault.Reason.TheVariants.{TooManyItems}
 use Rattle.ot_state.specs.declared.limits.Limits.{Limits}
 use Rattle.ot_state.specs.declared.nest.Part.{Part}
+use Rattle.ot_state.specs.declared.siblings.Siblings.{Siblings}
 
 -- how a task depends by a cell that two items name
 abbrev pub both : Mode → Mode → Mode
@@ -40,15 +42,15 @@ abbrev pub placed : Use → List Use → ℕ → Option Use → List Use
 placed u us n None = insert us n u
 placed u us n (Some v) = if same_cell v.cell u.cell then slice_set us n (use_as (both v.mode u.mode) v.cell) else insert us n u
 
--- a declaration with one item more: the cell where it begins
-unfoldable pub with_item : Slots → Memory → Item → List Use → Result (List Use) Reason
-with_item s m i us = do
+-- a declaration with one item more, the cell where it begins: of a wait by this task behind these siblings, or of a task
+unfoldable pub with_item : Slots → Memory → Option ℕ → List Siblings → Item → List Use → Result (List Use) Reason
+with_item s m waits ss i us = do
   p ← read s i.slot
   c ← span_at m p 1
-  Ok (with_use (use_as i.mode (cell c.object c.index)) us)
+  Ok (with_use (use_as (told_mode waits (cell c.object c.index) ss i.mode) (cell c.object c.index)) us)
 
-unfoldable pub items_of : Limits → Slots → Memory → List Item → Result (List Use) Reason
-items_of l s m is = if nat_le (length is) l.items then each (with_item s m) is [] else Err TooManyItems
+unfoldable pub items_of : Limits → Slots → Memory → Option ℕ → List Siblings → List Item → Result (List Use) Reason
+items_of l s m waits ss is = if nat_le (length is) l.items then each (with_item s m waits ss) is [] else Err TooManyItems
 
 -- an item more of a region's reductions, with its cells
 unfoldable pub with_part : Slots → Memory → Folded → List Part → Result (List Part) Reason

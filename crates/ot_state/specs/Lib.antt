@@ -4,6 +4,8 @@ pub mod Slots
 pub mod Memory
 pub mod Trail
 pub mod Nest
+pub mod Locks
+pub mod Siblings
 pub mod Clauses
 pub mod View
 pub mod Laws

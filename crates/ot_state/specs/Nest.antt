@@ -22,10 +22,11 @@ pub record Nest : Type 0 where
 abbrev pub nest : List Frame → List Group → List Part → Nest
 nest frames groups parts = record { frames = frames; groups = groups; parts = parts }
 
--- what goes on where a call or a task ends: the form, the slots, the task and the context; how many regions were open; and what ends
-abbrev pub frame : ℕ → ℕ → ℕ → ℕ → ℕ → Kept → Frame
-frame back base task context groups kept =
-    record { back = back; base = base; task = task; context = context; groups = groups; kept = kept }
+-- what goes on where a call or a task ends: the form, the slots, the task, the context and its set of locks; how many regions were open;
+-- and what ends
+abbrev pub frame : ℕ → ℕ → ℕ → ℕ → ℕ → ℕ → Kept → Frame
+frame back base task context held groups kept =
+    record { back = back; base = base; task = task; context = context; held = held; groups = groups; kept = kept }
 
 -- a region: how many events there were before it, and how many items
 abbrev pub group : ℕ → ℕ → Group

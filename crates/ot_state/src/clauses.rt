@@ -9,6 +9,7 @@ use crate::fault::{Halt, Reason};
 use crate::limits::Limits;
 use crate::memory::Memory;
 use crate::nest::Part;
+use crate::siblings::{Siblings, told_mode};
 use crate::slots::Slots;
 use ot_code::{Folded, Item};
 use ot_model::{Cell, Decl, Mode, Use};
@@ -84,11 +85,18 @@ fn put_use(uses: &mut Vec<Use>, place: usize, found: Option<Use>, added: Use) ->
     }
 }
 
-/// A declaration gets one item more: the cell where it begins.
+/// A declaration gets one item more, the cell where it begins: of a wait by this task behind these siblings, or of a task.
 #[tactic(auto, unfolding(crate::specs::Clauses::with_item))]
-fn add_item(slots: &Slots, memory: &Memory, item: Item, uses: &mut Vec<Use>) -> Result<(), Halt>
+fn add_item(
+    slots: &Slots,
+    memory: &Memory,
+    waits: Option<u32>,
+    all: &[Siblings],
+    item: Item,
+    uses: &mut Vec<Use>,
+) -> Result<(), Halt>
     requires { AreInOrder uses.old.items }
-    ensures told { Gives (λ _. uses.new.items) result (with_item (slots_of slots.now) (memory_of memory.now) item uses.old.items) }
+    ensures told { Gives (λ _. uses.new.items) result (with_item (slots_of slots.now) (memory_of memory.now) waits all.now item uses.old.items) }
     ensures ordered { IfOk result (λ _. AreInOrder uses.new.items) }
 {
     let place = slots.read(item.slot)?;
@@ -101,43 +109,47 @@ fn add_item(slots: &Slots, memory: &Memory, item: Item, uses: &mut Vec<Use>) -> 
         uses,
         Use {
             cell,
-            mode: item.mode,
+            mode: told_mode(waits, cell, all, item.mode),
         },
     )
 }
 
-/// The declaration with these items.
+/// The declaration with these items: of a wait by this task behind these siblings, or of a task.
 #[tactic(auto, unfolding(crate::specs::Clauses::items_of))]
 pub fn items_of(
     alloc: Global,
     limits: Limits,
     slots: &Slots,
     memory: &Memory,
+    waits: Option<u32>,
+    all: &[Siblings],
     items: &[Item],
 ) -> Result<Vec<Use>, Halt>
-    ensures told { Gives (λ us. us.items) result (items_of limits (slots_of slots.now) (memory_of memory.now) items.now) }
+    ensures told { Gives (λ us. us.items) result (items_of limits (slots_of slots.now) (memory_of memory.now) waits all.now items.now) }
     ensures ordered { IfOk result (λ us. AreInOrder us.items) }
 {
     if items.len() > limits.items as usize {
         return Err(Halt::For(Reason::TooManyItems));
     }
     let mut uses = Vec::new(alloc);
-    add_items(slots, memory, items, &mut uses)?;
+    add_items(slots, memory, waits, all, items, &mut uses)?;
     Ok(uses)
 }
 
 fn add_items(
     slots: &Slots,
     memory: &Memory,
+    waits: Option<u32>,
+    all: &[Siblings],
     items: &[Item],
     uses: &mut Vec<Use>,
 ) -> Result<(), Halt>
     requires { AreInOrder uses.old.items }
-    ensures told { Gives (λ _. uses.new.items) result (each (with_item (slots_of slots.now) (memory_of memory.now)) items.now uses.old.items) }
+    ensures told { Gives (λ _. uses.new.items) result (each (with_item (slots_of slots.now) (memory_of memory.now) waits all.now) items.now uses.old.items) }
     ensures ordered { IfOk result (λ _. AreInOrder uses.new.items) }
 {
     for item in items {
-        add_item(slots, memory, *item, uses)?;
+        add_item(slots, memory, waits, all, *item, uses)?;
     }
     Ok(())
 }

@@ -20,6 +20,12 @@ pub enum Reason {
     NoFunction,
     /// No region that is open has the cell as an item, by this operation.
     NoGroup,
+    /// A lock is taken that the task holds, or a task around it.
+    Taken,
+    /// A lock is given back that the task doesn't hold.
+    NotHeld,
+    /// An object of this name is written under a lock, and the code doesn't say so.
+    Changes(u32),
     DivideByZero,
     /// The condition of a loop isn't known.
     UnknownCondition,
@@ -33,6 +39,8 @@ pub enum Reason {
     /// Too many events, or they name too many cells.
     TooManyEvents,
     TooManyTasks,
+    /// Too many locks, or sets of them, or a task holds too many.
+    TooManyLocks,
     /// Too many calls and turns of loops.
     TooManyTurns,
     /// Too many objects, or they have too many cells.

@@ -18,6 +18,10 @@ pub struct Limits {
     pub objects: u32,
     /// The cells of all objects that there have been.
     pub members: u32,
+    /// How many locks there are, and how many sets of them that tasks hold.
+    pub locks: u32,
+    /// How many a task holds at once.
+    pub held: u32,
 }
 
 impl Limits {
@@ -34,6 +38,8 @@ impl Limits {
             contexts: 1 << 22,
             objects: 1 << 22,
             members: 1 << 24,
+            locks: 512,
+            held: 16,
         }
     }
 }

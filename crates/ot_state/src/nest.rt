@@ -18,13 +18,15 @@ pub enum Kept {
     AtOnce(u32, u32),
 }
 
-/// What goes on where a call or a task ends: the form, the slots, the task and the context; how many regions were open; and what ends.
+/// What goes on where a call or a task ends: the form, the slots, the task, the context and its set of locks; how many regions were open;
+/// and what ends.
 #[derive(Clone, Copy, Debug, PartialEq, Eq)]
 pub struct Frame {
     pub back: usize,
     pub base: u32,
     pub task: u32,
     pub context: u32,
+    pub held: u32,
     pub groups: usize,
     pub kept: Kept,
 }

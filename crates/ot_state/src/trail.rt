@@ -43,22 +43,31 @@ pub struct Row {
     pub context: u32,
 }
 
-/// The task that runs, the context in which it does, all contexts, a row for each event, the events, and how many cells these name.
+/// The task that runs, the context in which it does, all contexts, for each event its row and the number of the set of locks that it holds,
+/// the events, and how many cells these name.
 #[derive(Drop)]
 pub struct Trail {
     pub task: u32,
     pub context: u32,
     pub contexts: Vec<Context>,
     pub rows: Vec<Row>,
+    pub held: Vec<u32>,
     pub log: Vec<Noted>,
     pub touches: u32,
 }
 
 impl Trail {
-    /// Notes an event at this site.
+    /// Notes an event at this site that holds the set of locks of this number.
     #[tactic(auto, unfolding(crate::specs::Trail::note))]
-    pub fn note(&mut self, limits: Limits, site: u32, did: Did, uses: Vec<Use>) -> Result<(), Halt>
-        ensures { Gives (λ _. trail_of self.new) result (note limits site (did_of did) uses.items (trail_of self.old)) }
+    pub fn note(
+        &mut self,
+        limits: Limits,
+        site: u32,
+        set: u32,
+        did: Did,
+        uses: Vec<Use>,
+    ) -> Result<(), Halt>
+        ensures { Gives (λ _. trail_of self.new) result (note limits site set (did_of did) uses.items (trail_of self.old)) }
     {
         let touches = self.touches as u64 + weight(&did) as u64 + uses.len() as u64;
         let place = self.rows.len();
@@ -69,6 +78,7 @@ impl Trail {
             site,
             context: self.context,
         })?;
+        self.held.push(set)?;
         self.log.push(Noted {
             task: self.task,
             place: place as u32,
@@ -86,17 +96,18 @@ impl Trail {
         alloc: Global,
         limits: Limits,
         site: u32,
+        set: u32,
         mode: Mode,
         span: Span,
     ) -> Result<(), Halt>
-        ensures { Gives (λ _. trail_of self.new) result (touch limits site mode span (trail_of self.old)) }
+        ensures { Gives (λ _. trail_of self.new) result (touch limits site set mode span (trail_of self.old)) }
     {
         if self.touches as u64 + span.count() as u64 > limits.touches as u64 {
             return Err(Halt::For(Reason::TooManyEvents));
         }
         let mut uses = Vec::new(alloc);
         add_uses(&mut uses, mode, span)?;
-        self.note(limits, site, Did::Touches, uses)
+        self.note(limits, site, set, Did::Touches, uses)
     }
 
     /// So many cells are written that only the task sees.
@@ -112,7 +123,7 @@ impl Trail {
         Ok(())
     }
 
-    /// Notes that a region ends before which so many events were, and writes its items.
+    /// Notes that a region ends before which so many events were, and writes its items, without locks.
     #[tactic(auto, unfolding(crate::specs::Trail::leaves))]
     pub fn leave(
         &mut self,
@@ -134,7 +145,7 @@ impl Trail {
         let mut uses = Vec::new(alloc);
         add_written(&mut uses, parts)?;
         let inside = count.saturating_sub(start);
-        self.note(limits, site, Did::Leaves(inside as u32), uses)
+        self.note(limits, site, 0, Did::Leaves(inside as u32), uses)
     }
 
     /// A call or a turn of a loop begins.

@@ -8,7 +8,7 @@ use Rattle.ot_state.proofs.clauses.add_items.Goals as goal
 
 pub returns-in_err-add_item-clause-told : goal.returns-in_err-add_item-clause-told
 returns-in_err-add_item-clause-told c =
-    let one = with_item (slots_of c.args.slots.now) (memory_of c.args.memory.now) in
+    let one = with_item (slots_of c.args.slots.now) (memory_of c.args.memory.now) c.args.waits c.args.all.now in
     let items = c.args.items.now in
     let p = err_from_is_err_and c.from_residual.result c.from_residual.ensures.1 in
     rw (p.1, p.2) (stops c.in_err-add_item.field-0.0 one items c.loop-item.item-index _ _ c.loop-item.uses.items (each one items c.args.uses.now.items)
@@ -16,7 +16,7 @@ returns-in_err-add_item-clause-told c =
 
 pub loop-item-preserved : goal.loop-item-preserved
 loop-item-preserved c =
-    let one = with_item (slots_of c.args.slots.now) (memory_of c.args.memory.now) in
+    let one = with_item (slots_of c.args.slots.now) (memory_of c.args.memory.now) c.args.waits c.args.all.now in
     let items = c.args.items.now in (
       goes_on one items c.loop-item.item-index _ _ c.loop-item.uses.items c.add_item.new.uses.items (each one items c.args.uses.now.items)
           c.loop-item-test.true refl c.loop-item.invariant.0 c.in_ok-add_item.ensures.told,
@@ -25,6 +25,6 @@ loop-item-preserved c =
 
 pub returns-clause-told : goal.returns-clause-told
 returns-clause-told c =
-    let one = with_item (slots_of c.args.slots.now) (memory_of c.args.memory.now) in
+    let one = with_item (slots_of c.args.slots.now) (memory_of c.args.memory.now) c.args.waits c.args.all.now in
     let items = c.args.items.now in
     ends one items c.loop-item.item-index c.loop-item.uses.items (each one items c.args.uses.now.items) c.loop-item-test.false c.loop-item.invariant.0

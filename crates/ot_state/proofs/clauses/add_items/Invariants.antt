@@ -7,6 +7,6 @@ use Rattle.ot_state.proofs.clauses.add_items.Given as goal
 
 abbrev pub invariant-loop-item : goal.invariant-loop-item
 invariant-loop-item l =
-    (each (with_item (slots_of l.slots) (memory_of l.memory)) (drop l.item-index l.items) l.uses.items
-    ≡ each (with_item (slots_of l.slots) (memory_of l.memory)) l.items l.fn.uses.items)
+    (each (with_item (slots_of l.slots) (memory_of l.memory) l.waits l.all) (drop l.item-index l.items) l.uses.items
+    ≡ each (with_item (slots_of l.slots) (memory_of l.memory) l.waits l.all) l.items l.fn.uses.items)
     × AreInOrder l.uses.items

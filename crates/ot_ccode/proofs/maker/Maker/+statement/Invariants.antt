@@ -42,3 +42,6 @@ decreases-task l = l.depth
 
 abbrev pub decreases-taskloop : goal.decreases-taskloop
 decreases-taskloop l = l.depth
+
+abbrev pub decreases-critical : goal.decreases-critical
+decreases-critical l = l.depth

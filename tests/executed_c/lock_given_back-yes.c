@@ -1,0 +1,14 @@
+#include <omp.h>
+int x; omp_lock_t l;
+int main(void){ omp_init_lock(&l);
+#pragma omp parallel
+#pragma omp single
+for(int i=0;i<2;i++){
+#pragma omp task
+{
+omp_set_lock(&l);
+omp_unset_lock(&l);
+x++;
+}
+}
+return 0; }
