@@ -9,7 +9,8 @@ use std::test::Fail;
 /// one under the second of them; under one that was given back before; the end of the object's life under the lock; the item of a
 /// region whose end is under the lock; a lock by a place, and by another place of the same object; what is written under a lock isn't
 /// known, so a branch asks; nor is it without a lock; another object's value is known under one.
-const TOLD: &str = r#"5 0 none|changes 7; begin 0 1 7; number 1 5; copy 2 0; copy 3 1; task 20 2 2 9 0; lock 30 1; store 21 0 1; unlock 31 1; finish; lock 32 1; store 22 0 1; unlock 33 1; wait 23; end 24 0; stop
+const TOLD: &str =
+    r#"5 0 none|changes 7; begin 0 1 7; number 1 5; copy 2 0; copy 3 1; task 20 2 2 9 0; lock 30 1; store 21 0 1; unlock 31 1; finish; lock 32 1; store 22 0 1; unlock 33 1; wait 23; end 24 0; stop
 3 0 21 22 7.0|changes 7; begin 0 1 7; number 1 5; number 4 6; copy 2 0; copy 3 1; task 20 2 2 10 0; lock 30 1; store 21 0 1; unlock 31 1; finish; lock 32 4; store 22 0 1; unlock 33 4; stop
 3 0 21 22 7.0|changes 7; begin 0 1 7; number 1 5; copy 2 0; copy 3 1; task 20 2 2 9 0; lock 30 1; store 21 0 1; unlock 31 1; finish; store 22 0 1; stop
 3 0 21 22 7.0|changes 7; begin 0 1 7; number 1 5; lock 30 1; copy 2 0; copy 3 1; task 20 2 2 8 0; store 21 0 1; finish; store 22 0 1; unlock 31 1; stop
@@ -42,7 +43,8 @@ TooManyLocks 5 0 none|number 0 1; number 1 2000; number 2 1; less 3 0 1; repeat 
 /// Tasks that depend by object 7 and touch object 8. In this order: two of `inoutset`, two of `mutexinoutset`; `inoutset` and then `in`, and
 /// then `inout`; `mutexinoutset` of children of two tasks; a wait of `in` behind `inoutset`, and one of `inoutset`; `mutexinoutset` and then
 /// `inoutset`; `in` and then `inoutset`.
-const SETS: &str = r#"5 0 21 25 8.0|begin 0 1 7; begin 1 1 8; copy 2 1; copy 3 1; task 20 2 2 7 0 3 0; store 21 0 1; finish; copy 2 1; task 24 2 2 11 0 3 0; store 25 0 1; finish; stop
+const SETS: &str =
+    r#"5 0 21 25 8.0|begin 0 1 7; begin 1 1 8; copy 2 1; copy 3 1; task 20 2 2 7 0 3 0; store 21 0 1; finish; copy 2 1; task 24 2 2 11 0 3 0; store 25 0 1; finish; stop
 5 0 none|changes 8; begin 0 1 7; begin 1 1 8; copy 2 1; copy 3 1; task 20 2 2 7 0 2 0; store 21 0 1; finish; copy 2 1; task 24 2 2 11 0 2 0; store 25 0 1; finish; stop
 6 0 none|begin 0 1 7; begin 1 1 8; copy 2 1; copy 3 1; task 20 2 2 7 0 3 0; store 21 0 1; finish; copy 2 1; task 24 2 2 11 0 0 0; load 25 1 0; finish; stop
 5 0 none|begin 0 1 7; begin 1 1 8; copy 2 1; copy 3 1; task 20 2 2 7 0 3 0; store 21 0 1; finish; copy 2 1; task 24 2 2 11 0 1 0; load 25 1 0; finish; stop

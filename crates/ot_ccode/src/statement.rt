@@ -224,7 +224,13 @@ impl<'a> Maker<'a> {
     }
 
     /// The labels of a `switch`, converted to the type of its value: for each a test and a jump, and one where none fits.
-    fn chooses(&mut self, at: u32, slot: u32, integer: Integer, list: &[Stmt]) -> Result<(), Fault> {
+    fn chooses(
+        &mut self,
+        at: u32,
+        slot: u32,
+        integer: Integer,
+        list: &[Stmt],
+    ) -> Result<(), Fault> {
         let mark = self.frame.next;
         for statement in list {
             if let Stmt::Case(label, Some(value)) = statement {
