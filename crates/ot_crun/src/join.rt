@@ -301,6 +301,8 @@ fn plain_jump(form: &Form) -> Form {
         Form::Finish => Form::Finish,
         Form::Wait(site) => Form::Wait(*site),
         Form::Leave(site) => Form::Leave(*site),
+        Form::Lock(site, slot) => Form::Lock(*site, *slot),
+        Form::Unlock(site, slot) => Form::Unlock(*site, *slot),
         Form::Joins(site, fold, place) => Form::Joins(*site, *fold, *place),
         Form::Turn(site, slot) => Form::Turn(*site, *slot),
         Form::Context(to) => Form::Context(*to),
@@ -354,10 +356,7 @@ pub(crate) fn forgotten(
         let start = moved(&made.places, function.start);
         functions.push(Function { start, slots })?;
     }
-    Ok(Some(other_of(made, slots, functions, plan)))
-}
-
-fn other_of(made: Made, slots: u32, functions: Vec<Function>, plan: Plan<'_>) -> Other {
+    let changing = code.changing.as_slice().to_vec(alloc)?;
     let Made {
         forms,
         sites,
@@ -365,16 +364,17 @@ fn other_of(made: Made, slots: u32, functions: Vec<Function>, plan: Plan<'_>) ->
         ..
     } = made;
     let Plan { regions, .. } = plan;
-    Other {
+    Ok(Some(Other {
         placed: Placed {
             code: Code {
                 forms,
                 slots,
                 functions,
+                changing,
             },
             sites,
         },
         olds,
         regions,
-    }
+    }))
 }

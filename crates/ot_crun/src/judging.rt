@@ -1,14 +1,16 @@
 //! A text, executed and judged.
 use crate::join::{Other, Placed};
+use crate::locked::{Apartness, changes, has_locks, locked_race, locked_ways};
 use crate::others::judge_others;
 use crate::reading::{Read, Reading, byte_of, reading_of};
 use crate::reason::of_run;
 use crate::telling::{Source, more_races, outside, race_found, with_untouched};
-use crate::ways::{QUESTIONS, STEPS, WAYS, asks_at, first_limit};
+use crate::ways::{QUESTIONS, WAYS, asks_at, first_limit, way_limits};
 use ot_corder::{Order, races_by};
 use ot_diagnosis::Diagnosis;
 use ot_machine::{Fault, Limits, Run, Ways, run_code};
 use ot_outline::{Told, events_of, race_of};
+use ot_race::Race;
 use ot_races::More;
 use std::alloc::{AllocError, Global};
 use std::collections::BTreeSet;
@@ -40,15 +42,15 @@ const ALL: usize = 1_000_000;
 /// More events than any run has.
 const EVENTS: usize = 1 << 32;
 
-const TOO_LONG: &str = "the run touches too many cells";
+const TOO_MANY_WAYS: &str = "it has more ways than are judged: nothing is known of this condition";
 
-/// How far each of several ways goes.
-fn way_limits() -> Limits {
-    Limits {
-        steps: STEPS,
-        ..Limits::usual()
-    }
-}
+const CROWDED: &str = "a cell is touched under too many sets of locks";
+
+/// The same of two touches under locks.
+const IN_RUN_APART: &str =
+    "with these numbers nothing orders the two, and they hold no lock in common";
+
+const TOO_LONG: &str = "the run touches too many cells";
 
 /// What is known of a race of the run with the text's own numbers.
 const IN_RUN: &str = "with these numbers nothing orders the two";
@@ -108,41 +110,102 @@ pub(crate) fn one_found(
     Ok(Judged { verdict, found })
 }
 
+/// How many objects are written under locks at most, by their names.
+const CHANGING: usize = 32;
+
+/// What is told, or the name of what is written under a lock, of which nothing is to be known then.
+#[derive(Drop)]
+pub(crate) enum Ended {
+    Judged(Judged),
+    Changes(u32),
+}
+
 fn judge(alloc: Global, of: Of<'_>, placed: Placed) -> Result<Judged, AllocError> {
+    let mut placed = placed;
+    for _ in 0..=CHANGING {
+        match judge_once(alloc, of, &placed)? {
+            Ended::Judged(judged) => return Ok(judged),
+            Ended::Changes(name) => placed.code.changing.push(name)?,
+        }
+    }
+    at_form(
+        alloc,
+        of,
+        &placed,
+        0,
+        "too many variables are written under locks",
+    )
+}
+
+fn judge_once(alloc: Global, of: Of<'_>, placed: &Placed) -> Result<Ended, AllocError> {
     let none = Vec::new(alloc);
     let run = run_code(alloc, &placed.code, Limits::usual(), &none)?;
+    if let Some(name) = changes(run.fault) {
+        return Ok(Ended::Changes(name));
+    }
     if run.asked > 0 {
         return judge_asking(alloc, of, placed);
     }
     if let Some(fault) = run.fault {
-        return ended(alloc, of, &placed, fault);
+        let judged = ended(alloc, of, placed, fault)?;
+        return Ok(Ended::Judged(judged));
     }
-    let first = judge_one(alloc, &of.source(&run))?;
+    let first = judge_run_alone(alloc, of, &run)?;
     if first.verdict != Verdict::Clean {
-        return Ok(first);
+        return Ok(Ended::Judged(first));
     }
     judge_others(alloc, of, placed, first)
 }
 
 /// Of a text whose run asks: its ways. Where they are too many it isn't judged, unless it is with less that is known.
-fn judge_asking(alloc: Global, of: Of<'_>, placed: Placed) -> Result<Judged, AllocError> {
+fn judge_asking(alloc: Global, of: Of<'_>, placed: &Placed) -> Result<Ended, AllocError> {
     let mut budget = WAYS;
-    match ways_of(alloc, of, &placed, None, &mut budget)? {
-        Met::Races(judged) => Ok(judged),
-        Met::Fault(fault) => ended(alloc, of, &placed, fault),
+    match ways_of(alloc, of, placed, None, &mut budget)? {
+        Met::Changes(name) => Ok(Ended::Changes(name)),
         Met::Nothing => judge_others(alloc, of, placed, clean(alloc)),
         Met::TooMany => {
             let at = asks_at(alloc, &placed.code, way_limits())?;
-            let first = at_form(
-                alloc,
-                of,
-                &placed,
-                at,
-                "it has more ways than are judged: nothing is known of this condition",
-            )?;
+            let first = at_form(alloc, of, placed, at, TOO_MANY_WAYS)?;
             judge_others(alloc, of, placed, first)
         }
+        Met::Races(judged) => Ok(Ended::Judged(judged)),
+        Met::Fault(fault) => {
+            let judged = ended(alloc, of, placed, fault)?;
+            Ok(Ended::Judged(judged))
+        }
+        Met::Crowded => {
+            let judged = at_form(alloc, of, placed, 0, CROWDED)?;
+            Ok(Ended::Judged(judged))
+        }
     }
+}
+
+/// Of a run that asks nothing.
+fn judge_run_alone(alloc: Global, of: Of<'_>, run: &Run) -> Result<Judged, AllocError> {
+    if run.sets.len() <= 1 {
+        return judge_one(alloc, &of.source(run));
+    }
+    match locked_race(alloc, run)? {
+        Apartness::Nothing => Ok(clean(alloc)),
+        Apartness::Races(race) => one_race(alloc, of, run, race, IN_RUN_APART),
+        Apartness::TooMany => {
+            let words = String::from_str(alloc, CROWDED)?;
+            let one = outside(alloc, of.text, 0, words);
+            one_found(alloc, Verdict::Outside, one)
+        }
+    }
+}
+
+/// A race alone.
+pub(crate) fn one_race(
+    alloc: Global,
+    of: Of<'_>,
+    run: &Run,
+    race: Race,
+    known: &str,
+) -> Result<Judged, AllocError> {
+    let found = race_found(alloc, &of.source(run), known, race)?;
+    one_found(alloc, Verdict::Races, found)
 }
 
 /// Of a run that asks nothing: its races, each pair of places in the text once, in the order of the later touch.
@@ -197,6 +260,10 @@ pub(crate) enum Met {
     /// What the judge can't do.
     Fault(Fault),
     TooMany,
+    /// A cell is touched under too many sets of locks.
+    Crowded,
+    /// What this names is written under a lock, and the code doesn't say so.
+    Changes(u32),
 }
 
 /// Of code that asks: all its ways, unless there are too many. Each takes one from the budget.
@@ -208,14 +275,16 @@ pub(crate) fn ways_of(
     budget: &mut u32,
 ) -> Result<Met, AllocError> {
     let code = &placed.code;
+    if has_locks(code) {
+        return locked_ways(alloc, of, placed, joined, budget);
+    }
     let limits = way_limits();
     let ways = Ways { code, limits };
     let none = Vec::new(alloc);
     match race_of(alloc, Order::OfC, &ways, QUESTIONS, budget, &none)? {
         Told::RacesOn(answers, race) => {
             let run = run_code(alloc, code, limits, &answers)?;
-            let found = race_found(alloc, &of.source(&run), "some path has both", race)?;
-            let judged = one_found(alloc, Verdict::Races, found)?;
+            let judged = one_race(alloc, of, &run, race, "some path has both")?;
             Ok(Met::Races(judged))
         }
         Told::RacesNowhere => match first_limit(alloc, code, limits, joined)? {

@@ -6,6 +6,7 @@ mod forget;
 mod graph;
 mod join;
 mod judging;
+mod locked;
 mod naming;
 mod others;
 mod reading;

@@ -1,7 +1,7 @@
 //! The other ways of a text: those of other numbers in memory.
 use crate::forget::marks_of;
 use crate::join::{Placed, forgotten};
-use crate::judging::{Judged, Met, Of, Verdict, clean, one_found, ways_of};
+use crate::judging::{Ended, Judged, Met, Of, Verdict, clean, one_found, ways_of};
 use crate::telling::of_file;
 use crate::ways::WAYS;
 use ot_diagnosis::Code;
@@ -14,24 +14,25 @@ const TRIES: usize = 8;
 pub(crate) fn judge_others(
     alloc: Global,
     of: Of<'_>,
-    placed: Placed,
+    placed: &Placed,
     first: Judged,
-) -> Result<Judged, AllocError> {
+) -> Result<Ended, AllocError> {
     let code = &placed.code;
     let parameters = of.reading.parameters(alloc)?;
     let Some(marks) = marks_of(alloc, code, &parameters, of.reading.variables())? else {
         return without_others(alloc, first);
     };
     if !marks.iter().any(|is_marked| *is_marked) {
-        return Ok(first);
+        return Ok(Ended::Judged(first));
     }
     let mut split = vec![in alloc; false; code.forms.len()]?;
     let mut budget = WAYS;
     for _ in 0..TRIES {
-        let met = other_ways(alloc, of, &placed, &marks, &mut split, &mut budget)?;
+        let met = other_ways(alloc, of, placed, &marks, &mut split, &mut budget)?;
         match met {
-            Some(Met::Races(judged)) => return Ok(judged),
-            Some(Met::Nothing) => return Ok(clean(alloc)),
+            Some(Met::Races(judged)) => return Ok(Ended::Judged(judged)),
+            Some(Met::Nothing) => return Ok(Ended::Judged(clean(alloc))),
+            Some(Met::Changes(name)) => return Ok(Ended::Changes(name)),
             Some(_) => return without_others(alloc, first),
             None => {}
         }
@@ -67,11 +68,12 @@ fn other_ways(
 }
 
 /// What is told where the other ways aren't judged.
-fn without_others(alloc: Global, first: Judged) -> Result<Judged, AllocError> {
+fn without_others(alloc: Global, first: Judged) -> Result<Ended, AllocError> {
     if first.verdict == Verdict::Clean {
-        only_run(alloc)
+        let judged = only_run(alloc)?;
+        Ok(Ended::Judged(judged))
     } else {
-        Ok(first)
+        Ok(Ended::Judged(first))
     }
 }
 

@@ -44,6 +44,10 @@ pub(crate) fn of_tree(alloc: Global, why: parse::Why, word: &str) -> Result<Stri
         parse::Why::Alone => format!(in alloc;
             "the directive `{word}` stands alone, and is no body"
         ),
+        parse::Why::Width => String::from_str(
+            alloc,
+            "members with a width in bits aren't executed yet",
+        ),
         parse::Why::Nesting => String::from_str(alloc, "this nests too deep"),
     }
 }
@@ -57,6 +61,10 @@ pub(crate) fn of_run(reason: Reason) -> &'static str {
         Reason::Outside => "an index is outside of its array here",
         Reason::Ended => "what is used here has ended",
         Reason::NoFunction => "the function that is called here isn't known",
+        Reason::Taken => "the lock that is taken here is held by the task, or by one around it",
+        Reason::NotHeld => "the task doesn't hold the lock that is given back here",
+        Reason::Changes(_) => "too many variables are written under locks",
+        Reason::TooManyLocks => "there are too many locks",
         Reason::NoGroup => "no reduction that is open has this item",
         Reason::DivideByZero => "a division by 0",
         Reason::UnknownCondition => "nothing is known of the condition of this loop",

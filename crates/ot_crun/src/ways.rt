@@ -11,10 +11,18 @@ pub(crate) const QUESTIONS: u32 = 12;
 pub(crate) const WAYS: u32 = 64;
 
 /// How many steps one of several ways takes at most.
-pub(crate) const STEPS: u32 = 1_000_000;
+const STEPS: u32 = 1_000_000;
+
+/// How far each of several ways goes.
+pub(crate) fn way_limits() -> Limits {
+    Limits {
+        steps: STEPS,
+        ..Limits::usual()
+    }
+}
 
 /// The next answers behind these, which begin with yes: the last yes becomes a no. There are none behind all no.
-fn next(answers: &mut Vec<bool>) -> Result<bool, AllocError> {
+pub(crate) fn next(answers: &mut Vec<bool>) -> Result<bool, AllocError> {
     for _ in 0..answers.len() {
         match answers.pop() {
             Some(true) => {
@@ -57,7 +65,7 @@ pub(crate) fn first_limit(
     Ok(if has_ended { None } else { last })
 }
 
-fn is_limit(fault: Fault, joined: Option<&Other>) -> bool {
+pub(crate) fn is_limit(fault: Fault, joined: Option<&Other>) -> bool {
     if fault.asked == 0 || !is_error(fault.reason) {
         return true;
     }
