@@ -1,4 +1,5 @@
 //! A text, executed and judged.
+use crate::drawing::drawn;
 use crate::join::{Other, Placed};
 use crate::locked::{Apartness, changes, has_locks, locked_race, locked_ways};
 use crate::others::judge_others;
@@ -32,6 +33,8 @@ pub enum Verdict {
 pub struct Judged {
     pub verdict: Verdict,
     pub found: Vec<Diagnosis>,
+    /// The picture of the first race, where one is asked for.
+    pub(crate) picture: Option<Vec<u8>>,
 }
 
 /// How many races are told, and how many are looked at.
@@ -71,10 +74,75 @@ pub fn judge_run(
                 name,
                 text,
                 reading: &reading,
+                draws: false,
             };
             let judged = judge(alloc, of, placed)?;
             with_untouched(alloc, &reading, judged)
         }
+    }
+}
+
+/// What is told of a text, what is found in it, and its picture: of its run up to the first race that is found, or of the whole run
+/// where it doesn't race. There is none of a text that isn't judged.
+#[derive(Drop)]
+pub struct Drawn {
+    pub verdict: Verdict,
+    pub found: Vec<Diagnosis>,
+    /// A digraph in the language of `dot`.
+    pub picture: Option<Vec<u8>>,
+}
+
+/// Executes a text of this name, judges what its tasks touch, and draws them.
+pub fn draw_run(alloc: Global, name: &str, text: &[u8]) -> Result<Drawn, AllocError> {
+    let judged = match reading_of(alloc, &[], text)? {
+        Read::Outside(byte, words) => {
+            one_found(alloc, Verdict::Outside, outside(alloc, text, byte, words))?
+        }
+        Read::Whole(reading, placed) => {
+            let of = Of {
+                name,
+                text,
+                reading: &reading,
+                draws: true,
+            };
+            let whole = whole_picture(alloc, of, &placed)?;
+            let judged = judge(alloc, of, placed)?;
+            with_picture(with_untouched(alloc, &reading, judged)?, whole)
+        }
+    };
+    Ok(Drawn {
+        verdict: judged.verdict,
+        found: judged.found,
+        picture: judged.picture,
+    })
+}
+
+/// The picture of a run that no race ends, if it comes to its end.
+fn whole_picture(
+    alloc: Global,
+    of: Of<'_>,
+    placed: &Placed,
+) -> Result<Option<Vec<u8>>, AllocError> {
+    let none = Vec::new(alloc);
+    let run = run_code(alloc, &placed.code, Limits::usual(), &none)?;
+    if run.fault.is_some() {
+        return Ok(None);
+    }
+    let picture = drawn(alloc, &of.source(&run), None)?;
+    Ok(Some(picture))
+}
+
+/// The same of what was judged, with this picture where it has no race.
+fn with_picture(judged: Judged, whole: Option<Vec<u8>>) -> Judged {
+    let picture = match judged.verdict {
+        Verdict::Races => judged.picture,
+        Verdict::Clean | Verdict::OnlyRun => whole,
+        Verdict::Outside => None,
+    };
+    Judged {
+        verdict: judged.verdict,
+        found: judged.found,
+        picture,
     }
 }
 
@@ -84,6 +152,8 @@ pub(crate) struct Of<'a> {
     pub name: &'a str,
     pub text: &'a [u8],
     pub reading: &'a Reading,
+    /// Whether a race is drawn.
+    pub draws: bool,
 }
 
 impl<'a> Of<'a> {
@@ -107,7 +177,11 @@ pub(crate) fn one_found(
 ) -> Result<Judged, AllocError> {
     let mut found = Vec::new(alloc);
     found.push(one)?;
-    Ok(Judged { verdict, found })
+    Ok(Judged {
+        verdict,
+        found,
+        picture: None,
+    })
 }
 
 /// How many objects are written under locks at most, by their names.
@@ -183,7 +257,7 @@ fn judge_asking(alloc: Global, of: Of<'_>, placed: &Placed) -> Result<Ended, All
 /// Of a run that asks nothing.
 fn judge_run_alone(alloc: Global, of: Of<'_>, run: &Run) -> Result<Judged, AllocError> {
     if run.sets.len() <= 1 {
-        return judge_one(alloc, &of.source(run));
+        return judge_one(alloc, of, run);
     }
     match locked_race(alloc, run)? {
         Apartness::Nothing => Ok(clean(alloc)),
@@ -205,12 +279,29 @@ pub(crate) fn one_race(
     known: &str,
 ) -> Result<Judged, AllocError> {
     let found = race_found(alloc, &of.source(run), known, race)?;
-    one_found(alloc, Verdict::Races, found)
+    let mut judged = one_found(alloc, Verdict::Races, found)?;
+    judged.picture = picture_of(alloc, of, run, race)?;
+    Ok(judged)
+}
+
+/// The picture of a race, where one is asked for.
+fn picture_of(
+    alloc: Global,
+    of: Of<'_>,
+    run: &Run,
+    race: Race,
+) -> Result<Option<Vec<u8>>, AllocError> {
+    if !of.draws {
+        return Ok(None);
+    }
+    let picture = drawn(alloc, &of.source(run), Some(race))?;
+    Ok(Some(picture))
 }
 
 /// Of a run that asks nothing: its races, each pair of places in the text once, in the order of the later touch.
-fn judge_one(alloc: Global, source: &Source<'_>) -> Result<Judged, AllocError> {
-    let events = events_of(alloc, &source.run.log)?;
+fn judge_one(alloc: Global, of: Of<'_>, run: &Run) -> Result<Judged, AllocError> {
+    let source = &of.source(run);
+    let events = events_of(alloc, &run.log)?;
     if events.len() >= EVENTS {
         let one = outside(alloc, source.text, 0, String::from_str(alloc, TOO_LONG)?);
         return one_found(alloc, Verdict::Outside, one);
@@ -239,9 +330,14 @@ fn judge_one(alloc: Global, source: &Source<'_>) -> Result<Judged, AllocError> {
     if let Some(more) = more_races(alloc, more)? {
         found.push(more)?;
     }
+    let picture = match races.told.first() {
+        Some(race) => picture_of(alloc, of, run, *race)?,
+        None => None,
+    };
     Ok(Judged {
         verdict: Verdict::Races,
         found,
+        picture,
     })
 }
 
@@ -249,6 +345,7 @@ pub(crate) fn clean(alloc: Global) -> Judged {
     Judged {
         verdict: Verdict::Clean,
         found: Vec::new(alloc),
+        picture: None,
     }
 }
 

@@ -2,10 +2,12 @@
 #![tactic(auto)]
 
 mod beyond;
+mod drawing;
 mod forget;
 mod graph;
 mod join;
 mod judging;
+mod label;
 mod locked;
 mod naming;
 mod others;
@@ -17,4 +19,4 @@ mod telling;
 mod trace;
 mod ways;
 
-pub use judging::{Judged, Verdict, judge_run};
+pub use judging::{Drawn, Judged, Verdict, draw_run, judge_run};

@@ -31,6 +31,11 @@ impl Source<'_> {
         Place::at(self.text, byte_of(&self.reading.tokens, token))
     }
 
+    /// Where an event stands in the text.
+    pub(crate) fn place_of_event(&self, place: u32) -> Place {
+        self.place(self.row(place).0)
+    }
+
     /// The token and the context of an event's place.
     fn row(&self, place: u32) -> (u32, u32) {
         match self.run.rows.get(place as usize) {
@@ -124,7 +129,7 @@ fn turns_text(alloc: Global, turns: &[Turn]) -> Result<String, AllocError> {
 }
 
 /// What an event does with a cell.
-fn done(log: &[Noted], place: u32, cell: Cell) -> &'static str {
+pub(crate) fn done(log: &[Noted], place: u32, cell: Cell) -> &'static str {
     for noted in log {
         if noted.place == place {
             let is_written = noted
@@ -245,22 +250,21 @@ pub(crate) fn with_untouched(
     reading: &Reading,
     judged: Judged,
 ) -> Result<Judged, AllocError> {
-    let Judged { verdict, found } = judged;
-    let mut found = found;
-    if verdict == Verdict::Outside {
-        return Ok(Judged { verdict, found });
+    let mut judged = judged;
+    if judged.verdict == Verdict::Outside {
+        return Ok(judged);
     }
     for name in &reading.untouched {
         let name = reading.names.text(*name);
         let words = format!(in alloc; "judged as if `{name}` touched nothing")?;
-        match found.last_mut() {
+        match judged.found.last_mut() {
             Some(last) => last.notes.push(Remark {
                 place: None,
                 turns: Vec::new(alloc),
                 message: words,
             })?,
-            None => found.push(of_file(alloc, Code::OnlyRun, words))?,
+            None => judged.found.push(of_file(alloc, Code::OnlyRun, words))?,
         }
     }
-    Ok(Judged { verdict, found })
+    Ok(judged)
 }
