@@ -1,5 +1,5 @@
 -- What is told of runs: the contexts in which an event stands, and the first fault on a way.
-use Rattle.std.specs.Prelude.{◌≡◌, ℕ, zero, suc, ◌++◌, ◌==◌, Bool, List, [], ◌∷◌, Option, Some, None, slice_get, if◌then◌else◌, Ok, Err}
+use Rattle.std.specs.Prelude.{ℕ, zero, suc, ◌==◌, Bool, List, [], ◌∷◌, Option, Some, None, slice_get, if◌then◌else◌, Ok, Err}
 use Rattle.ot_outline.specs.Followed.{answered}
 use Rattle.ot_outline.specs.Ways.{Ending, Settled, AsksMore}
 use Rattle.ot_machine.specs.Runs.{Reached}

@@ -51,7 +51,7 @@ note l site set deed uses t =
     let touches = t.touches + weight deed + length uses in
     if nat_lt (length t.rows) l.events && nat_le touches l.touches
     then Ok (trail t.task t.context t.contexts (t.rows ++ row site t.context ∷ []) (t.held ++ set ∷ [])
-        (t.log ++ event t.task (length t.rows) deed uses ∷ []) touches)
+    (t.log ++ event t.task (length t.rows) deed uses ∷ []) touches)
     else Err TooManyEvents
 
 -- cells are used

@@ -57,12 +57,7 @@ fn mode_of(depends: Depends) -> Mode
 }
 
 /// The same of a wait by this task, which no empty sibling stands before.
-pub(crate) fn told_mode(
-    waits: Option<u32>,
-    cell: Cell,
-    all: &[Siblings],
-    depends: Depends,
-) -> Mode
+pub(crate) fn told_mode(waits: Option<u32>, cell: Cell, all: &[Siblings], depends: Depends) -> Mode
     ensures { result ≡ told_mode waits cell all.now depends }
 {
     match waits {

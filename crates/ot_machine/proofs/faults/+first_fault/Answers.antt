@@ -1,11 +1,11 @@
-use Rattle.std.proofs.Common.{◌≡◌, ◌∙◌, ◌+◌, ◌-◌, ◌<◌, ◌≤◌, ◌++◌, ◌∷◌, [], ℕ, suc, Bool, false, List, length, refl, sym, ap, subst, arith}
+use Rattle.std.proofs.Common.{◌≡◌, ◌∙◌, ◌-◌, ◌<◌, ◌≤◌, ◌++◌, ◌∷◌, [], ℕ, Bool, false, length, refl, subst, arith}
 use Rattle.std.specs.Prelude.{IfOk, Ok}
 use Rattle.ot_check.proofs.Cited.{if_ok}
 use Rattle.ot_outline.specs.Followed.{answered}
 use Rattle.ot_outline.specs.Ways.{endings}
 use Rattle.ot_outline.proofs.AskedLemmas.{ends-behind}
 use Rattle.ot_machine.specs.Runs.{run_of, asked_in}
-use Rattle.ot_machine.specs.Telling.{Found, fault_of, found_in, met_on, met_in, None_met}
+use Rattle.ot_machine.specs.Telling.{fault_of, found_in, met_on, met_in, None_met}
 use Rattle.ot_machine.specs.declared.faults.Met.{Met}
 use Rattle.ot_machine.proofs.TellingLemmas.{alone_met, goes_on, ends_it, no_fault, same_fault}
 use Rattle.ot_machine.proofs.faults.+first_fault.Goals as goal
