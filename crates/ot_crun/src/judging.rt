@@ -151,7 +151,12 @@ fn named_run(alloc: Global, placed: &mut Placed) -> Result<Option<Run>, AllocErr
     Ok(None)
 }
 
-fn judge_once(alloc: Global, of: Of<'_>, placed: &Placed, run: &Run) -> Result<Outcome, AllocError> {
+fn judge_once(
+    alloc: Global,
+    of: Of<'_>,
+    placed: &Placed,
+    run: &Run,
+) -> Result<Outcome, AllocError> {
     if run.asked > 0 {
         return judge_asking(alloc, of, placed);
     }

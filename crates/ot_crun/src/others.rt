@@ -1,7 +1,7 @@
 //! The other ways of a text: those of other numbers in memory.
 use crate::forget::marks_of;
 use crate::join::{Placed, forgotten};
-use crate::judging::{Outcome, Judged, Met, Of, Verdict, clean, one_found, ways_of};
+use crate::judging::{Judged, Met, Of, Outcome, Verdict, clean, one_found, ways_of};
 use crate::telling::of_file;
 use crate::ways::WAYS;
 use ot_diagnosis::Code;
