@@ -457,8 +457,9 @@ impl<'a> Trace<'a> {
             Some(Form::Begin(_, cells, name, _)) => *cells > 1 && *name == self.variables,
             _ => false,
         };
+        let flags = self.flags;
         let place = if is_flags {
-            self.same_as(self.flags)?
+            self.same_as(flags)?
         } else {
             OUTER
         };
@@ -546,16 +547,18 @@ impl<'a> Trace<'a> {
     }
 
     fn call_by(&mut self, first: u32) -> Result<(), AllocError> {
-        self.spends(self.passed.len());
+        let count = self.passed.len();
+        self.spends(count);
         let mut parameter = 0u32;
-        for number in 0..self.passed.len() {
+        for number in 0..count {
             let value = self.reads(first.saturating_add(parameter))?;
             if let Some(to) = self.passed.get(number).copied() {
                 self.graph.link(value, to, Going::Is)?;
             }
             parameter = parameter.saturating_add(1);
         }
-        let given = self.same_as(self.given)?;
+        let given = self.given;
+        let given = self.same_as(given)?;
         self.gives(first, given)
     }
 }
