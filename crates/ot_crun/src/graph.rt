@@ -65,7 +65,7 @@ pub(crate) const MEMORY: u32 = 3;
 const LAST: u32 = MEMORY;
 
 /// How many edges and values there are at most.
-const MOST: usize = 1 << 23;
+const MOST: usize = 1 << 22;
 
 /// A place, and the value that is loaded from there or stored there.
 #[derive(Clone, Copy)]

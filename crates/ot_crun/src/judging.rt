@@ -47,6 +47,8 @@ const EVENTS: usize = 1 << 32;
 
 const TOO_MANY_WAYS: &str = "it has more ways than are judged: nothing is known of this condition";
 
+const TOO_MUCH_CHANGES: &str = "too many variables are written under locks";
+
 const CROWDED: &str = "a cell is touched under too many sets of locks";
 
 /// The same of two touches under locks.
@@ -184,72 +186,84 @@ pub(crate) fn one_found(
     })
 }
 
-/// How many objects are written under locks at most, by their names.
+/// How many objects the run writes under locks at most, by their names, and how often one more is found on its ways.
 const CHANGING: usize = 32;
+
+const LATE: usize = 8;
 
 /// What is told, or the name of what is written under a lock, of which nothing is to be known then.
 #[derive(Drop)]
-pub(crate) enum Ended {
+pub(crate) enum Outcome {
     Judged(Judged),
     Changes(u32),
 }
 
 fn judge(alloc: Global, of: Of<'_>, placed: Placed) -> Result<Judged, AllocError> {
     let mut placed = placed;
-    for _ in 0..=CHANGING {
-        match judge_once(alloc, of, &placed)? {
-            Ended::Judged(judged) => return Ok(judged),
-            Ended::Changes(name) => placed.code.changing.push(name)?,
+    for _ in 0..LATE {
+        let Some(run) = named_run(alloc, &mut placed)? else {
+            return at_form(alloc, of, &placed, 0, TOO_MUCH_CHANGES);
+        };
+        match judge_once(alloc, of, &placed, &run)? {
+            Outcome::Judged(judged) => return Ok(judged),
+            Outcome::Changes(name) => placed.code.changing.push(name)?,
         }
     }
-    at_form(
-        alloc,
-        of,
-        &placed,
-        0,
-        "too many variables are written under locks",
-    )
+    at_form(alloc, of, &placed, 0, TOO_MUCH_CHANGES)
 }
 
-fn judge_once(alloc: Global, of: Of<'_>, placed: &Placed) -> Result<Ended, AllocError> {
+/// The run, of which the code says what it writes under locks; none where that is too much.
+fn named_run(alloc: Global, placed: &mut Placed) -> Result<Option<Run>, AllocError> {
     let none = Vec::new(alloc);
-    let run = run_code(alloc, &placed.code, Limits::usual(), &none)?;
-    if let Some(name) = changes(run.fault) {
-        return Ok(Ended::Changes(name));
+    for _ in 0..=CHANGING {
+        let run = run_code(alloc, &placed.code, Limits::usual(), &none)?;
+        match changes(run.fault) {
+            Some(name) => placed.code.changing.push(name)?,
+            None => return Ok(Some(run)),
+        }
     }
+    Ok(None)
+}
+
+fn judge_once(
+    alloc: Global,
+    of: Of<'_>,
+    placed: &Placed,
+    run: &Run,
+) -> Result<Outcome, AllocError> {
     if run.asked > 0 {
         return judge_asking(alloc, of, placed);
     }
     if let Some(fault) = run.fault {
         let judged = ended(alloc, of, placed, fault)?;
-        return Ok(Ended::Judged(judged));
+        return Ok(Outcome::Judged(judged));
     }
-    let first = judge_run_alone(alloc, of, &run)?;
+    let first = judge_run_alone(alloc, of, run)?;
     if first.verdict != Verdict::Clean {
-        return Ok(Ended::Judged(first));
+        return Ok(Outcome::Judged(first));
     }
     judge_others(alloc, of, placed, first)
 }
 
 /// Of a text whose run asks: its ways. Where they are too many it isn't judged, unless it is with less that is known.
-fn judge_asking(alloc: Global, of: Of<'_>, placed: &Placed) -> Result<Ended, AllocError> {
+fn judge_asking(alloc: Global, of: Of<'_>, placed: &Placed) -> Result<Outcome, AllocError> {
     let mut budget = WAYS;
     match ways_of(alloc, of, placed, None, &mut budget)? {
-        Met::Changes(name) => Ok(Ended::Changes(name)),
+        Met::Changes(name) => Ok(Outcome::Changes(name)),
         Met::Nothing => judge_others(alloc, of, placed, clean(alloc)),
         Met::TooMany => {
             let at = asks_at(alloc, &placed.code, way_limits())?;
             let first = at_form(alloc, of, placed, at, TOO_MANY_WAYS)?;
             judge_others(alloc, of, placed, first)
         }
-        Met::Races(judged) => Ok(Ended::Judged(judged)),
+        Met::Races(judged) => Ok(Outcome::Judged(judged)),
         Met::Fault(fault) => {
             let judged = ended(alloc, of, placed, fault)?;
-            Ok(Ended::Judged(judged))
+            Ok(Outcome::Judged(judged))
         }
         Met::Crowded => {
             let judged = at_form(alloc, of, placed, 0, CROWDED)?;
-            Ok(Ended::Judged(judged))
+            Ok(Outcome::Judged(judged))
         }
     }
 }

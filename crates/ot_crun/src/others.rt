@@ -1,7 +1,7 @@
 //! The other ways of a text: those of other numbers in memory.
 use crate::forget::marks_of;
 use crate::join::{Placed, forgotten};
-use crate::judging::{Ended, Judged, Met, Of, Verdict, clean, one_found, ways_of};
+use crate::judging::{Judged, Met, Of, Outcome, Verdict, clean, one_found, ways_of};
 use crate::telling::of_file;
 use crate::ways::WAYS;
 use ot_diagnosis::Code;
@@ -16,23 +16,23 @@ pub(crate) fn judge_others(
     of: Of<'_>,
     placed: &Placed,
     first: Judged,
-) -> Result<Ended, AllocError> {
+) -> Result<Outcome, AllocError> {
     let code = &placed.code;
     let parameters = of.reading.parameters(alloc)?;
     let Some(marks) = marks_of(alloc, code, &parameters, of.reading.variables())? else {
         return without_others(alloc, first);
     };
     if !marks.iter().any(|is_marked| *is_marked) {
-        return Ok(Ended::Judged(first));
+        return Ok(Outcome::Judged(first));
     }
     let mut split = vec![in alloc; false; code.forms.len()]?;
     let mut budget = WAYS;
     for _ in 0..TRIES {
         let met = other_ways(alloc, of, placed, &marks, &mut split, &mut budget)?;
         match met {
-            Some(Met::Races(judged)) => return Ok(Ended::Judged(judged)),
-            Some(Met::Nothing) => return Ok(Ended::Judged(clean(alloc))),
-            Some(Met::Changes(name)) => return Ok(Ended::Changes(name)),
+            Some(Met::Races(judged)) => return Ok(Outcome::Judged(judged)),
+            Some(Met::Nothing) => return Ok(Outcome::Judged(clean(alloc))),
+            Some(Met::Changes(name)) => return Ok(Outcome::Changes(name)),
             Some(_) => return without_others(alloc, first),
             None => {}
         }
@@ -68,12 +68,12 @@ fn other_ways(
 }
 
 /// What is told where the other ways aren't judged.
-fn without_others(alloc: Global, first: Judged) -> Result<Ended, AllocError> {
+fn without_others(alloc: Global, first: Judged) -> Result<Outcome, AllocError> {
     if first.verdict == Verdict::Clean {
         let judged = only_run(alloc)?;
-        Ok(Ended::Judged(judged))
+        Ok(Outcome::Judged(judged))
     } else {
-        Ok(Ended::Judged(first))
+        Ok(Outcome::Judged(first))
     }
 }
 
