@@ -1,4 +1,4 @@
-/* A kind of dependence that isn't read, nor executed yet. */
+/* A kind of dependence that the language of the server hasn't. */
 #include <stdint.h>
 #include <stdio.h>
 int main(void)

@@ -6,7 +6,6 @@ use ot_outline::{Did, Noted};
 use ot_race::Race;
 use ot_racegraph::{Link, Pair, Picture, Task, Touch, Wait, dot_text};
 use std::alloc::{AllocError, Global};
-use std::collections::BTreeMap;
 
 /// How many tasks are drawn, and how many waits.
 const MOST: usize = 60;
@@ -182,8 +181,8 @@ fn put_before(links: &[Link], task: u32, behind: &mut Vec<u32>) -> Result<(), Al
     Ok(())
 }
 
-/// The children of each task that nothing has awaited.
-type Pending<'a> = BTreeMap<u32, Vec<(usize, Begun<'a>)>>;
+/// A task that nothing has awaited, and how many events were before it.
+type Pending<'a> = (usize, Begun<'a>);
 
 /// The waits that await tasks which are drawn.
 fn waits_of(
@@ -192,7 +191,7 @@ fn waits_of(
     log: &[Noted],
     kept: &[Begun<'_>],
 ) -> Result<Vec<Wait>, AllocError> {
-    let mut pending: Pending<'_> = BTreeMap::new(alloc);
+    let mut pending: Vec<Pending<'_>> = Vec::new(alloc);
     let mut waits = Vec::new(alloc);
     let mut next = kept.iter();
     let mut child = next.next();
@@ -200,7 +199,7 @@ fn waits_of(
         if let Some(one) = child
             && one.place == noted.place
         {
-            put_pending(alloc, &mut pending, at, *one)?;
+            pending.push((at, *one))?;
             child = next.next();
             continue;
         }
@@ -217,46 +216,33 @@ fn waits_of(
     Ok(waits)
 }
 
-fn put_pending<'a>(
-    alloc: Global,
-    pending: &mut Pending<'a>,
-    at: usize,
-    one: Begun<'a>,
-) -> Result<(), AllocError> {
-    if let Some(children) = pending.get_mut(&one.parent) {
-        return Ok(children.push((at, one))?);
-    }
-    let mut children = Vec::new(alloc);
-    children.push((at, one))?;
-    let _ = pending.insert(one.parent, children)?;
-    Ok(())
-}
-
 /// Takes out those whom an event awaits.
 fn awaited_by(
     alloc: Global,
-    pending: &mut Pending<'_>,
+    pending: &mut Vec<Pending<'_>>,
     at: usize,
     noted: &Noted,
 ) -> Result<Vec<u32>, AllocError> {
     let mut awaited = Vec::new(alloc);
-    let Some(children) = pending.get_mut(&noted.task) else {
+    if matches!(noted.did, Did::Touches | Did::Begins(..)) {
         return Ok(awaited);
-    };
-    for (since, child) in children.iter() {
-        if is_awaited(&noted.did, at, *since, *child) {
+    }
+    for (since, child) in pending.iter() {
+        if is_awaited(noted, at, *since, *child) {
             awaited.push(child.number)?;
         }
     }
-    children.retain(|(since, child)| !is_awaited(&noted.did, at, *since, *child));
+    pending.retain(|(since, child)| !is_awaited(noted, at, *since, *child));
     Ok(awaited)
 }
 
-/// Whether an event awaits a child that began so many events after the run did.
-fn is_awaited(did: &Did, at: usize, since: usize, child: Begun<'_>) -> bool {
-    match did {
-        Did::Awaits(None) => true,
-        Did::Awaits(Some(declared)) => declared.depends_on(child.declared),
+/// Whether an event awaits a task before which so many events were: a wait children of its task, the end of a group all tasks in it.
+fn is_awaited(noted: &Noted, at: usize, since: usize, child: Begun<'_>) -> bool {
+    match &noted.did {
+        Did::Awaits(None) => child.parent == noted.task,
+        Did::Awaits(Some(declared)) => {
+            child.parent == noted.task && declared.depends_on(child.declared)
+        }
         Did::Leaves(inside) => at.saturating_sub(since) <= *inside as usize,
         Did::Touches | Did::Begins(..) => false,
     }

@@ -7,6 +7,7 @@ use crate::reading::{Read, Reading, byte_of, reading_of};
 use crate::reason::of_run;
 use crate::telling::{Source, more_races, outside, race_found, with_untouched};
 use crate::ways::{QUESTIONS, WAYS, asks_at, first_limit, way_limits};
+use ot_code::Form;
 use ot_corder::{Order, races_by};
 use ot_diagnosis::Diagnosis;
 use ot_machine::{Fault, Limits, Run, Ways, run_code};
@@ -411,6 +412,17 @@ fn ended(alloc: Global, of: Of<'_>, placed: &Placed, fault: Fault) -> Result<Jud
     at_form(alloc, of, placed, fault.at, of_run(fault.reason))
 }
 
+/// The token of a form: of a write that of its place, and not that of the value.
+fn token_at(placed: &Placed, at: usize) -> u32 {
+    if let Some(Form::Store(site, _, _)) = placed.code.forms.get(at) {
+        return *site;
+    }
+    match placed.sites.get(at) {
+        Some(token) => *token,
+        None => 0,
+    }
+}
+
 /// It isn't judged, for this reason at a form.
 fn at_form(
     alloc: Global,
@@ -419,11 +431,7 @@ fn at_form(
     at: usize,
     words: &str,
 ) -> Result<Judged, AllocError> {
-    let token = match placed.sites.get(at) {
-        Some(token) => *token,
-        None => 0,
-    };
-    let byte = byte_of(&of.reading.tokens, token);
+    let byte = byte_of(&of.reading.tokens, token_at(placed, at));
     let words = String::from_str(alloc, words)?;
     one_found(
         alloc,
