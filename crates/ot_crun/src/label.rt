@@ -44,19 +44,11 @@ fn position_text(alloc: Global, place: Place) -> Result<String, AllocError> {
 
 /// Puts the line around a byte, from its first word on, as far as there is room.
 fn put_line(text: &[u8], byte: usize, label: &mut String) -> Result<(), AllocError> {
-    let mut start = byte.min(text.len());
-    for _ in 0..BACK {
-        if start == 0 || text[start - 1] == b'\n' {
+    let mut begins = true;
+    for byte in line_at(text, byte).iter().take(BACK) {
+        if *byte == b'\n' {
             break;
         }
-        start -= 1;
-    }
-    let mut begins = true;
-    for byte in text[start..]
-        .iter()
-        .take(BACK)
-        .take_while(|it| **it != b'\n')
-    {
         if begins && byte.is_ascii_whitespace() {
             continue;
         }
@@ -72,4 +64,23 @@ fn put_line(text: &[u8], byte: usize, label: &mut String) -> Result<(), AllocErr
         label.push(shown as char)?;
     }
     Ok(())
+}
+
+/// A text from the begin of the line of a byte on, or from so many bytes before it.
+fn line_at(text: &[u8], byte: usize) -> &[u8] {
+    let before = match text.get(..byte) {
+        Some(before) => before,
+        None => text,
+    };
+    let mut back = 0usize;
+    for byte in before.iter().rev().take(BACK) {
+        if *byte == b'\n' {
+            break;
+        }
+        back = back.saturating_add(1);
+    }
+    match text.get(before.len().saturating_sub(back)..) {
+        Some(line) => line,
+        None => &[],
+    }
 }
