@@ -1,19 +1,30 @@
 //! What is read and would be executed, and where a verdict could be wrong.
+use crate::cast::apart_cast;
 use crate::reading::byte_of;
 use ot_ctoken::{Kind, Token, word};
 use ot_ctree::{Integer, Record, Type, Unit};
+use std::alloc::{AllocError, Global};
 
 /// The first thing of a text that isn't executed yet: its byte, and why.
-pub(crate) fn beyond(text: &[u8], tokens: &[Token], unit: &Unit) -> Option<(usize, &'static str)> {
+pub(crate) fn beyond(
+    alloc: Global,
+    text: &[u8],
+    tokens: &[Token],
+    unit: &Unit,
+) -> Result<Option<(usize, &'static str)>, AllocError> {
     if let Some(at) = union_in(tokens, unit) {
         let words = "a `union` whose members aren't all of one size isn't executed yet";
-        return Some((byte_of(tokens, at), words));
+        return Ok(Some((byte_of(tokens, at), words)));
+    }
+    if let Some(at) = apart_cast(alloc, tokens, unit)? {
+        let words = "a pointer that is cast to a type of another size isn't executed yet";
+        return Ok(Some((byte_of(tokens, at), words)));
     }
     if let Some(byte) = text_in(text, tokens, unit) {
         let words = "what `%s` prints isn't executed yet where there are strings in memory";
-        return Some((byte, words));
+        return Ok(Some((byte, words)));
     }
-    None
+    Ok(None)
 }
 
 /// The bytes of a scalar; none of another type.

@@ -113,10 +113,15 @@ pub fn draw_run(alloc: Global, name: &str, text: &[u8]) -> Result<Drawn, AllocEr
             with_picture(with_untouched(alloc, &reading, judged)?, whole)
         }
     };
+    let Judged {
+        verdict,
+        found,
+        picture,
+    } = judged;
     Ok(Drawn {
-        verdict: judged.verdict,
-        found: judged.found,
-        picture: judged.picture,
+        verdict,
+        found,
+        picture,
     })
 }
 
@@ -137,14 +142,19 @@ fn whole_picture(
 
 /// The same of what was judged, with this picture where it has no race.
 fn with_picture(judged: Judged, whole: Option<Vec<u8>>) -> Judged {
-    let picture = match judged.verdict {
-        Verdict::Races => judged.picture,
+    let Judged {
+        verdict,
+        found,
+        picture,
+    } = judged;
+    let picture = match verdict {
+        Verdict::Races => picture,
         Verdict::Clean | Verdict::OnlyRun => whole,
         Verdict::Outside => None,
     };
     Judged {
-        verdict: judged.verdict,
-        found: judged.found,
+        verdict,
+        found,
         picture,
     }
 }

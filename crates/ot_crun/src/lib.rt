@@ -2,6 +2,7 @@
 #![tactic(auto)]
 
 mod beyond;
+mod cast;
 mod drawing;
 mod forget;
 mod graph;

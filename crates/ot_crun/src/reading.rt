@@ -127,7 +127,7 @@ fn code_of(
     names: Names,
     unit: Unit,
 ) -> Result<Read, AllocError> {
-    if let Some((byte, words)) = beyond(text, &tokens, &unit) {
+    if let Some((byte, words)) = beyond(alloc, text, &tokens, &unit)? {
         return Ok(Read::Outside(byte, String::from_str(alloc, words)?));
     }
     let known = known_of(alloc, &names)?;
