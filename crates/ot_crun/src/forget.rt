@@ -1,5 +1,6 @@
 //! What branches and indexes rest on: values that come from memory, or aren't known. What an automatic variable has that only its own task
 //! changes isn't from memory.
+use crate::graph::Touches;
 use crate::trace::{Trace, traced};
 use ot_code::{Code, Form};
 use std::alloc::{AllocError, Global};
@@ -39,10 +40,18 @@ pub(crate) fn marks_of(
         asked,
         loads,
         stores,
+        starts,
+        globals,
         ..
     } = traced(alloc, code, parameters, variables)?;
     if !graph.is_full {
-        graph.settle(alloc, &loads, &stores)?;
+        let touches = Touches {
+            loads: &loads,
+            stores: &stores,
+            starts: &starts,
+            globals: &globals,
+        };
+        graph.settle(alloc, &touches)?;
     }
     if graph.is_full {
         return Ok(None);

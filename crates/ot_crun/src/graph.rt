@@ -1,5 +1,6 @@
 //! Where values come from. Each value that a slot has had is a point, and an edge says which value went into which.
 use std::alloc::{AllocError, Global};
+use std::collections::BTreeMap;
 
 /// How one value went into another.
 #[derive(Clone, Copy, Debug, PartialEq, Eq)]
@@ -44,6 +45,8 @@ struct Point {
     is_memory: bool,
     /// Of a chief: what lies there may be changed by another task, or from where nobody looks.
     is_outer: bool,
+    /// Of a chief: it is the place of a variable that lives as long as the program, which is memory where anything is stored there.
+    is_global: bool,
 }
 
 /// No edge, no form, no function.
@@ -72,6 +75,15 @@ const MOST: usize = 1 << 22;
 pub(crate) struct Touch {
     pub place: u32,
     pub value: u32,
+}
+
+/// Where values are loaded from and stored to, what variables that live as long as the program begin with, and their places.
+#[derive(Clone, Copy)]
+pub(crate) struct Touches<'a> {
+    pub loads: &'a [Touch],
+    pub stores: &'a [Touch],
+    pub starts: &'a [Touch],
+    pub globals: &'a BTreeMap<u32, u32>,
 }
 
 #[derive(Drop)]
@@ -116,6 +128,7 @@ impl Graph {
             is_lent: false,
             is_memory: false,
             is_outer: false,
+            is_global: false,
         })?;
         Ok(number)
     }
@@ -263,6 +276,22 @@ impl Graph {
         }
     }
 
+    /// It is the place of a variable that lives as long as the program.
+    fn lives_on(&mut self, value: u32) {
+        let chief = self.chief_of(value);
+        if let Some(point) = self.points.get_mut(chief as usize) {
+            point.is_global = true;
+        }
+    }
+
+    fn is_global(&mut self, value: u32) -> bool {
+        let chief = self.chief_of(value);
+        match self.points.get(chief as usize) {
+            Some(point) => point.is_global,
+            None => true,
+        }
+    }
+
     /// What lies at this place may be changed from elsewhere.
     fn leaks(&mut self, value: u32) {
         let chief = self.chief_of(value);
@@ -278,11 +307,15 @@ impl Graph {
     pub(crate) fn settle(
         &mut self,
         alloc: Global,
-        loads: &[Touch],
-        stores: &[Touch],
+        touches: &Touches<'_>,
     ) -> Result<(), AllocError> {
+        let loads = touches.loads;
+        let stores = touches.stores;
         self.spread_reads(alloc)?;
         self.meet();
+        for place in touches.globals.values() {
+            self.lives_on(*place);
+        }
         self.spread(alloc, Mark::Lent)?;
         for load in loads {
             self.leaks(load.value);
@@ -291,11 +324,16 @@ impl Graph {
             if store.value > UNKNOWN {
                 self.leaks(store.value);
             }
-            if self.is_lent(store.place) {
+            if self.is_lent(store.place) || self.is_global(store.place) {
                 self.leaks(store.place);
             }
         }
-        self.fill(alloc, loads, stores)?;
+        for start in touches.starts {
+            if start.value > UNKNOWN {
+                self.leaks(start.value);
+            }
+        }
+        self.fill(alloc, touches)?;
         self.spread(alloc, Mark::Memory)
     }
 
@@ -383,14 +421,14 @@ impl Graph {
     }
 
     /// Of places that only their own task changes, what is stored there is what is loaded.
-    fn fill(&mut self, alloc: Global, loads: &[Touch], stores: &[Touch]) -> Result<(), AllocError> {
+    fn fill(&mut self, alloc: Global, touches: &Touches<'_>) -> Result<(), AllocError> {
         let mut contents = vec![in alloc; NONE; self.points.len()]?;
-        for store in stores {
+        for store in touches.starts.iter().chain(touches.stores) {
             if let Some(content) = self.content(&mut contents, store.place)? {
                 self.link(store.value, content, Going::Counted)?;
             }
         }
-        for load in loads {
+        for load in touches.loads {
             match self.content(&mut contents, load.place)? {
                 Some(content) => self.link(content, load.value, Going::Counted)?,
                 None => {

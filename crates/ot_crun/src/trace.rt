@@ -4,6 +4,7 @@ use crate::graph::{ANY, Going, Graph, MEMORY, NONE, OUTER, PLAIN, Touch, UNKNOWN
 use crate::spots::{Spots, spots_of};
 use ot_code::{Code, Form};
 use std::alloc::{AllocError, Global};
+use std::collections::BTreeMap;
 
 /// What a slot had before it was given another value, or the value with which a loop's turn begins.
 #[derive(Clone, Copy)]
@@ -58,6 +59,10 @@ pub(crate) struct Trace<'a> {
     pub asked: Vec<Asked>,
     pub loads: Vec<Touch>,
     pub stores: Vec<Touch>,
+    /// What variables that live as long as the program begin with.
+    pub starts: Vec<Touch>,
+    /// The places of these variables, by the form at which each begins.
+    pub globals: BTreeMap<u32, u32>,
     /// By slot, what it has, and when it was last looked at.
     now: Vec<u32>,
     seen: Vec<Seen>,
@@ -104,6 +109,8 @@ impl<'a> Trace<'a> {
             asked: Vec::new(alloc),
             loads: Vec::new(alloc),
             stores: Vec::new(alloc),
+            starts: Vec::new(alloc),
+            globals: BTreeMap::new(alloc),
             now: vec![in alloc; PLAIN; slots]?,
             seen: vec![in alloc; Seen {
                 stamp: 0,
@@ -453,17 +460,29 @@ impl<'a> Trace<'a> {
 
     /// The place of an object that lives as long as the program. Two of its cells that no variable names say which task runs.
     fn address(&mut self, to: u32, object: u32) -> Result<(), AllocError> {
-        let is_flags = match self.code.forms.get(object as usize) {
-            Some(Form::Begin(_, cells, name, _)) => *cells > 1 && *name == self.variables,
-            _ => false,
+        let Some(Form::Begin(_, cells, name, _)) = self.code.forms.get(object as usize) else {
+            return self.gives(to, OUTER);
         };
         let flags = self.flags;
-        let place = if is_flags {
+        let place = if *name < self.variables {
+            let global = self.global(object)?;
+            self.same_as(global)?
+        } else if *cells > 1 && *name == self.variables {
             self.same_as(flags)?
         } else {
             OUTER
         };
         self.gives(to, place)
+    }
+
+    /// The place of a variable that lives as long as the program.
+    fn global(&mut self, object: u32) -> Result<u32, AllocError> {
+        if let Some(place) = self.globals.get(&object) {
+            return Ok(*place);
+        }
+        let place = self.graph.value(ANY)?;
+        let _ = self.globals.insert(object, place)?;
+        Ok(place)
     }
 
     fn touch(&mut self, at: usize, form: &Form) -> Result<(), AllocError> {
@@ -476,6 +495,12 @@ impl<'a> Trace<'a> {
                 let value = self.graph.value(self.task)?;
                 self.loads.push(Touch { place, value })?;
                 self.gives(*to, value)
+            }
+            Form::StoreOwn(_, place, from) if self.function == NONE => {
+                let place = self.reads(*place)?;
+                let value = self.reads(*from)?;
+                self.starts.push(Touch { place, value })?;
+                Ok(())
             }
             Form::Store(_, place, from) | Form::StoreOwn(_, place, from) => {
                 let place = self.reads(*place)?;
@@ -491,8 +516,25 @@ impl<'a> Trace<'a> {
                 })?;
                 Ok(())
             }
+            Form::Group(_, folded) => {
+                for one in folded {
+                    self.is_reduced(one.slot)?;
+                }
+                Ok(())
+            }
+            Form::Joins(_, _, slot) => self.is_reduced(*slot),
             other => self.goes(at, other),
         }
+    }
+
+    /// The end of a region writes what lies at a slot's place.
+    fn is_reduced(&mut self, slot: u32) -> Result<(), AllocError> {
+        let place = self.reads(slot)?;
+        self.stores.push(Touch {
+            place,
+            value: UNKNOWN,
+        })?;
+        Ok(())
     }
 
     fn goes(&mut self, at: usize, form: &Form) -> Result<(), AllocError> {
