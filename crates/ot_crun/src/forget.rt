@@ -33,7 +33,7 @@ pub(crate) fn marks_of(
     alloc: Global,
     code: &Code,
     parameters: &[u32],
-    variables: u32,
+    closed: &[bool],
 ) -> Result<Option<Vec<bool>>, AllocError> {
     let Trace {
         mut graph,
@@ -43,7 +43,7 @@ pub(crate) fn marks_of(
         starts,
         globals,
         ..
-    } = traced(alloc, code, parameters, variables)?;
+    } = traced(alloc, code, parameters, closed)?;
     if !graph.is_full {
         let touches = Touches {
             loads: &loads,

@@ -19,7 +19,8 @@ pub(crate) fn judge_others(
 ) -> Result<Outcome, AllocError> {
     let code = &placed.code;
     let parameters = of.reading.parameters(alloc)?;
-    let Some(marks) = marks_of(alloc, code, &parameters, of.reading.variables())? else {
+    let closed = of.reading.closed(alloc)?;
+    let Some(marks) = marks_of(alloc, code, &parameters, &closed)? else {
         return without_others(alloc, first);
     };
     if !marks.iter().any(|is_marked| *is_marked) {

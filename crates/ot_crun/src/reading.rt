@@ -6,7 +6,7 @@ use ot_ccode as code;
 use ot_ccode::{Known, Why, meaning_of, translate};
 use ot_cparse::{ParseError, unit_of};
 use ot_ctoken::{Kind, Names, ReadError, Token, tokens_of};
-use ot_ctree::Unit;
+use ot_ctree::{Storage, Unit};
 use std::alloc::{AllocError, Global};
 
 /// A text that is read: its names, its tokens and its tree.
@@ -29,9 +29,14 @@ impl Reading {
         Ok(counts)
     }
 
-    /// How many variables there are.
-    pub(crate) fn variables(&self) -> u32 {
-        u32::try_from(self.unit.variables.len()).unwrap_or(u32::MAX)
+    /// Of each variable, whether it lives as long as the program and nothing but the text writes it: a function without a body that
+    /// is called may write any.
+    pub(crate) fn closed(&self, alloc: Global) -> Result<Vec<bool>, AllocError> {
+        let mut closed = Vec::new(alloc);
+        for variable in &self.unit.variables {
+            closed.push(self.untouched.is_empty() && variable.storage == Storage::Static)?;
+        }
+        Ok(closed)
     }
 }
 

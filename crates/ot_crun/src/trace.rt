@@ -53,8 +53,8 @@ pub(crate) struct Trace<'a> {
     alloc: Global,
     code: &'a Code,
     spots: Spots,
-    /// The names of what isn't a variable's begin here.
-    variables: u32,
+    /// By the name of a variable, whether it lives as long as the program and nothing but the code writes it.
+    closed: &'a [bool],
     pub graph: Graph,
     pub asked: Vec<Asked>,
     pub loads: Vec<Touch>,
@@ -91,7 +91,7 @@ const NEVER: usize = usize::MAX;
 
 /// What a trace begins with.
 impl<'a> Trace<'a> {
-    fn new(alloc: Global, code: &'a Code, variables: u32) -> Result<Trace<'a>, AllocError> {
+    fn new(alloc: Global, code: &'a Code, closed: &'a [bool]) -> Result<Trace<'a>, AllocError> {
         let spots = spots_of(alloc, code)?;
         let mut graph = Graph::new(alloc)?;
         let given = graph.value(ANY)?;
@@ -104,7 +104,7 @@ impl<'a> Trace<'a> {
             alloc,
             code,
             spots,
-            variables,
+            closed,
             graph,
             asked: Vec::new(alloc),
             loads: Vec::new(alloc),
@@ -426,7 +426,7 @@ impl<'a> Trace<'a> {
             }
             Form::Address(to, object, _) => self.address(*to, *object),
             Form::Begin(to, _, name, _) | Form::Allocate(to, name, _, _, _) => {
-                let place = if *name < self.variables {
+                let place = if (*name as usize) < self.closed.len() {
                     self.graph.value(self.task)?
                 } else {
                     OUTER
@@ -464,13 +464,14 @@ impl<'a> Trace<'a> {
             return self.gives(to, OUTER);
         };
         let flags = self.flags;
-        let place = if *name < self.variables {
-            let global = self.global(object)?;
-            self.same_as(global)?
-        } else if *cells > 1 && *name == self.variables {
-            self.same_as(flags)?
-        } else {
-            OUTER
+        let place = match self.closed.get(*name as usize) {
+            Some(true) => {
+                let global = self.global(object)?;
+                self.same_as(global)?
+            }
+            Some(false) => OUTER,
+            None if *cells > 1 && *name as usize == self.closed.len() => self.same_as(flags)?,
+            None => OUTER,
         };
         self.gives(to, place)
     }
@@ -605,14 +606,14 @@ impl<'a> Trace<'a> {
     }
 }
 
-/// The values of all slots of this code, whose functions have so many parameters, and whose names from this one on aren't variables'.
+/// The values of all slots of this code, whose functions have so many parameters, and of whose variables nothing but the code writes these.
 pub(crate) fn traced<'a>(
     alloc: Global,
     code: &'a Code,
     parameters: &[u32],
-    variables: u32,
+    closed: &'a [bool],
 ) -> Result<Trace<'a>, AllocError> {
-    let mut trace = Trace::new(alloc, code, variables)?;
+    let mut trace = Trace::new(alloc, code, closed)?;
     trace.calls(parameters)?;
     trace.takes()?;
     for (at, form) in code.forms.iter().enumerate() {

@@ -1,0 +1,13 @@
+/* A table that nothing writes names each element once. */
+int order[4] = {2, 0, 3, 1};
+int a[16];
+int main(void)
+{
+    #pragma omp parallel
+    #pragma omp single
+    for (int i = 0; i < 4; i++) {
+        #pragma omp task firstprivate(i)
+        a[order[i]] = 1;
+    }
+    return 0;
+}
