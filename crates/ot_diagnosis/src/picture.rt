@@ -180,16 +180,14 @@ fn shown_count(count: usize, other: usize) -> usize
     }
 }
 
-/// How many bytes stand before the last line of a text.
+/// How many bytes stand before the last line of a text. It costs that line.
 fn line_start(text: &[u8]) -> usize
     ensures is { result ≡ length text.now - suffix_len (λ b. not (is_end b)) text.now }
     ensures within { result ≤ length text.now }
 {
-    let mut start = 0;
-    for (index, byte) in text.iter().enumerate() {
-        if *byte == b'\n' {
-            start = index + 1;
-        }
+    let mut start = text.len();
+    while start > 0 && text[start - 1] != b'\n' {
+        start -= 1;
     }
     start
 }
