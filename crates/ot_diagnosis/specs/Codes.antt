@@ -2,7 +2,7 @@
 use Rattle.std.specs.Prelude.{ℕ, List, [], ◌++◌, codes}
 use Rattle.std.specs.Fmt.{decimal}
 use Rattle.ot_diagnosis.specs.declared.diagnosis.Code.{Code}
-use Rattle.ot_diagnosis.specs.declared.diagnosis.Code.TheVariants.{Race, MoreRaces, Outside, OnlyRun, Refused, Answered, Long, Full}
+use Rattle.ot_diagnosis.specs.declared.diagnosis.Code.TheVariants.{Race, Lifetime, MoreRaces, Outside, OnlyRun, AsIf, Refused, Answered, Long, Full}
 use Rattle.ot_diagnosis.specs.declared.diagnosis.Severity.{Severity}
 use Rattle.ot_diagnosis.specs.declared.diagnosis.Severity.TheVariants.{Error, Note}
 
@@ -12,9 +12,11 @@ severity_text Note = codes "note"
 
 abbrev pub code_text : Code → List ℕ
 code_text Race = codes "race"
+code_text Lifetime = codes "lifetime"
 code_text MoreRaces = codes "more-races"
 code_text Outside = codes "outside"
 code_text OnlyRun = codes "only-run"
+code_text AsIf = codes "as-if"
 code_text (Refused number) = decimal number
 code_text (Answered number) = decimal number
 code_text Long = codes "long"

@@ -6,7 +6,7 @@ use Rattle.ot_diagnosis.specs.Codes.{severity_text, code_text}
 use Rattle.ot_diagnosis.specs.Escapes.{uri_text}
 use Rattle.ot_diagnosis.specs.Values.{nat, listed}
 use Rattle.ot_diagnosis.specs.declared.diagnosis.Code.{Code}
-use Rattle.ot_diagnosis.specs.declared.diagnosis.Code.TheVariants.{Race, MoreRaces, Outside, OnlyRun, Refused, Answered, Long, Full}
+use Rattle.ot_diagnosis.specs.declared.diagnosis.Code.TheVariants.{Race, Lifetime, MoreRaces, Outside, OnlyRun, AsIf, Refused, Answered, Long, Full}
 use Rattle.ot_diagnosis.specs.declared.diagnosis.Place.{Place}
 
 -- an object with one member
@@ -53,9 +53,11 @@ result_value name d =
 
 abbrev pub meaning_text : Code → List ℕ
 meaning_text Race = codes "Two touches of a cell race"
+meaning_text Lifetime = codes "A task may touch what has ended"
 meaning_text MoreRaces = codes "More races than are told"
 meaning_text Outside = codes "The file isn't judged"
 meaning_text OnlyRun = codes "Only the run with these numbers was judged"
+meaning_text AsIf = codes "What the verdict takes for granted"
 meaning_text (Refused number) = codes "omptaskd refuses the program"
 meaning_text (Answered number) = codes "omptaskd refuses the request"
 meaning_text Long = codes "The request has too many bytes"
@@ -67,7 +69,7 @@ rule_value kind =
 
 -- what may be told of a text in C
 abbrev pub kinds : List Code
-kinds = Race ∷ MoreRaces ∷ Outside ∷ OnlyRun ∷ Refused 425 ∷ Refused 426 ∷ Refused 427 ∷ Refused 428 ∷ Refused 429 ∷ []
+kinds = Race ∷ Lifetime ∷ MoreRaces ∷ Outside ∷ OnlyRun ∷ AsIf ∷ Refused 425 ∷ Refused 426 ∷ Refused 427 ∷ Refused 428 ∷ Refused 429 ∷ []
 
 abbrev pub driver_value : Data
 driver_value = object (put (codes "rules") (listed (map rule_value kinds)) (put (codes "name") (string (codes "omptask")) no_members))

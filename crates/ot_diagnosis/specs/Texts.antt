@@ -4,7 +4,7 @@ use Rattle.std.specs.Fmt.{decimal}
 use Rattle.ot_diagnosis.specs.Diagnoses.{Remark, Diagnosis}
 use Rattle.ot_diagnosis.specs.Pictures.{painted, picture_text}
 use Rattle.ot_diagnosis.specs.declared.diagnosis.Code.{Code}
-use Rattle.ot_diagnosis.specs.declared.diagnosis.Code.TheVariants.{Race, Outside, Refused}
+use Rattle.ot_diagnosis.specs.declared.diagnosis.Code.TheVariants.{Race, Lifetime, Outside, Refused}
 use Rattle.ot_diagnosis.specs.declared.diagnosis.Place.{Place}
 use Rattle.ot_diagnosis.specs.declared.diagnosis.Severity.{Severity}
 use Rattle.ot_diagnosis.specs.declared.diagnosis.Severity.TheVariants.{Error, Note}
@@ -23,6 +23,7 @@ mark_text paint Note = codes ": " ++ (painted paint (codes "1;36") (codes "note:
 -- ` [race]`, behind a message; nothing where the message says it, or where there is nothing to say
 abbrev pub label_text : Code → List ℕ
 label_text Race = codes " [race]"
+label_text Lifetime = codes " [lifetime]"
 label_text Outside = codes " [outside]"
 label_text (Refused number) = codes " [" ++ (decimal number ++ codes "]")
 label_text other = []

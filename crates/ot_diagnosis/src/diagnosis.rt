@@ -18,12 +18,16 @@ pub enum Severity {
 pub enum Code {
     /// Two touches race.
     Race,
+    /// A task may touch a variable, or what was allocated, behind its end.
+    Lifetime,
     /// More races than are told.
     MoreRaces,
     /// The file isn't judged.
     Outside,
     /// Of the file only the run was judged.
     OnlyRun,
+    /// What the verdict takes for granted.
+    AsIf,
     /// A server refuses a program, by this code.
     Refused(u32),
     /// A server answers a request by this code.

@@ -164,9 +164,11 @@ fn driver_of(alloc: Global) -> Result<Value, AllocError>
 {
     let kinds = [
         Code::Race,
+        Code::Lifetime,
         Code::MoreRaces,
         Code::Outside,
         Code::OnlyRun,
+        Code::AsIf,
         Code::Refused(425),
         Code::Refused(426),
         Code::Refused(427),
@@ -209,9 +211,11 @@ fn meaning_of(code: Code) -> &'static str
 {
     match code {
         Code::Race => "Two touches of a cell race",
+        Code::Lifetime => "A task may touch what has ended",
         Code::MoreRaces => "More races than are told",
         Code::Outside => "The file isn't judged",
         Code::OnlyRun => "Only the run with these numbers was judged",
+        Code::AsIf => "What the verdict takes for granted",
         Code::Refused(_) => "omptaskd refuses the program",
         Code::Answered(_) => "omptaskd refuses the request",
         Code::Long => "The request has too many bytes",

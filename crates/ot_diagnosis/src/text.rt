@@ -140,6 +140,7 @@ pub(crate) fn label_of(alloc: Global, code: Code) -> Result<String, AllocError>
 {
     match code {
         Code::Race => String::from_str(alloc, " [race]"),
+        Code::Lifetime => String::from_str(alloc, " [lifetime]"),
         Code::Outside => String::from_str(alloc, " [outside]"),
         Code::Refused(number) => format!(in alloc; " [{number}]"),
         _ => Ok(String::new(alloc)),

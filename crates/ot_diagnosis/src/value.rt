@@ -111,9 +111,11 @@ pub(crate) fn code_of(alloc: Global, code: Code) -> Result<String, AllocError>
 {
     match code {
         Code::Race => String::from_str(alloc, "race"),
+        Code::Lifetime => String::from_str(alloc, "lifetime"),
         Code::MoreRaces => String::from_str(alloc, "more-races"),
         Code::Outside => String::from_str(alloc, "outside"),
         Code::OnlyRun => String::from_str(alloc, "only-run"),
+        Code::AsIf => String::from_str(alloc, "as-if"),
         Code::Refused(number) | Code::Answered(number) => format!(in alloc; "{number}"),
         Code::Long => String::from_str(alloc, "long"),
         Code::Full => String::from_str(alloc, "full"),
