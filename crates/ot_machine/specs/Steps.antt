@@ -26,7 +26,7 @@ use Rattle.ot_state.specs.Nest.{Nest, frame, opened, closed, grouped, ungrouped,
 use Rattle.ot_state.specs.Clauses.{with_use, items_of, parts_of}
 use Rattle.ot_machine.specs.State.{State, state, with_slots, with_trail, with_locks, from}
 use Rattle.ot_state.specs.declared.fault.Reason.{Reason}
-use Rattle.ot_state.specs.declared.fault.Reason.TheVariants.{Broken, Null, Changes, NoFunction, NoGroup, UnknownCondition, UnknownLength, TooManyTasks, TooMuch}
+use Rattle.ot_state.specs.declared.fault.Reason.TheVariants.{Broken, Null, Outside, Changes, NoFunction, NoGroup, UnknownCondition, UnknownLength, TooManyTasks, TooMuch}
 use Rattle.ot_state.specs.declared.limits.Limits.{Limits}
 use Rattle.ot_state.specs.declared.locks.Lock.{Lock}
 use Rattle.ot_state.specs.declared.locks.Lock.TheVariants.{ByItem}
@@ -298,12 +298,17 @@ siding_at l site mode c p = do
   locks ← excluding l mode (ByItem s.trail.task c.array c.index) p.1 s.locks
   Ok (state s.at s.slots s.memory s.trail s.nest locks.1 siblings s.tasks s.ended, locks.0)
 
+-- by an item that begins at this cell; one that begins outside of its object names none
+abbrev pub siding_where : Limits → ℕ → Depends → State × List ℕ → Result Span Reason → Result (State × List ℕ) Reason
+siding_where l site mode p (Ok c) = siding_at l site mode (cell c.object c.index) p
+siding_where l site mode p (Err Outside) = Ok p
+siding_where l site mode p (Err r) = Err r
+
 -- by an item
 unfoldable pub siding : Limits → ℕ → Item → State × List ℕ → Result (State × List ℕ) Reason
 siding l site i p = do
   place ← read p.0.slots i.slot
-  c ← span_at p.0.memory place 1
-  siding_at l site i.mode (cell c.object c.index) p
+  siding_where l site i.mode p (span_at p.0.memory place 1)
 
 -- it begins with locks of its items alone
 unfoldable pub holding_own : Limits → List ℕ → State → Step

@@ -10,7 +10,7 @@ ghost use Rattle.ot_machine.specs.View.{state_of};
 use crate::machine::Machine;
 use ot_code::{Depends, Item};
 use ot_model::{Cell, Decl, Mode, Use};
-use ot_state::{Halt, Limits, Lock, Locks, mode_at, put_behind, turns};
+use ot_state::{Halt, Limits, Lock, Locks, Reason, mode_at, put_behind, turns};
 use std::alloc::Global;
 
 /// What declares that a cell is written.
@@ -108,12 +108,18 @@ impl Machine {
         ensures { Gives (λ _. (state_of self.new, set.new.items)) result (siding limits site item (state_of self.old, set.old.items)) }
     {
         let place = self.slots.read(item.slot)?;
-        let span = self.memory.span_at(place, 1)?;
-        let cell = Cell {
-            array: span.object,
-            index: span.index,
-        };
-        self.side_at(alloc, limits, site, item.mode, cell, set)
+        match self.memory.span_at(place, 1) {
+            Ok(span) => {
+                let cell = Cell {
+                    array: span.object,
+                    index: span.index,
+                };
+                self.side_at(alloc, limits, site, item.mode, cell, set)
+            }
+            // no cell is there
+            Err(Halt::For(Reason::Outside)) => Ok(()),
+            Err(halt) => Err(halt),
+        }
     }
 
     /// The same of all items.

@@ -1,6 +1,7 @@
 -- What clauses name.
 use Rattle.std.specs.Prelude.{ℕ, suc, ◌++◌, nat_le, List, [], ◌∷◌, length, slice_set, if◌then◌else◌, Option, Some, None, Result, Ok, Err}
 use Rattle.std.specs.List.{insert}
+use Rattle.ot_code.specs.declared.form.Depends.{Depends}
 use Rattle.ot_code.specs.declared.form.Folded.{Folded}
 use Rattle.ot_code.specs.declared.form.Item.{Item}
 use Rattle.ot_model.specs.Cells.{is_before, same_cell}
@@ -15,8 +16,9 @@ use Rattle.ot_state.specs.Nest.{part}
 use Rattle.ot_state.specs.Siblings.{told_mode}
 use Rattle.ot_state.specs.Slots.{Slots, read}
 use Rattle.ot_state.specs.declared.fault.Reason.{Reason}
-use Rattle.ot_state.specs.declared.fault.Reason.TheVariants.{TooManyItems}
+use Rattle.ot_state.specs.declared.fault.Reason.TheVariants.{Outside, TooManyItems}
 use Rattle.ot_state.specs.declared.limits.Limits.{Limits}
+use Rattle.ot_state.specs.declared.memory.Span.{Span}
 use Rattle.ot_state.specs.declared.nest.Part.{Part}
 use Rattle.ot_state.specs.declared.siblings.Siblings.{Siblings}
 
@@ -42,12 +44,17 @@ abbrev pub placed : Use → List Use → ℕ → Option Use → List Use
 placed u us n None = insert us n u
 placed u us n (Some v) = if same_cell v.cell u.cell then slice_set us n (use_as (both v.mode u.mode) v.cell) else insert us n u
 
+-- a declaration with an item more that begins at this cell. One that begins outside of its object is none: no cell is there
+abbrev pub with_item_at : Option ℕ → List Siblings → Depends → List Use → Result Span Reason → Result (List Use) Reason
+with_item_at waits ss mode us (Ok c) = Ok (with_use (use_as (told_mode waits (cell c.object c.index) ss mode) (cell c.object c.index)) us)
+with_item_at waits ss mode us (Err Outside) = Ok us
+with_item_at waits ss mode us (Err r) = Err r
+
 -- a declaration with one item more, the cell where it begins: of a wait by this task behind these siblings, or of a task
 unfoldable pub with_item : Slots → Memory → Option ℕ → List Siblings → Item → List Use → Result (List Use) Reason
 with_item s m waits ss i us = do
   p ← read s i.slot
-  c ← span_at m p 1
-  Ok (with_use (use_as (told_mode waits (cell c.object c.index) ss i.mode) (cell c.object c.index)) us)
+  with_item_at waits ss i.mode us (span_at m p 1)
 
 unfoldable pub items_of : Limits → Slots → Memory → Option ℕ → List Siblings → List Item → Result (List Use) Reason
 items_of l s m waits ss is = if nat_le (length is) l.items then each (with_item s m waits ss) is [] else Err TooManyItems

@@ -85,7 +85,8 @@ fn put_use(uses: &mut Vec<Use>, place: usize, found: Option<Use>, added: Use) ->
     }
 }
 
-/// A declaration gets one item more, the cell where it begins: of a wait by this task behind these siblings, or of a task.
+/// A declaration gets one item more, the cell where it begins: of a wait by this task behind these siblings, or of a task. An item that begins outside of its
+/// object names no cell.
 #[tactic(auto, unfolding(crate::specs::Clauses::with_item))]
 fn add_item(
     slots: &Slots,
@@ -100,18 +101,24 @@ fn add_item(
     ensures ordered { IfOk result (λ _. AreInOrder uses.new.items) }
 {
     let place = slots.read(item.slot)?;
-    let span = memory.span_at(place, 1)?;
-    let cell = Cell {
-        array: span.object,
-        index: span.index,
-    };
-    add_use(
-        uses,
-        Use {
-            cell,
-            mode: told_mode(waits, cell, all, item.mode),
-        },
-    )
+    match memory.span_at(place, 1) {
+        Ok(span) => {
+            let cell = Cell {
+                array: span.object,
+                index: span.index,
+            };
+            add_use(
+                uses,
+                Use {
+                    cell,
+                    mode: told_mode(waits, cell, all, item.mode),
+                },
+            )
+        }
+        // no cell is there
+        Err(Halt::For(Reason::Outside)) => Ok(()),
+        Err(halt) => Err(halt),
+    }
 }
 
 /// The declaration with these items: of a wait by this task behind these siblings, or of a task.

@@ -34,7 +34,7 @@ impl Limits {
             items: 256,
             events: 1_000_000,
             touches: 1 << 24,
-            tasks: 20_000,
+            tasks: 32_768,
             contexts: 1 << 22,
             objects: 1 << 22,
             members: 1 << 24,
