@@ -4,6 +4,7 @@ use crate::maker::{ALONE, Aim, FINAL, Held, Maker, WORD};
 use crate::value::DEEPEST;
 use ot_clayout::{Class, Sort};
 use ot_code::{Depends, Folded, Form, Item, Operation};
+use ot_csharing::{condition_of, value_of};
 use ot_ctree::{Clause, Dependence, Directive, Expr, Integer, Iterator, Reducing, Role};
 use ot_model::Fold;
 
@@ -39,37 +40,6 @@ fn mode_of(dependence: Dependence) -> Depends {
     }
 }
 
-pub(crate) fn has(clauses: &[Clause], role: Role) -> bool {
-    for clause in clauses {
-        if clause.role == role {
-            return true;
-        }
-    }
-    false
-}
-
-/// The value of the clause with this role.
-pub(crate) fn value_of(clauses: &[Clause], role: Role) -> Option<&Expr> {
-    for clause in clauses {
-        if clause.role == role {
-            return clause.items.first();
-        }
-    }
-    None
-}
-
-/// The condition of the `if` clause that is for this directive.
-pub(crate) fn condition_of(clauses: &[Clause], directive: Directive) -> Option<&Expr> {
-    for clause in clauses {
-        if let Role::If(of) = clause.role
-            && of.unwrap_or(directive) == directive
-        {
-            return clause.items.first();
-        }
-    }
-    None
-}
-
 impl<'a> Maker<'a> {
     /// The slot that says whether a task of this directive may be deferred: not where its condition is 0, in a final task, or where a
     /// team has one thread, which executes its tasks one after another.
@@ -87,6 +57,15 @@ impl<'a> Maker<'a> {
             }
             None => None,
         };
+        let free = self.may_defer(at)?;
+        match condition {
+            Some(condition) => Ok(Some(self.operate(Operation::And, WORD, condition, free)?)),
+            None => Ok(Some(free)),
+        }
+    }
+
+    /// The slot that says whether what runs may defer tasks.
+    pub(crate) fn may_defer(&mut self, at: u32) -> Result<u32, Fault> {
         let alone = self.flag(at, ALONE)?;
         let kept = if self.has_final {
             let flag = self.flag(at, FINAL)?;
@@ -94,11 +73,7 @@ impl<'a> Maker<'a> {
         } else {
             alone
         };
-        let free = self.is_zero(kept)?;
-        match condition {
-            Some(condition) => Ok(Some(self.operate(Operation::And, WORD, condition, free)?)),
-            None => Ok(Some(free)),
-        }
+        self.is_zero(kept)
     }
 
     /// The slot that says whether tasks within are final, where the clause stands here.

@@ -1,9 +1,10 @@
 //! Constructs.
-use crate::clauses::{condition_of, has, value_of};
 use crate::fault::{Fault, Why};
-use crate::maker::{ALONE, Around, Maker, below};
+use crate::maker::{ACTIVE, ALONE, Around, Maker, WORD, below};
+use crate::team::{Team, Thread, Whose};
 use crate::value::DEEPEST;
-use ot_code::Form;
+use ot_code::{Form, Operation};
+use ot_csharing::{condition_of, has, is_by_one, is_of_one, value_of};
 use ot_ctree::{Clause, Directive, Expr, Role, Stmt};
 use std::mem;
 
@@ -15,84 +16,11 @@ pub(crate) struct Region {
     around: Around,
     returns: bool,
     next: u32,
-}
-
-/// Whether one thread of the team does all that is done here.
-fn by_one(depth: u32, body: &Stmt) -> bool {
-    if depth == 0 {
-        return false;
-    }
-    match body {
-        Stmt::Block(_, list, _) => by_one_in_turn(depth, list.as_slice()),
-        Stmt::Empty(_) => true,
-        Stmt::Construct(_, directives, _, _, _) => match directives.first() {
-            Some(Directive::Single)
-            | Some(Directive::Masked)
-            | Some(Directive::Taskyield)
-            | Some(Directive::Flush)
-            | Some(Directive::Barrier) => true,
-            _ => false,
-        },
-        _ => false,
-    }
-}
-
-/// The same of a list: behind what has no barrier nothing more is done.
-fn by_one_in_turn(depth: u32, list: &[Stmt]) -> bool {
-    let mut is_open = false;
-    for statement in list {
-        match statement {
-            Stmt::Declares(_, _, None) | Stmt::Empty(_) => {}
-            Stmt::Construct(_, directives, _, clauses, _) => {
-                if is_open || !is_one(directives.as_slice()) {
-                    return false;
-                }
-                is_open = has(clauses.as_slice(), Role::Nowait)
-                    || directives.first() == Some(&Directive::Masked);
-            }
-            Stmt::Block(_, inner, _) => {
-                if list.len() > 1 || !by_one_in_block(depth, inner.as_slice()) {
-                    return false;
-                }
-            }
-            _ => return false,
-        }
-    }
-    true
-}
-
-fn by_one_in_block(_depth: u32, inner: &[Stmt]) -> bool {
-    match inner {
-        [Stmt::Construct(_, directives, _, _, _)] => is_one(directives.as_slice()),
-        _ => false,
-    }
-}
-
-fn is_one(directives: &[Directive]) -> bool {
-    matches!(
-        directives.first(),
-        Some(Directive::Single) | Some(Directive::Masked)
-    )
+    team: Team,
+    whose: Whose,
 }
 
 impl<'a> Maker<'a> {
-    /// Whether the team has one thread, as a constant says.
-    fn is_alone(&mut self, clauses: &[Clause]) -> bool {
-        if let Some(count) = value_of(clauses, Role::NumThreads)
-            && let Some(count) = self.layouts.constant(self.unit, count)
-            && count.number == 1
-        {
-            return true;
-        }
-        match condition_of(clauses, Directive::Parallel) {
-            Some(test) => match self.layouts.constant(self.unit, test) {
-                Some(test) => test.number == 0,
-                None => false,
-            },
-            None => false,
-        }
-    }
-
     pub(crate) fn begins_region(&mut self) -> Region {
         let region = Region {
             live: self.live.len(),
@@ -100,8 +28,11 @@ impl<'a> Maker<'a> {
             around: self.around,
             returns: self.frame.returns,
             next: self.frame.next,
+            team: self.team,
+            whose: self.whose,
         };
         self.around = Around::NOTHING;
+        self.team = Team::Nothing;
         self.frame.returns = false;
         region
     }
@@ -112,11 +43,13 @@ impl<'a> Maker<'a> {
         self.around = region.around;
         self.frame.returns = region.returns;
         self.frame.next = region.next;
+        self.team = region.team;
+        self.whose = region.whose;
         Ok(())
     }
 
     /// The region begins whose items were named.
-    fn groups(&mut self, at: u32) -> Result<(), Fault> {
+    pub(crate) fn groups(&mut self, at: u32) -> Result<(), Fault> {
         let folded = mem::replace(&mut self.folded, Vec::new(self.alloc));
         self.emit(Form::Group(at, folded))?;
         Ok(())
@@ -139,6 +72,20 @@ impl<'a> Maker<'a> {
         Ok(())
     }
 
+    /// Whether the team has one thread: where a condition says it that isn't known, that is asked once.
+    fn decided(&mut self, at: u32, clauses: &[Clause], alone: u32) -> Result<u32, Fault> {
+        if condition_of(clauses, Directive::Parallel).is_none() {
+            return Ok(alone);
+        }
+        let known = self.number(1)?;
+        let other = self.emit(Form::Branch(at, alone, 0))?;
+        let out = self.jump()?;
+        self.lands(other)?;
+        self.emit(Form::Number(known, 0))?;
+        self.lands(out)?;
+        Ok(known)
+    }
+
     /// What clauses of a parallel region say is evaluated: the slot that says whether its team has one thread.
     fn evaluates_team(
         &mut self,
@@ -157,6 +104,28 @@ impl<'a> Maker<'a> {
             }
             _ => self.number(u64::from(is_alone)),
         }
+    }
+}
+
+/// How a parallel region is executed.
+#[derive(Clone, Copy, Debug, PartialEq, Eq)]
+enum Manner {
+    /// One thread of the team does all.
+    ByOne,
+    /// The team has one thread.
+    OfOne,
+    /// The threads share turns or sections, and do nothing else.
+    Work,
+    Threads,
+}
+
+fn manner_of(rest: &[Directive], body: &Stmt, is_of_one: bool) -> Manner {
+    match rest.first() {
+        Some(Directive::For) | Some(Directive::Sections) => Manner::Work,
+        Some(_) => Manner::ByOne,
+        None if is_by_one(body) => Manner::ByOne,
+        None if is_of_one => Manner::OfOne,
+        None => Manner::Threads,
     }
 }
 
@@ -201,10 +170,22 @@ impl<'a> Maker<'a> {
             }
             Directive::Single => {
                 let body = body_of(at, *first, body)?;
+                if let Team::Pieces(pieces) = self.team {
+                    return self.single(depth, at, clauses, body, pieces);
+                }
                 let waits = !has(clauses, Role::Nowait);
                 self.region(depth, at, waits, rest, clauses, body)
             }
-            Directive::Masked | Directive::Simd => {
+            Directive::Masked => {
+                let body = body_of(at, *first, body)?;
+                self.masked(depth, at, rest, clauses, body)
+            }
+            Directive::For | Directive::Sections => {
+                let body = body_of(at, *first, body)?;
+                self.work(depth, at, *first, clauses, body)
+            }
+            Directive::Barrier => self.barrier(at),
+            Directive::Simd => {
                 let body = body_of(at, *first, body)?;
                 self.region(depth, at, false, rest, clauses, body)
             }
@@ -249,6 +230,10 @@ impl<'a> Maker<'a> {
             [Directive::Taskloop] | [Directive::Taskloop, Directive::Simd] => {
                 self.taskloop(depth, at, clauses, body)?;
             }
+            [work @ (Directive::For | Directive::Sections)]
+            | [work @ Directive::For, Directive::Simd] => {
+                self.parts_of_work(depth, at, *work, clauses, body, None)?;
+            }
             [Directive::Masked, Directive::Taskloop]
             | [Directive::Masked, Directive::Taskloop, Directive::Simd] => {
                 self.taskloop(depth, at, clauses, body)?;
@@ -266,7 +251,26 @@ impl<'a> Maker<'a> {
         Ok(())
     }
 
-    /// A parallel region, as one thread of its team executes it; its tasks end at the barrier.
+    /// What the first thread of a team does alone.
+    #[cycle(statement)]
+    fn masked(
+        &mut self,
+        depth: u32,
+        at: u32,
+        rest: &[Directive],
+        clauses: &[Clause],
+        body: &Stmt,
+    ) -> Result<(), Fault> {
+        let depth = below(depth, at)?;
+        let Team::Pieces(pieces) = self.team else {
+            return self.region(depth, at, false, rest, clauses, body);
+        };
+        let out = self.repeat(at, pieces.is_first)?;
+        self.region(depth, at, false, rest, clauses, body)?;
+        self.lands(out)
+    }
+
+    /// A parallel region; its tasks end at the barrier.
     #[cycle(statement)]
     fn parallel(
         &mut self,
@@ -278,19 +282,61 @@ impl<'a> Maker<'a> {
     ) -> Result<(), Fault> {
         let depth = below(depth, at)?;
         let mark = self.frame.next;
-        let is_alone = self.is_alone(clauses);
-        if rest.is_empty() && !is_alone && !by_one(64, body) {
-            return Err(Fault::Refused(at, Why::Threads));
-        }
-        let alone = self.evaluates_team(at, clauses, is_alone)?;
-        let was_alone = self.flag(at, ALONE)?;
+        let is_of_one = is_of_one(&mut self.layouts, self.unit, clauses);
+        let alone = self.evaluates_team(at, clauses, is_of_one)?;
+        let (was_alone, was_active) = (self.flag(at, ALONE)?, self.flag(at, ACTIVE)?);
+        let manner = manner_of(rest, body, is_of_one);
+        let alone = match manner {
+            Manner::ByOne | Manner::OfOne => alone,
+            Manner::Work => self.operate(Operation::Or, WORD, alone, was_active)?,
+            Manner::Threads => {
+                let alone = self.operate(Operation::Or, WORD, alone, was_active)?;
+                self.decided(at, clauses, alone)?
+            }
+        };
+        let several = self.is_zero(alone)?;
+        let active = self.operate(Operation::Or, WORD, several, was_active)?;
         self.set_flag(at, ALONE, alone)?;
-        if rest.is_empty() {
-            self.folds(clauses, false)?;
+        self.set_flag(at, ACTIVE, active)?;
+        match manner {
+            Manner::Threads => self.threads(depth, at, clauses, body, alone)?,
+            Manner::OfOne => self.one_thread(depth, at, clauses, body)?,
+            Manner::ByOne | Manner::Work => {
+                if rest.is_empty() || manner == Manner::Work {
+                    self.folds(clauses, false)?;
+                }
+                let whose = mem::replace(&mut self.whose, Whose::Nobody);
+                self.region(depth, at, true, rest, clauses, body)?;
+                self.whose = whose;
+            }
         }
-        self.region(depth, at, true, rest, clauses, body)?;
         self.set_flag(at, ALONE, was_alone)?;
+        self.set_flag(at, ACTIVE, was_active)?;
         self.frame.next = mark;
+        Ok(())
+    }
+
+    /// A parallel region of one thread, who comes to it.
+    #[cycle(statement)]
+    fn one_thread(
+        &mut self,
+        depth: u32,
+        at: u32,
+        clauses: &[Clause],
+        body: &Stmt,
+    ) -> Result<(), Fault> {
+        let depth = below(depth, at)?;
+        self.folds(clauses, false)?;
+        let region = self.begins_region();
+        self.groups(at)?;
+        self.copies_here(at)?;
+        let number = self.number(0)?;
+        let count = self.number(1)?;
+        self.team = Team::One;
+        self.whose = Whose::Thread(Thread { number, count });
+        self.within(depth, at, body)?;
+        self.ends_region(at, region)?;
+        self.emit(Form::Leave(at))?;
         Ok(())
     }
 
@@ -327,17 +373,7 @@ impl<'a> Maker<'a> {
             self.groups(at)?;
         }
         let (made, turn) = self.divides(at, clauses, body)?;
-        let (opened, inner) = self.begins_turns(at, clauses, made)?;
-        let outside = self.around;
-        let base = self.continues.len();
-        self.around = Around {
-            breaks: None,
-            continues: Some(self.live.len()),
-        };
-        self.within(depth, at, turn)?;
-        self.around = outside;
-        self.continues_land(base)?;
-        self.ends_turns(at, made, opened, inner)?;
+        self.turns(depth, at, clauses, made, turn)?;
         if waits {
             self.emit(Form::Leave(at))?;
         }

@@ -13,8 +13,12 @@ pub enum Why {
     /// It is too long.
     Length,
     Directive(Directive),
-    /// Several threads of a team do something here.
-    Threads,
+    /// The threads of a team come to different barriers.
+    Apart,
+    /// What all threads of a team come to stands where they don't come together.
+    Orphan,
+    /// A loop with `nowait` and with what may say which thread has which turn.
+    Schedule,
     /// `default(none)`, and no clause names this variable.
     Unsaid(u32),
     /// A clause of a form that isn't translated.
@@ -107,7 +111,10 @@ fn words(why: Why) -> &'static str {
         Why::Nesting => "this nests too deep",
         Why::Length => "this is too long",
         Why::Directive(_) => "this construct isn't executed yet",
-        Why::Threads => "what several threads of a team do isn't executed yet",
+        Why::Apart => "the threads of this team don't all come to the same barriers",
+        Why::Orphan =>
+            "what a team does together isn't executed yet in a function, a task or a construct within its region",
+        Why::Schedule => "`schedule` and its kin beside `nowait` aren't executed yet",
         Why::Unsaid(_) => "`default(none)`, and a variable is in no clause",
         Why::Clause => "this form of a clause isn't executed yet",
         Why::Iterator => "an iterator whose range isn't constant, or is long, isn't executed yet",

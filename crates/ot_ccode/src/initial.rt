@@ -14,6 +14,14 @@ struct Spot {
     sort: Sort,
 }
 
+/// The designators of an entry behind those that are passed.
+fn path_of(entry: &Entry, passed: usize) -> &[Designator] {
+    match entry.path.as_slice().get(passed..) {
+        Some(path) => path,
+        None => &[],
+    }
+}
+
 impl<'a> Maker<'a> {
     /// To this place its initial value.
     pub(crate) fn initial(&mut self, depth: u32, aim: Aim, initial: &Initial) -> Result<(), Fault> {
@@ -73,17 +81,28 @@ impl<'a> Maker<'a> {
         matches!(self.class(sort), Class::Array(_) | Class::Record(_))
     }
 
+    /// The record that a type is, by its number.
+    fn record_of(&self, sort: Sort) -> Option<u32> {
+        match self.class(sort) {
+            Class::Record(record) => Some(record),
+            _ => None,
+        }
+    }
+
+    /// Whether a value is of the same record as what lies there.
+    fn is_of_record(&self, sort: Sort, value: &Expr) -> bool {
+        match type_of(&self.layouts, self.unit, DEEPEST, value) {
+            Some(found) => self.record_of(found) == self.record_of(sort),
+            None => false,
+        }
+    }
+
     /// Whether a value stands for all of what lies there.
     fn is_for_all(&self, sort: Sort, value: &Initial) -> bool {
         match (value, self.class(sort)) {
             (Initial::List(_, _), _) => true,
             (Initial::Value(Expr::Text(_, _)), Class::Array(_)) => true,
-            (Initial::Value(expr), Class::Record(_)) => {
-                match type_of(&self.layouts, self.unit, DEEPEST, expr) {
-                    Some(found) => matches!(self.class(found), Class::Record(_)),
-                    None => false,
-                }
-            }
+            (Initial::Value(expr), Class::Record(_)) => self.is_of_record(sort, expr),
             (Initial::Value(_), Class::Array(_)) => false,
             _ => true,
         }
@@ -143,19 +162,6 @@ impl<'a> Maker<'a> {
         }
     }
 
-    /// The spot that is designated, behind the first designator.
-    fn designated_in(&mut self, at: u32, spot: Spot, path: &[Designator]) -> Result<Spot, Fault> {
-        let mut spot = spot;
-        for to in path {
-            let number = self.designated(at, spot.sort, to)?;
-            let Some(part) = self.part(spot, number) else {
-                return Err(Fault::Refused(at, Why::Initial));
-            };
-            spot = part;
-        }
-        Ok(spot)
-    }
-
     #[cycle(initial)]
     fn fills_spot(&mut self, depth: u32, spot: Spot, initial: &Initial) -> Result<(), Fault> {
         let at = spot.aim.site;
@@ -171,7 +177,7 @@ impl<'a> Maker<'a> {
                     {
                         return self.puts_text(spot);
                     }
-                    self.fills(depth, spot, entries.as_slice(), 0, true)?;
+                    self.fills(depth, spot, entries.as_slice(), (0, 0), true)?;
                     return Ok(());
                 }
                 match entries.first() {
@@ -182,16 +188,18 @@ impl<'a> Maker<'a> {
         }
     }
 
-    /// Entries from this one on fill the parts of what lies there, in turn: the number of the next entry.
+    /// Entries from this one on fill the parts of what lies there, in turn: the number of the next entry. The first one's designators are passed up to
+    /// that number; a later one that has some is for what lies around, unless this is the outermost.
     #[cycle(initial)]
     fn fills(
         &mut self,
         depth: u32,
         spot: Spot,
         entries: &[Entry],
-        from: usize,
+        first: (usize, usize),
         is_top: bool,
     ) -> Result<usize, Fault> {
+        let (from, passed) = first;
         let at = spot.aim.site;
         let less = below(depth, at)?;
         let mut next = from;
@@ -200,28 +208,22 @@ impl<'a> Maker<'a> {
             let Some(entry) = entries.get(next) else {
                 return Ok(next);
             };
-            let is_designated = !entry.path.is_empty() && (is_top || next > from);
-            if is_designated && !is_top {
-                return Ok(next);
-            }
-            let mut part = None;
-            if is_designated && let Some((first, rest)) = entry.path.split_first() {
-                number = self.designated(at, spot.sort, first)?;
-                if let Some(begun) = self.part(spot, number)
-                    && !rest.is_empty()
-                {
-                    part = Some(self.designated_in(at, begun, rest)?);
-                }
-            }
-            if let Some(part) = part {
-                self.fills_spot(less, part, &entry.value)?;
-                next = next.saturating_add(1);
-            } else {
-                let Some(part) = self.part(spot, number) else {
+            let passed = if next == from { passed } else { 0 };
+            let path = path_of(entry, passed);
+            if let Some(first) = path.first() {
+                if next > from && !is_top {
                     return Ok(next);
-                };
-                next = self.fills_part(less, part, entries, next)?;
+                }
+                number = self.designated(at, spot.sort, first)?;
             }
+            let Some(part) = self.part(spot, number) else {
+                return Ok(next);
+            };
+            next = if path.len() > 1 {
+                self.fills(less, part, entries, (next, passed.saturating_add(1)), false)?
+            } else {
+                self.fills_part(less, part, entries, next)?
+            };
             number = number.saturating_add(1);
             if self.is_union(spot.sort) {
                 return Ok(next);
@@ -257,6 +259,6 @@ impl<'a> Maker<'a> {
             self.fills_spot(depth, spot, &entry.value)?;
             return Ok(next.saturating_add(1));
         }
-        self.fills(depth, spot, entries, next, false)
+        self.fills(depth, spot, entries, (next, entry.path.len()), false)
     }
 }

@@ -15,9 +15,11 @@ mod operate;
 mod size;
 mod statement;
 mod task;
+mod team;
 mod turns;
 mod value;
 mod whole;
+mod work;
 
 pub use fault::{Fault, Why};
 pub use names::{Known, meaning_of};

@@ -1,7 +1,8 @@
 //! What functions of the library do.
 use crate::fault::{Fault, Why};
-use crate::maker::{Aim, FINAL, LONG, Maker, Val, WORD, Way};
+use crate::maker::{Aim, COUNT, FINAL, LONG, Maker, NUMBER, Val, WORD, Way};
 use crate::names::Known;
+use crate::team::Whose;
 use ot_clayout::{Base, Extent, Sort};
 use ot_code::{Form, Kind, Operation, Width};
 use ot_ctree::Integer;
@@ -85,6 +86,8 @@ impl<'a> Maker<'a> {
             Known::Writes(first) => self.writes(at, first, base),
             Known::Reads => self.reads(at, base),
             Known::InFinal => self.in_final(at),
+            Known::ThreadNumber => self.of_thread(at, false),
+            Known::ThreadCount => self.of_thread(at, true),
             Known::One => {
                 let slot = self.number(1)?;
                 Ok(self.value(slot, Sort::INT))
@@ -290,7 +293,19 @@ impl<'a> Maker<'a> {
         Ok(self.value(slot, Sort::INT))
     }
 
-    /// Whether a final task runs, or a team of one thread.
+    /// The number of the thread whose text this is, or how many threads its team has.
+    fn of_thread(&mut self, at: u32, of_team: bool) -> Result<Val, Fault> {
+        let slot = match self.whose {
+            Whose::Thread(thread) => self.copy(if of_team { thread.count } else { thread.number })?,
+            Whose::Caller if self.has_numbers => {
+                self.flag(at, if of_team { COUNT } else { NUMBER })?
+            }
+            Whose::Caller | Whose::Nobody => self.unknown()?,
+        };
+        Ok(self.value(slot, Sort::INT))
+    }
+
+    /// What a cell has that says what runs.
     pub(crate) fn flag(&mut self, at: u32, flag: u32) -> Result<u32, Fault> {
         let place = self.fresh()?;
         self.emit(Form::Address(place, self.flags, flag))?;

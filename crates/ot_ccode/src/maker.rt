@@ -5,6 +5,7 @@ use crate::clauses::Joined;
 use crate::fault::{Fault, Why};
 use crate::names::Known;
 use crate::task::Size;
+use crate::team::{Kept, Team, Whose};
 use crate::turns::Nested;
 use ot_clayout::{Extent, Layouts, Sort, sort_of};
 use ot_code::{Folded, Form, Function, Item, Kind, Operation, Width};
@@ -16,7 +17,7 @@ use std::alloc::Global;
 const MOST_FORMS: usize = 1 << 22;
 
 /// How many slots a function has at most.
-const MOST_SLOTS: u32 = 1 << 16;
+pub(crate) const MOST_SLOTS: u32 = 1 << 16;
 
 /// A value: the slot that has it, or the place of it where it is a struct. `own` where what it points to is a private copy.
 #[derive(Clone, Copy, Debug, PartialEq, Eq)]
@@ -112,6 +113,17 @@ pub(crate) const FINAL: u32 = 0;
 /// The cell that says whether a team of one thread runs.
 pub(crate) const ALONE: u32 = 1;
 
+/// The cell that says whether a region is executed of which the team may have several threads.
+pub(crate) const ACTIVE: u32 = 2;
+
+/// The cells that have the number of the thread that runs, and how many threads its team has.
+pub(crate) const NUMBER: u32 = 3;
+
+pub(crate) const COUNT: u32 = 4;
+
+/// How many such cells there are.
+pub(crate) const FLAGS: u32 = 5;
+
 pub(crate) const LONG: Kind = Kind {
     width: Width::Bits64,
     signed: true,
@@ -172,10 +184,20 @@ pub(crate) struct Maker<'a> {
     pub(crate) gives: Sort,
     /// Whether tests are those of a loop.
     pub(crate) repeats: bool,
-    /// Objects that aren't variables: of two cells, whether a final task runs and whether a team of one thread does; and where random
-    /// numbers stand.
+    /// What threads do here together, and whose text this is.
+    pub(crate) team: Team,
+    pub(crate) whose: Whose,
+    /// Jumps to the end of a thread's piece, and forms that keep slots until the next one.
+    pub(crate) ends: Vec<u32>,
+    pub(crate) kept: Vec<Kept>,
+    /// Whether a team of several threads is executed, and the forms where its threads come to different barriers.
+    pub(crate) has_team: bool,
+    pub(crate) apart: Vec<u32>,
+    /// Objects that aren't variables: of cells that say what runs; and where random numbers stand.
     pub(crate) flags: u32,
     pub(crate) seed: u32,
+    /// Whether the numbers of threads are kept for functions that are called.
+    pub(crate) has_numbers: bool,
     /// Whether a `final` clause stands in the unit.
     pub(crate) has_final: bool,
     /// By name: whether a function is called of which nothing is known; and those names.
@@ -234,11 +256,30 @@ impl<'a> Maker<'a> {
         }
     }
 
-    /// The task that this form creates has so many slots.
-    pub(crate) fn gets_slots(&mut self, task: u32, count: u32) {
+    /// The task that this form creates has so many slots, from its parent's on.
+    pub(crate) fn gets_slots(&mut self, task: u32, from: u32, count: u32) {
         if let Some(form) = self.forms.get_mut(task as usize) {
             match form {
-                Form::Task { slots, .. } => *slots = count,
+                Form::Task { first, slots, .. } => {
+                    *first = from;
+                    *slots = count;
+                }
+                _ => {}
+            }
+        }
+    }
+
+    /// What this form copies comes from another slot, or goes to one.
+    pub(crate) fn copies_by(&mut self, copy: u32, slot: u32, is_target: bool) {
+        if let Some(form) = self.forms.get_mut(copy as usize) {
+            match form {
+                Form::Copy(to, from) => {
+                    if is_target {
+                        *to = slot;
+                    } else {
+                        *from = slot;
+                    }
+                }
                 _ => {}
             }
         }

@@ -30,6 +30,8 @@ pub enum Known {
     /// It reads a text.
     Reads,
     InFinal,
+    ThreadNumber,
+    ThreadCount,
     One,
     /// It writes and reads an array.
     Sorts,
@@ -75,7 +77,7 @@ const TABLE: [(&str, Known); 146] = [
     ("strcmp", Known::Reads),
     ("strtol", Known::Reads),
     ("omp_in_final", Known::InFinal),
-    ("omp_get_num_threads", Known::Int),
+    ("omp_get_num_threads", Known::ThreadCount),
     ("omp_get_max_threads", Known::Int),
     ("qsort", Known::Sorts),
     ("rand", Known::Draws),
@@ -110,7 +112,7 @@ const TABLE: [(&str, Known); 146] = [
     ("omp_get_dynamic", Known::Int),
     ("omp_get_nested", Known::Int),
     ("omp_get_team_num", Known::Int),
-    ("omp_get_thread_num", Known::Int),
+    ("omp_get_thread_num", Known::ThreadNumber),
     ("omp_in_parallel", Known::Int),
     ("random", Known::Long),
     ("clock", Known::Long),

@@ -236,6 +236,14 @@ impl<'a> Maker<'a> {
     }
 }
 
+/// Whether each number that memory has is one of this type; of `_Bool` no other number is written there.
+fn fills_word(integer: Integer) -> bool {
+    matches!(
+        integer,
+        Integer::Bool | Integer::Long | Integer::UnsignedLong
+    )
+}
+
 /// Loads and stores.
 impl<'a> Maker<'a> {
     /// The value at a place: of an array the pointer to its first element, of a struct the place itself.
@@ -255,6 +263,7 @@ impl<'a> Maker<'a> {
             Class::Void => Err(Fault::Refused(aim.site, Why::NoPlace)),
             _ => {
                 let slot = self.load_scalar(aim)?;
+                let slot = self.of_its_type(aim, slot)?;
                 Ok(Val {
                     slot,
                     sort: aim.sort,
@@ -262,6 +271,19 @@ impl<'a> Maker<'a> {
                 })
             }
         }
+    }
+
+    /// What is read from memory is a number of the place's type, though it may have been written as another type of that size.
+    fn of_its_type(&mut self, aim: Aim, read: u32) -> Result<u32, Fault> {
+        let Class::Integer(integer) = self.class(aim.sort) else {
+            return Ok(read);
+        };
+        if aim.way == Way::Slot || fills_word(integer) {
+            return Ok(read);
+        }
+        let slot = self.fresh()?;
+        self.emit(Form::Convert(slot, kind_of(integer), read))?;
+        Ok(slot)
     }
 
     fn load_scalar(&mut self, aim: Aim) -> Result<u32, Fault> {

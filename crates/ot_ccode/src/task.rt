@@ -2,6 +2,7 @@
 use crate::clauses::Joined;
 use crate::fault::{Fault, Why};
 use crate::maker::{Aim, Around, FINAL, Frame, Held, Maker, Taken, Val, Way};
+use crate::team::{Team, Whose};
 use ot_clayout::{Class, Sort};
 use ot_code::Form;
 use ot_csharing::{Capture, How};
@@ -29,6 +30,15 @@ pub(crate) struct Opened {
     bases: Bases,
     /// The slot of what says whether its parent is final.
     flag: Option<u32>,
+    team: Team,
+    whose: Whose,
+}
+
+impl Opened {
+    /// The first of its parent's slots that had no value before.
+    pub(crate) fn unused(&self) -> u32 {
+        self.frame.next.max(self.frame.most)
+    }
 }
 
 /// A size that a task takes along: of this type, and where that was before.
@@ -98,6 +108,7 @@ impl<'a> Maker<'a> {
                 is_value: false,
             })?,
             How::Shared => self.take_shared(at, capture, base)?,
+            How::Own => self.take_own(at, capture, base)?,
             How::Reduced => self.take_reduced(at, capture, base)?,
             How::Firstprivate | How::Both => self.take_copy(at, capture, base)?,
         }
@@ -132,6 +143,14 @@ impl<'a> Maker<'a> {
             Held::Lender(slot) => self.take_slot(capture, slot, true, true, base),
             Held::Slot(slot) => self.take_slot(capture, slot, false, true, base),
             Held::Nowhere => Err(Fault::Refused(at, Why::NoPlace)),
+        }
+    }
+
+    /// The thread's variable: nobody else sees that it is touched. One without a place is only read, and its value goes along.
+    fn take_own(&mut self, at: u32, capture: Capture, base: usize) -> Result<(), Fault> {
+        match self.held(capture.variable) {
+            Held::Place(slot) => self.take_slot(capture, slot, true, false, base),
+            _ => self.take_shared(at, capture, base),
         }
     }
 
@@ -244,6 +263,24 @@ impl<'a> Maker<'a> {
             items,
             when,
         })?;
+        let flag = finals.map(|finals| finals.1);
+        let opened = self.opens(task, first, count, bases, flag);
+        self.binds(at, bases)?;
+        if let Some((inner, _)) = finals {
+            self.set_flag(at, FINAL, inner)?;
+        }
+        Ok(opened)
+    }
+
+    /// A task's own slots begin, so many of which have values.
+    pub(crate) fn opens(
+        &mut self,
+        task: u32,
+        first: u32,
+        count: u32,
+        bases: Bases,
+        flag: Option<u32>,
+    ) -> Opened {
         let opened = Opened {
             task,
             first,
@@ -252,7 +289,9 @@ impl<'a> Maker<'a> {
             gives: self.gives,
             was: self.was.len(),
             bases,
-            flag: finals.map(|finals| finals.1),
+            flag,
+            team: self.team,
+            whose: self.whose,
         };
         self.frame = Frame {
             next: count,
@@ -261,15 +300,13 @@ impl<'a> Maker<'a> {
             returns: false,
         };
         self.around = Around::NOTHING;
-        self.binds(at, bases)?;
-        if let Some((inner, _)) = finals {
-            self.set_flag(at, FINAL, inner)?;
-        }
-        Ok(opened)
+        self.team = Team::Nothing;
+        self.whose = Whose::Nobody;
+        opened
     }
 
     /// Variables are held in the task's own slots.
-    fn binds(&mut self, at: u32, bases: Bases) -> Result<(), Fault> {
+    pub(crate) fn binds(&mut self, at: u32, bases: Bases) -> Result<(), Fault> {
         for place in bases.sizes..self.sizes_taken.len() {
             if let Some(size) = self.sizes_taken.get(place).copied() {
                 self.set_size(size.kind, Some(size.slot));
@@ -359,18 +396,25 @@ impl<'a> Maker<'a> {
         }
         self.emit(Form::Finish)?;
         let slots = self.frame.most.max(1);
+        self.closes(opened, opened.first, slots)
+    }
+
+    /// Its parent goes on; the task has so many of its slots, from the first on.
+    pub(crate) fn closes(&mut self, opened: Opened, first: u32, slots: u32) -> Result<(), Fault> {
         self.lands(opened.task)?;
-        self.gets_slots(opened.task, slots);
+        self.gets_slots(opened.task, first, slots);
         self.restore(opened.was);
         self.frame = opened.frame;
-        self.frame.most = self.frame.most.max(opened.first.saturating_add(slots));
+        self.frame.most = self.frame.most.max(first.saturating_add(slots));
         self.around = opened.around;
         self.gives = opened.gives;
+        self.team = opened.team;
+        self.whose = opened.whose;
         self.forgets(opened.bases);
         Ok(())
     }
 
-    fn forgets(&mut self, bases: Bases) {
+    pub(crate) fn forgets(&mut self, bases: Bases) {
         for place in bases.sizes..self.sizes_taken.len() {
             if let Some(size) = self.sizes_taken.get(place).copied() {
                 self.set_size(size.kind, size.was);
@@ -387,7 +431,7 @@ impl<'a> Maker<'a> {
 fn is_copy(how: How) -> bool {
     match how {
         How::Firstprivate | How::Both => true,
-        How::Shared | How::Reduced | How::Private | How::Lastprivate => false,
+        How::Shared | How::Own | How::Reduced | How::Private | How::Lastprivate => false,
     }
 }
 
@@ -408,7 +452,7 @@ impl<'a> Maker<'a> {
     fn copy_here(&mut self, at: u32, capture: Capture) -> Result<(), Fault> {
         let variable = capture.variable;
         let held = match capture.how {
-            How::Shared => return Ok(()),
+            How::Shared | How::Own => return Ok(()),
             How::Private | How::Lastprivate => self.begins_private(at, variable)?,
             How::Reduced => {
                 let aim = self.aim_variable(at, variable)?;

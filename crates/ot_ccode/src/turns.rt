@@ -1,12 +1,12 @@
 //! Loops whose turns are divided among tasks (OpenMP API 5.2, sections 4.4.1 and 12.6).
-use crate::clauses::value_of;
 use crate::fault::{Fault, Why};
 use crate::maker::{Aim, Held, LONG, Maker, Way};
 use crate::task::{Bases, Opened};
+use crate::team::Thread;
 use crate::value::DEEPEST;
 use ot_clayout::{Class, Sort};
 use ot_code::{Form, Operation};
-use ot_csharing::How;
+use ot_csharing::{How, value_of};
 use ot_ctree::{Binary, Clause, Directive, Expr, Integer, Role, Stmt};
 
 /// A loop of the form that a construct wants.
@@ -40,6 +40,8 @@ pub(crate) struct Divided {
     /// How many turns they have together.
     count: u32,
     size: Option<u32>,
+    /// By how many turns it goes on, where that isn't what a task has.
+    by: Option<u32>,
     /// Of `num_tasks`: how many turns each task has at least, and how many have one more.
     each: Option<(u32, u32)>,
     when: Option<u32>,
@@ -338,24 +340,69 @@ impl<'a> Maker<'a> {
         let context = self.fresh()?;
         self.emit(Form::Context(context))?;
         let done = self.number(0)?;
-        let tasks = self.number(0)?;
-        let head = self.here()?;
-        let test = self.operate(Operation::Less, LONG, done, count)?;
-        let out = self.repeat(at, test)?;
         let made = Divided {
             loops,
             count,
             size,
+            by: None,
             each,
             when,
             is_final,
             context,
             done,
+            tasks: 0,
+            head: 0,
+            out: 0,
+        };
+        Ok((self.goes_over(at, made)?, turn))
+    }
+
+    /// The loop over tasks begins.
+    fn goes_over(&mut self, at: u32, made: Divided) -> Result<Divided, Fault> {
+        let tasks = self.number(0)?;
+        let head = self.here()?;
+        let test = self.operate(Operation::Less, LONG, made.done, made.count)?;
+        let out = self.repeat(at, test)?;
+        Ok(Divided {
             tasks,
             head,
             out,
+            ..made
+        })
+    }
+
+    /// The same of a loop each turn of which is a task: those that this thread creates, of all or of as many as it is one of.
+    pub(crate) fn shares_out<'b>(
+        &mut self,
+        at: u32,
+        clauses: &[Clause],
+        body: &'b Stmt,
+        by: Option<Thread>,
+    ) -> Result<(Divided, &'b Stmt), Fault> {
+        let when = Some(self.may_defer(at)?);
+        let loops = self.nested.len();
+        let (count, turn) = self.all_bounds(at, clauses, body)?;
+        let context = self.fresh()?;
+        self.emit(Form::Context(context))?;
+        let done = match by {
+            Some(thread) => self.copy(thread.number)?,
+            None => self.number(0)?,
         };
-        Ok((made, turn))
+        let made = Divided {
+            loops,
+            count,
+            size: None,
+            by: by.map(|thread| thread.count),
+            each: None,
+            when,
+            is_final: None,
+            context,
+            done,
+            tasks: 0,
+            head: 0,
+            out: 0,
+        };
+        Ok((self.goes_over(at, made)?, turn))
     }
 
     /// Of `num_tasks`: how many turns each has at least, and how many tasks have one more.
@@ -512,7 +559,7 @@ impl<'a> Maker<'a> {
     }
 
     /// The places of `lastprivate` variables outside go along.
-    fn takes_lasts(&mut self, at: u32, base: usize) -> Result<(), Fault> {
+    pub(crate) fn takes_lasts(&mut self, at: u32, base: usize) -> Result<(), Fault> {
         let sharing = self.sharing;
         for capture in sharing.captures(at) {
             if matches!(capture.how, How::Lastprivate | How::Both) {
@@ -548,7 +595,7 @@ impl<'a> Maker<'a> {
         self.lands(out)
     }
 
-    fn writes_last(&mut self, at: u32, variable: u32, to: Held) -> Result<(), Fault> {
+    pub(crate) fn writes_last(&mut self, at: u32, variable: u32, to: Held) -> Result<(), Fault> {
         let mark = self.frame.next;
         let aim = self.aim_variable(at, variable)?;
         let (slot, way) = match to {
@@ -582,7 +629,8 @@ impl<'a> Maker<'a> {
         self.lasts.truncate(turns.lasts);
         self.nested.truncate(made.loops);
         self.leaves(at, opened)?;
-        self.emit(Form::Operate(made.done, Operation::Add, LONG, made.done, turns.size))?;
+        let by = made.by.unwrap_or(turns.size);
+        self.emit(Form::Operate(made.done, Operation::Add, LONG, made.done, by))?;
         let one = self.number(1)?;
         self.emit(Form::Operate(made.tasks, Operation::Add, LONG, made.tasks, one))?;
         self.emit(Form::Jump(made.head))?;

@@ -23,9 +23,16 @@ impl<'a> Maker<'a> {
         })
     }
 
+    /// An enumerator, which is an `int` where that has its value (ISO C11, section 6.7.2.2).
     fn enumerator(&mut self, at: u32, expr: &Expr) -> Result<Val, Fault> {
         match self.layouts.constant(self.unit, expr) {
             Some(constant) => {
+                let int = constant.to(Integer::Int);
+                let constant = if int.number == constant.number {
+                    int
+                } else {
+                    constant
+                };
                 let slot = self.number(constant.number)?;
                 Ok(self.value(slot, Sort::integer(constant.integer)))
             }

@@ -1,8 +1,9 @@
 //! A whole unit.
 use crate::fault::{Fault, Why};
-use crate::maker::{ALONE, Aim, Around, Frame, Held, Maker, Way};
+use crate::maker::{ALONE, Aim, Around, COUNT, FLAGS, Frame, Held, Maker, Way};
 use crate::names::Known;
 use crate::statement::is_automatic;
+use crate::team::{Team, Whose};
 use crate::value::DEEPEST;
 use ot_clayout::{Class, Layouts, Sort};
 use ot_code::{Code, Form, Function};
@@ -25,6 +26,10 @@ pub struct Translated {
     pub is_alone: bool,
     /// Whether random numbers of its own are drawn.
     pub is_random: bool,
+    /// Whether a team of two threads is executed where a team may have more.
+    pub has_team: bool,
+    /// The forms that can't be executed because the threads of a team came to different barriers there.
+    pub apart: Vec<u32>,
 }
 
 /// Whether a variable has an object that begins with the program.
@@ -78,8 +83,15 @@ impl<'a> Maker<'a> {
             wanted: None,
             gives: Sort::VOID,
             repeats: false,
+            team: Team::Nothing,
+            whose: Whose::Caller,
+            ends: Vec::new(alloc),
+            kept: Vec::new(alloc),
+            has_team: false,
+            apart: Vec::new(alloc),
             flags: 0,
             seed: 0,
+            has_numbers: false,
             has_final: false,
             is_untouched,
             untouched: Vec::new(alloc),
@@ -100,7 +112,7 @@ impl<'a> Maker<'a> {
             }
             number = number.saturating_add(1);
         }
-        self.flags = self.hidden(globals.len(), 2, slot)?;
+        self.flags = self.hidden(globals.len(), FLAGS, slot)?;
         self.seed = self.hidden(globals.len().saturating_add(1), 1, slot)?;
         Ok(globals)
     }
@@ -190,17 +202,19 @@ impl<'a> Maker<'a> {
         if !in_team {
             self.set_flag(0, ALONE, one)?;
         }
+        self.set_flag(0, COUNT, one)?;
         self.starts()?;
         let first = self.frame.next;
         let parameters = match self.unit.functions.get(entry as usize) {
             Some(function) => function.parameters.len(),
             None => 0,
         };
-        for _parameter in 0..parameters {
+        for _parameter in 0..parameters.max(1) {
             self.unknown()?;
         }
-        if parameters == 0 {
-            self.unknown()?;
+        if !in_team && parameters > 0 {
+            // `argc` of a run without arguments, which other runs may have: it comes from memory
+            self.emit(Form::LoadOwn(0, first, place))?;
         }
         let at = match self.unit.functions.get(entry as usize) {
             Some(function) => function.at,
@@ -315,6 +329,11 @@ fn is_main(known: &[Option<Known>], name: u32) -> bool {
     matches!(known.get(name as usize), Some(Some(Known::Main)))
 }
 
+/// Whether the number of a thread is asked for, or how many there are.
+fn asks_numbers(known: &[Option<Known>]) -> bool {
+    known.iter().any(|one| matches!(one, Some(Known::ThreadNumber | Known::ThreadCount)))
+}
+
 /// The code of a unit, of which each name means this.
 pub fn translate(alloc: Global, unit: &Unit, known: &[Option<Known>]) -> Result<Translated, Fault> {
     let mut layouts = Layouts::of(alloc, unit)?;
@@ -328,6 +347,7 @@ pub fn translate(alloc: Global, unit: &Unit, known: &[Option<Known>]) -> Result<
     };
     let mut maker = Maker::empty(alloc, unit, known, &sharing, layouts)?;
     maker.has_final = sharing.has_final;
+    maker.has_numbers = sharing.has_threads && asks_numbers(known);
     let (globals, slots) = maker.run(entry, is_alone)?;
     maker.functions()?;
     Ok(Translated {
@@ -343,5 +363,7 @@ pub fn translate(alloc: Global, unit: &Unit, known: &[Option<Known>]) -> Result<
         entry,
         is_alone,
         is_random: maker.is_random,
+        has_team: maker.has_team,
+        apart: maker.apart,
     })
 }

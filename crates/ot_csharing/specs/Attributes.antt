@@ -1,12 +1,12 @@
 -- What a variable that was declared outside is in a construct (OpenMP API 5.2, section 5.1.1).
-use Rattle.std.specs.Prelude.{Bool, true, false, ◌||◌, if◌then◌else◌, Option, Some, None}
+use Rattle.std.specs.Prelude.{true, false, ◌||◌, if◌then◌else◌, Option, Some, None}
 use Rattle.ot_ctree.specs.declared.clause.Default.{Default}
 use Rattle.ot_ctree.specs.declared.clause.Default.TheVariants as by
 use Rattle.ot_csharing.specs.declared.attribute.Around.{Around}
 use Rattle.ot_csharing.specs.declared.attribute.How.{How}
-use Rattle.ot_csharing.specs.declared.attribute.How.TheVariants.{Shared, Private, Firstprivate, Lastprivate, Both, Reduced}
+use Rattle.ot_csharing.specs.declared.attribute.How.TheVariants.{Shared, Private, Firstprivate, Lastprivate, Both, Own}
 use Rattle.ot_csharing.specs.declared.attribute.Region.{Region}
-use Rattle.ot_csharing.specs.declared.attribute.Region.TheVariants.{Team, Task, Other}
+use Rattle.ot_csharing.specs.declared.attribute.Region.TheVariants.{Team, Task, Unit, Other}
 
 -- by a `default` clause; by none the construct wants a clause that names it
 abbrev pub by_default : Default → Option How
@@ -15,13 +15,15 @@ by_default by.None = None
 by_default by.Private = Some Private
 by_default by.Firstprivate = Some Firstprivate
 
--- without a clause: a task has a copy of what isn't shared all around it, and what executes its own body has the variable itself
+-- without a clause: a task has a copy of what isn't shared all around it, what a thread has alone is its own in the work that it shares, and what
+-- executes its own body has the variable itself
 abbrev pub implicit : Region → Option Default → Around → Option How
 implicit Other default around = Some Shared
 implicit Team None around = Some Shared
 implicit Team (Some default) around = by_default default
 implicit Task None around = Some (if around.is_static || around.is_shared then Shared else Firstprivate)
 implicit Task (Some default) around = by_default default
+implicit Unit default around = Some (if around.is_static || around.is_shared then Shared else Own)
 
 -- the clause that names it comes first
 abbrev pub attribute_of : Region → Option How → Option Default → Around → Option How

@@ -15,6 +15,8 @@ pub enum How {
     Both,
     /// It takes part in a reduction: the same cells, in a mode of their own.
     Reduced,
+    /// It is the variable of the thread that does this part of the work, which no other thread sees.
+    Own,
 }
 
 /// What a construct does with the variables around it.
@@ -24,6 +26,8 @@ pub enum Region {
     Team,
     /// `task`, `taskloop`
     Task,
+    /// A part of the work that the threads of a team share: a turn of `for`, a section, the body of `single`.
+    Unit,
     /// It is executed by who comes to it.
     Other,
 }
@@ -69,6 +73,13 @@ fn implicit(region: Region, default: Option<Default>, around: Around) -> Option<
             }
             Some(default) => by_default(default),
         },
+        Region::Unit => {
+            if around.is_static || around.is_shared {
+                Some(How::Shared)
+            } else {
+                Some(How::Own)
+            }
+        }
     }
 }
 
@@ -92,12 +103,12 @@ pub fn within(region: Region, how: How, around: Around) -> Around
     ensures { result ≡ meant.within region how around }
 {
     match how {
-        How::Shared | How::Reduced => match region {
+        How::Shared | How::Reduced | How::Own => match region {
             Region::Team => Around {
                 is_static: around.is_static,
                 is_shared: true,
             },
-            Region::Task | Region::Other => around,
+            Region::Task | Region::Unit | Region::Other => around,
         },
         How::Private | How::Firstprivate | How::Lastprivate | How::Both => Around {
             is_static: false,

@@ -29,8 +29,9 @@ pub struct Sharing {
     pub named: Vec<bool>,
     /// By function: whether constructs stand in it.
     pub has_constructs: Vec<bool>,
-    /// Whether a `final` clause stands anywhere.
+    /// Whether a `final` clause stands anywhere, and whether a parallel region that several threads execute.
     pub has_final: bool,
+    pub has_threads: bool,
 }
 
 impl Sharing {

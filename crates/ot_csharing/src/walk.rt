@@ -4,6 +4,7 @@ ghost use Rattle.std.specs.Prelude.{◌<◌, IfOk};
 use crate::attribute::{Around, How, Region, attribute_of, within};
 use crate::fault::Fault;
 use crate::sharing::{Capture, Captured, Sharing};
+use crate::team::{is_by_one, is_of_one, value_of};
 use ot_clayout::{Class, Layouts};
 use ot_ctree::{Clause, Default, Directive, Entry, Expr, Initial, Role, Sign, Stmt, Storage, Unit};
 use std::alloc::Global;
@@ -14,6 +15,9 @@ const DEEPEST: u32 = 2_000;
 
 /// How many constructs may stand within one another.
 const MOST_OPEN: usize = 64;
+
+/// How many loops a directive collapses at most.
+const MOST_LOOPS: u64 = 8;
 
 /// How many variables the clauses of a directive may name.
 const MOST_NAMED: usize = 256;
@@ -29,6 +33,10 @@ struct Named {
 #[derive(Drop)]
 struct Open {
     region: Region,
+    /// Whether several threads execute it.
+    has_threads: bool,
+    /// How many choices are open where it begins.
+    choices: u32,
     default: Option<Default>,
     named: Vec<Named>,
     captures: Vec<Capture>,
@@ -57,6 +65,9 @@ pub(crate) struct Walk<'a> {
     named: Vec<bool>,
     constructs: Vec<bool>,
     has_final: bool,
+    any_threads: bool,
+    /// How many choices are open: what stands there may be left out.
+    choices: u32,
 }
 
 fn below(depth: u32, at: u32) -> Result<u32, Fault>
@@ -93,10 +104,13 @@ fn names_place(role: Role) -> bool {
     )
 }
 
-fn region_of(directive: Directive) -> Region {
+/// What it does with the variables around it; in a team of several threads the body of `single` is for any of them.
+fn region_of(directive: Directive, has_threads: bool) -> Region {
     match directive {
         Directive::Parallel => Region::Team,
         Directive::Task | Directive::Taskloop => Region::Task,
+        Directive::For | Directive::Sections => Region::Unit,
+        Directive::Single if has_threads => Region::Unit,
         _ => Region::Other,
     }
 }
@@ -123,18 +137,26 @@ fn variable_of(depth: u32, item: &Expr) -> Option<u32> {
     }
 }
 
-/// The variable that a loop counts.
-fn counted(body: &Option<Box<Stmt>>) -> Option<u32> {
-    let Some(body) = body else {
-        return None;
-    };
-    let Stmt::For(_, first, _, _, _) = &**body else {
+/// A loop that is all of a block.
+fn alone(statement: &Stmt) -> &Stmt {
+    match statement {
+        Stmt::Block(_, list, _) => match list.as_slice() {
+            [one] => one,
+            _ => statement,
+        },
+        _ => statement,
+    }
+}
+
+/// The variable that a loop counts, and its body.
+fn counted(statement: &Stmt) -> Option<(u32, &Stmt)> {
+    let Stmt::For(_, first, _, _, body) = alone(statement) else {
         return None;
     };
     match first.as_slice() {
-        [Stmt::Declares(_, variable, _)] => Some(*variable),
+        [Stmt::Declares(_, variable, _)] => Some((*variable, &**body)),
         [Stmt::Does(Expr::Assign(_, None, to, _))] => match &**to {
-            Expr::Variable(_, variable) => Some(*variable),
+            Expr::Variable(_, variable) => Some((*variable, &**body)),
             _ => None,
         },
         _ => None,
@@ -172,6 +194,8 @@ impl<'a> Walk<'a> {
             named: vec![in alloc; false; unit.functions.len()]?,
             constructs: vec![in alloc; false; unit.functions.len()]?,
             has_final: false,
+            any_threads: false,
+            choices: 0,
         })
     }
 
@@ -182,6 +206,7 @@ impl<'a> Walk<'a> {
             named: self.named,
             has_constructs: self.constructs,
             has_final: self.has_final,
+            has_threads: self.any_threads,
         }
     }
 
@@ -254,7 +279,7 @@ impl<'a> Walk<'a> {
             let Some(how) = attribute_of(open.region, named, open.default, around) else {
                 return Err(Fault::Unsaid(at, variable));
             };
-            needs_object = needs_object || shares(open.region, how);
+            needs_object = needs_object || shares(open.region, open.has_threads, how);
             around = within(open.region, how, around);
             open.captures.push(Capture { variable, how })?;
         }
@@ -263,6 +288,67 @@ impl<'a> Walk<'a> {
         }
         Ok(())
     }
+
+    /// A part of the work assigns to what it didn't read: a variable that is its thread's own is its own then.
+    fn sets(&mut self, place: &Expr) -> Result<(), Fault> {
+        let Expr::Variable(_, variable) = place else {
+            return Ok(());
+        };
+        let is_own = self.is_threads(*variable);
+        let choices = self.choices;
+        let Some(open) = self.open.last_mut() else {
+            return Ok(());
+        };
+        if is_own
+            && open.region == Region::Unit
+            && open.choices >= choices
+            && open.named.len() < MOST_NAMED
+            && named_in(open.named.as_slice(), *variable).is_none()
+            && !open
+                .captures
+                .iter()
+                .any(|capture| capture.variable == *variable)
+        {
+            open.named.push(Named {
+                variable: *variable,
+                how: How::Private,
+            })?;
+        }
+        Ok(())
+    }
+
+    /// Whether it is a thread's own in the innermost construct, if that is a part of the work and doesn't name it.
+    fn is_threads(&self, variable: u32) -> bool {
+        let home = self.homes.get(variable as usize).copied().unwrap_or(0);
+        let mut around = Around {
+            is_static: self.is_static(variable),
+            is_shared: false,
+        };
+        let mut is_own = false;
+        for open in self.open.iter().skip(home) {
+            let named = named_in(open.named.as_slice(), variable);
+            let Some(how) = attribute_of(open.region, named, open.default, around) else {
+                return false;
+            };
+            is_own = how == How::Own;
+            around = within(open.region, how, around);
+        }
+        is_own
+    }
+
+    /// What is assigned to is changed: a thread's variable by a part of the work, which needs its place.
+    fn changes(&mut self, place: &Expr) {
+        if let Expr::Variable(_, variable) = place
+            && self.open.iter().any(|open| is_own(open, *variable))
+        {
+            self.needs_object(*variable);
+        }
+    }
+}
+
+/// Whether it is the thread's own in a part of the work.
+fn is_own(open: &Open, variable: u32) -> bool {
+    open.captures.iter().any(|capture| capture.variable == variable && capture.how == How::Own)
 }
 
 fn named_in(named: &[Named], variable: u32) -> Option<How> {
@@ -275,11 +361,15 @@ fn named_in(named: &[Named], variable: u32) -> Option<How> {
 }
 
 /// Whether other tasks see the variable's cells by it.
-fn shares(region: Region, how: How) -> bool {
+fn shares(region: Region, has_threads: bool, how: How) -> bool {
     match how {
-        How::Shared => region == Region::Task,
+        How::Shared => match region {
+            Region::Task | Region::Unit => true,
+            Region::Team => has_threads,
+            Region::Other => false,
+        },
         How::Reduced | How::Lastprivate | How::Both => true,
-        How::Private | How::Firstprivate => false,
+        How::Private | How::Firstprivate | How::Own => false,
     }
 }
 
@@ -308,16 +398,27 @@ impl<'a> Walk<'a> {
                 let depth = below(depth, *at)?;
                 self.expression(depth, one)
             }
-            Expr::StepBefore(at, _, one)
-            | Expr::StepBehind(at, _, one)
-            | Expr::Cast(at, _, one)
-            | Expr::Member(at, one, _)
-            | Expr::Arrow(at, one, _) => {
+            Expr::StepBefore(at, _, one) | Expr::StepBehind(at, _, one) => {
+                let depth = below(depth, *at)?;
+                self.expression(depth, one)?;
+                self.changes(one);
+                Ok(())
+            }
+            Expr::Cast(at, _, one) | Expr::Member(at, one, _) | Expr::Arrow(at, one, _) => {
                 let depth = below(depth, *at)?;
                 self.expression(depth, one)
             }
+            Expr::Assign(at, sign, one, other) => {
+                let depth = below(depth, *at)?;
+                self.expression(depth, other)?;
+                if sign.is_none() {
+                    self.sets(one)?;
+                }
+                self.expression(depth, one)?;
+                self.changes(one);
+                Ok(())
+            }
             Expr::Binary(at, _, one, other)
-            | Expr::Assign(at, _, one, other)
             | Expr::Comma(at, one, other)
             | Expr::Index(at, one, other) => {
                 let depth = below(depth, *at)?;
@@ -409,21 +510,34 @@ impl<'a> Walk<'a> {
             Stmt::If(at, test, one, other) => {
                 self.expression(DEEPEST, test)?;
                 let depth = below(depth, *at)?;
+                let outside = self.choices;
+                self.choices = outside.saturating_add(1);
                 self.statement(depth, one)?;
-                match other {
-                    Some(other) => self.statement(depth, other),
-                    None => Ok(()),
+                if let Some(other) = other {
+                    self.statement(depth, other)?;
                 }
+                self.choices = outside;
+                Ok(())
             }
-            Stmt::While(at, test, body) | Stmt::Do(at, body, test) | Stmt::Switch(at, test, body) =>
-                {
-                    self.expression(DEEPEST, test)?;
-                    let depth = below(depth, *at)?;
-                    self.statement(depth, body)
-                }
+            Stmt::While(at, test, body) | Stmt::Do(at, body, test) => {
+                self.expression(DEEPEST, test)?;
+                let depth = below(depth, *at)?;
+                self.statement(depth, body)
+            }
+            Stmt::Switch(at, test, body) => {
+                self.expression(DEEPEST, test)?;
+                let depth = below(depth, *at)?;
+                let outside = self.choices;
+                self.choices = outside.saturating_add(1);
+                self.statement(depth, body)?;
+                self.choices = outside;
+                Ok(())
+            }
             Stmt::For(at, first, test, step, body) => {
                 let depth = below(depth, *at)?;
+                let choices = mem::replace(&mut self.choices, 0);
                 self.statements(depth, *at, first.as_slice())?;
+                self.choices = choices;
                 if let Some(test) = test {
                     self.expression(DEEPEST, test)?;
                 }
@@ -473,21 +587,42 @@ impl<'a> Walk<'a> {
             return Ok(());
         };
         let outside = self.open.len();
+        let is_in_team = self.open.last().is_some_and(|open| open.has_threads);
         for directive in others {
-            self.opens(at, region_of(*directive), None)?;
+            self.opens(at, region_of(*directive, false), false, None)?;
         }
         let place = self.done.len();
         self.done.push(Captured {
             at,
             captures: Vec::new(self.alloc),
         })?;
-        self.opens(at, region_of(*last), Some(place))?;
-        self.names(at, *last, clauses, body)?;
+        let has_threads = self.has_threads(directives, clauses, body);
+        self.any_threads = self.any_threads || has_threads;
+        self.opens(at, region_of(*last, is_in_team), has_threads, Some(place))?;
+        self.names(at, clauses)?;
+        if matches!(last, Directive::Taskloop | Directive::For) {
+            self.names_counted(at, clauses, body)?;
+        }
         if let Some(body) = body {
             self.statement(depth, body)?;
         }
         self.closes(outside);
         Ok(())
+    }
+
+    /// Whether it is a parallel region that several threads execute.
+    fn has_threads(
+        &mut self,
+        directives: &[Directive],
+        clauses: &[Clause],
+        body: &Option<Box<Stmt>>,
+    ) -> bool {
+        match (directives, body) {
+            ([Directive::Parallel], Some(body)) => {
+                !is_by_one(body) && !is_of_one(self.layouts, self.unit, clauses)
+            }
+            _ => false,
+        }
     }
 
     /// What clauses say is evaluated, and named, outside.
@@ -520,7 +655,13 @@ impl<'a> Walk<'a> {
         Ok(())
     }
 
-    fn opens(&mut self, at: u32, region: Region, place: Option<usize>) -> Result<(), Fault> {
+    fn opens(
+        &mut self,
+        at: u32,
+        region: Region,
+        has_threads: bool,
+        place: Option<usize>,
+    ) -> Result<(), Fault> {
         if self.open.len() >= MOST_OPEN {
             return Err(Fault::Limit(at));
         }
@@ -530,6 +671,8 @@ impl<'a> Walk<'a> {
         self.serial = serial;
         self.open.push(Open {
             region,
+            has_threads,
+            choices: self.choices,
             default: None,
             named: Vec::new(self.alloc),
             captures: Vec::new(self.alloc),
@@ -540,13 +683,7 @@ impl<'a> Walk<'a> {
     }
 
     /// To the innermost construct what its clauses say.
-    fn names(
-        &mut self,
-        at: u32,
-        directive: Directive,
-        clauses: &[Clause],
-        body: &Option<Box<Stmt>>,
-    ) -> Result<(), Fault> {
+    fn names(&mut self, at: u32, clauses: &[Clause]) -> Result<(), Fault> {
         for clause in clauses {
             if let Role::Default(default) = clause.role {
                 self.defaults(default);
@@ -559,10 +696,39 @@ impl<'a> Walk<'a> {
                 }
             }
         }
-        if let (Directive::Taskloop, Some(variable)) = (directive, counted(body)) {
+        Ok(())
+    }
+
+    /// The variables that its loops count, of which it has private copies.
+    fn names_counted(
+        &mut self,
+        at: u32,
+        clauses: &[Clause],
+        body: &Option<Box<Stmt>>,
+    ) -> Result<(), Fault> {
+        let Some(body) = body else {
+            return Ok(());
+        };
+        let mut turn: &Stmt = &**body;
+        for _level in 0..self.collapsed(clauses) {
+            let Some((variable, inner)) = counted(turn) else {
+                return Ok(());
+            };
             self.name(at, variable, How::Private)?;
+            turn = inner;
         }
         Ok(())
+    }
+
+    /// How many loops it collapses.
+    fn collapsed(&mut self, clauses: &[Clause]) -> u64 {
+        let Some(count) = value_of(clauses, Role::Collapse) else {
+            return 1;
+        };
+        match self.layouts.constant(self.unit, count) {
+            Some(count) => count.number.min(MOST_LOOPS),
+            None => 1,
+        }
     }
 
     fn defaults(&mut self, default: Default) {

@@ -45,3 +45,33 @@ decreases-taskloop l = l.depth
 
 abbrev pub decreases-critical : goal.decreases-critical
 decreases-critical l = l.depth
+
+abbrev pub decreases-masked : goal.decreases-masked
+decreases-masked l = l.depth
+
+abbrev pub decreases-one_thread : goal.decreases-one_thread
+decreases-one_thread l = l.depth
+
+abbrev pub decreases-threads : goal.decreases-threads
+decreases-threads l = l.depth
+
+abbrev pub decreases-work : goal.decreases-work
+decreases-work l = l.depth
+
+abbrev pub decreases-reduced_work : goal.decreases-reduced_work
+decreases-reduced_work l = l.depth
+
+abbrev pub decreases-parts_of_work : goal.decreases-parts_of_work
+decreases-parts_of_work l = l.depth
+
+abbrev pub decreases-sections : goal.decreases-sections
+decreases-sections l = l.depth
+
+abbrev pub decreases-section : goal.decreases-section
+decreases-section l = l.depth
+
+abbrev pub decreases-turns : goal.decreases-turns
+decreases-turns l = l.depth
+
+abbrev pub decreases-single : goal.decreases-single
+decreases-single l = l.depth
