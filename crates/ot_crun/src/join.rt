@@ -1,7 +1,7 @@
 //! The same code with less that is known: what a branch or an index reads from memory isn't known any more. So its ways are those of the
 //! run with any numbers in memory, for the lengths and the turns of loops that it has. Branches whose bodies create nothing are joined.
-use crate::forget::{given_by, spare_of};
 use crate::region::{Region, Regions, regions_of};
+use ot_cflow::{given_by, spare_of};
 use ot_code::{Code, Form, Function};
 use std::alloc::{AllocError, Global};
 use std::collections::BTreeSet;

@@ -5,12 +5,12 @@ use crate::locked::{Apartness, changes, has_locks, locked_race, locked_ways};
 use crate::others::judge_others;
 use crate::reading::{Read, Reading, byte_of, reading_of};
 use crate::reason::of_run;
-use crate::telling::{Source, more_races, outside, race_found, with_untouched};
+use crate::telling::{Source, more_races, outside, race_found, with_assumed, wrong};
 use crate::ways::{QUESTIONS, WAYS, asks_at, first_limit, way_limits};
 use ot_code::Form;
 use ot_corder::{Order, races_by};
-use ot_diagnosis::Diagnosis;
-use ot_machine::{Fault, Limits, Run, Ways, run_code};
+use ot_diagnosis::{Code, Diagnosis};
+use ot_machine::{Fault, Limits, Reason, Run, Ways, run_code};
 use ot_outline::{Told, events_of, race_of};
 use ot_race::Race;
 use ot_races::More;
@@ -24,6 +24,7 @@ pub enum Verdict {
     Clean,
     /// Nothing races in its run, and of its other ways nothing is known.
     OnlyRun,
+    /// Two touches race, or what has ended may be touched.
     Races,
     /// It isn't judged.
     Outside,
@@ -49,6 +50,8 @@ const EVENTS: usize = 1 << 32;
 const TOO_MANY_WAYS: &str = "it has more ways than are judged: nothing is known of this condition";
 
 const TOO_MUCH_CHANGES: &str = "too many variables are written under locks";
+
+const APART: &str = "the threads of this team come to different barriers";
 
 const CROWDED: &str = "a cell is touched under too many sets of locks";
 
@@ -80,7 +83,7 @@ pub fn judge_run(
                 draws: false,
             };
             let judged = judge(alloc, of, placed)?;
-            with_untouched(alloc, &reading, judged)
+            with_assumed(alloc, &reading, judged)
         }
     }
 }
@@ -110,7 +113,7 @@ pub fn draw_run(alloc: Global, name: &str, text: &[u8]) -> Result<Drawn, AllocEr
             };
             let whole = whole_picture(alloc, of, &placed)?;
             let judged = judge(alloc, of, placed)?;
-            with_picture(with_untouched(alloc, &reading, judged)?, whole)
+            with_picture(with_assumed(alloc, &reading, judged)?, whole)
         }
     };
     let Judged {
@@ -419,7 +422,19 @@ pub(crate) fn ways_of(
 
 /// Of a run that ends with a fault.
 fn ended(alloc: Global, of: Of<'_>, placed: &Placed, fault: Fault) -> Result<Judged, AllocError> {
-    at_form(alloc, of, placed, fault.at, of_run(fault.reason))
+    if fault.reason == Reason::Ended {
+        let byte = byte_of(&of.reading.tokens, token_at(placed, fault.at));
+        let words = String::from_str(alloc, of_run(fault.reason))?;
+        let one = wrong(alloc, Code::Lifetime, of.text, byte, words);
+        return one_found(alloc, Verdict::Races, one);
+    }
+    let are_apart = of.reading.apart.iter().any(|at| *at as usize == fault.at);
+    let words = if are_apart {
+        APART
+    } else {
+        of_run(fault.reason)
+    };
+    at_form(alloc, of, placed, fault.at, words)
 }
 
 /// The token of a form: of a write that of its place, and not that of the value.

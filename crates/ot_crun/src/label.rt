@@ -1,6 +1,6 @@
 //! What stands in the nodes of a picture.
 use crate::naming::cell_name;
-use crate::telling::{Source, done};
+use crate::telling::Source;
 use ot_diagnosis::Place;
 use ot_model::Cell;
 use std::alloc::{AllocError, Global};
@@ -32,8 +32,8 @@ pub(crate) fn touch_label(
 ) -> Result<String, AllocError> {
     let at = position_text(alloc, source.place_of_event(place))?;
     let name = cell_name(alloc, source.reading, source.text, source.run, cell)?;
-    let done = done(&source.run.log, place, cell);
-    format!(in alloc; "{at}: {name} is {done}")
+    let happens = source.happens(place, cell);
+    format!(in alloc; "{at}: {name} {happens}")
 }
 
 fn position_text(alloc: Global, place: Place) -> Result<String, AllocError> {

@@ -4,8 +4,6 @@
 mod beyond;
 mod cast;
 mod drawing;
-mod forget;
-mod graph;
 mod join;
 mod judging;
 mod label;
@@ -15,9 +13,7 @@ mod others;
 mod reading;
 mod reason;
 mod region;
-mod spots;
 mod telling;
-mod trace;
 mod ways;
 
 pub use judging::{Drawn, Judged, Verdict, draw_run, judge_run};

@@ -1,9 +1,9 @@
 //! The other ways of a text: those of other numbers in memory.
-use crate::forget::marks_of;
 use crate::join::{Placed, forgotten};
 use crate::judging::{Judged, Met, Of, Outcome, Verdict, clean, one_found, ways_of};
 use crate::telling::of_file;
 use crate::ways::WAYS;
+use ot_cflow::marks_of;
 use ot_diagnosis::Code;
 use std::alloc::{AllocError, Global};
 

@@ -17,6 +17,10 @@ pub(crate) struct Reading {
     pub unit: Unit,
     /// The names of functions without a body that are called.
     pub untouched: Vec<u32>,
+    /// Whether teams are executed that may have more than two threads.
+    pub has_team: bool,
+    /// The forms at which the threads of a team come to different barriers.
+    pub apart: Vec<u32>,
 }
 
 impl Reading {
@@ -147,6 +151,8 @@ fn code_of(
                 tokens,
                 unit,
                 untouched: translated.untouched,
+                has_team: translated.has_team,
+                apart: translated.apart,
             };
             Ok(Read::Whole(reading, placed))
         }

@@ -49,6 +49,27 @@ impl Source<'_> {
         (self.row(race.place).0, self.row(race.later).0)
     }
 
+    /// Whether a touch is the end of what it touches: nothing touches that behind it.
+    pub(crate) fn is_end(&self, place: u32, cell: Cell) -> bool {
+        let has_ended = match self.run.objects.get(cell.array as usize) {
+            Some(object) => object.ended,
+            None => false,
+        };
+        has_ended && last_touch(&self.run.log, cell.array) == Some(place)
+    }
+
+    /// What happens to a cell by a touch: `is written`.
+    pub(crate) fn happens(&self, place: u32, cell: Cell) -> &'static str {
+        if self.is_end(place, cell) {
+            return "ends";
+        }
+        match done(&self.run.log, place, cell) {
+            Doing::Written => "is written",
+            Doing::Read => "is read",
+            Doing::Touched => "is touched",
+        }
+    }
+
     /// The contexts around this one, itself first.
     fn contexts(&self, alloc: Global, context: u32) -> Result<Vec<Context>, AllocError> {
         let mut found = Vec::new(alloc);
@@ -128,18 +149,49 @@ fn turns_text(alloc: Global, turns: &[Turn]) -> Result<String, AllocError> {
     Ok(text)
 }
 
+/// The last event that touches an object.
+fn last_touch(log: &[Noted], object: u32) -> Option<u32> {
+    for noted in log.iter().rev() {
+        if noted.uses.iter().any(|used| used.cell.array == object) {
+            return Some(noted.place);
+        }
+    }
+    None
+}
+
 /// What an event does with a cell.
-pub(crate) fn done(log: &[Noted], place: u32, cell: Cell) -> &'static str {
+#[derive(Clone, Copy, Debug, PartialEq, Eq)]
+enum Doing {
+    Written,
+    Read,
+    Touched,
+}
+
+impl Doing {
+    fn text(self) -> &'static str {
+        match self {
+            Doing::Written => "written",
+            Doing::Read => "read",
+            Doing::Touched => "touched",
+        }
+    }
+}
+
+fn done(log: &[Noted], place: u32, cell: Cell) -> Doing {
     for noted in log {
         if noted.place == place {
             let is_written = noted
                 .uses
                 .iter()
                 .any(|used| used.cell == cell && used.mode == Mode::Writes);
-            return if is_written { "written" } else { "read" };
+            return if is_written {
+                Doing::Written
+            } else {
+                Doing::Read
+            };
         }
     }
-    "touched"
+    Doing::Touched
 }
 
 /// A race: the touch that comes later in the serial run, and the other one as its note, with what is known of the two.
@@ -160,7 +212,11 @@ pub(crate) fn race_found(
     }
     Ok(Diagnosis {
         severity: Severity::Error,
-        code: Code::Race,
+        code: if source.is_end(race.later, race.cell) {
+            Code::Lifetime
+        } else {
+            Code::Race
+        },
         told: Remark {
             place: Some(source.place(here)),
             turns,
@@ -181,11 +237,11 @@ fn race_words(
     let cell = cell.as_str();
     let at = place_of(alloc, source.name, Some(source.place(there)))?;
     let at = at.as_str();
-    let one = done(&source.run.log, race.later, race.cell);
-    let two = done(&source.run.log, race.place, race.cell);
+    let one = source.happens(race.later, race.cell);
+    let two = done(&source.run.log, race.place, race.cell).text();
     let turns = turns_text(alloc, turns)?;
     let turns = turns.as_str();
-    format!(in alloc; "{cell} is {one} here while it may be {two} at {at}{turns}")
+    format!(in alloc; "{cell} {one} here while it may be {two} at {at}{turns}")
 }
 
 fn other_touch(
@@ -232,9 +288,20 @@ pub(crate) fn of_file(alloc: Global, code: Code, message: String) -> Diagnosis {
 
 /// That a text isn't judged, at a byte.
 pub(crate) fn outside(alloc: Global, text: &[u8], byte: usize, message: String) -> Diagnosis {
+    wrong(alloc, Code::Outside, text, byte, message)
+}
+
+/// What is wrong at a byte.
+pub(crate) fn wrong(
+    alloc: Global,
+    code: Code,
+    text: &[u8],
+    byte: usize,
+    message: String,
+) -> Diagnosis {
     Diagnosis {
         severity: Severity::Error,
-        code: Code::Outside,
+        code,
         told: Remark {
             place: Some(Place::at(text, byte)),
             turns: Vec::new(alloc),
@@ -244,8 +311,8 @@ pub(crate) fn outside(alloc: Global, text: &[u8], byte: usize, message: String) 
     }
 }
 
-/// What is told, with a note for each function without a body that was called.
-pub(crate) fn with_untouched(
+/// What is told, with a note for each function without a body that was called, and one where teams are executed.
+pub(crate) fn with_assumed(
     alloc: Global,
     reading: &Reading,
     judged: Judged,
@@ -257,14 +324,24 @@ pub(crate) fn with_untouched(
     for name in &reading.untouched {
         let name = reading.names.text(*name);
         let words = format!(in alloc; "judged as if `{name}` touched nothing")?;
-        match judged.found.last_mut() {
-            Some(last) => last.notes.push(Remark {
-                place: None,
-                turns: Vec::new(alloc),
-                message: words,
-            })?,
-            None => judged.found.push(of_file(alloc, Code::OnlyRun, words))?,
-        }
+        put_note(alloc, &mut judged.found, words)?;
+    }
+    if reading.has_team {
+        let words = String::from_str(alloc, "judged with two threads in each team")?;
+        put_note(alloc, &mut judged.found, words)?;
     }
     Ok(judged)
+}
+
+/// A note to what is told last, or of the file where nothing is told.
+fn put_note(alloc: Global, found: &mut Vec<Diagnosis>, message: String) -> Result<(), AllocError> {
+    match found.last_mut() {
+        Some(last) => last.notes.push(Remark {
+            place: None,
+            turns: Vec::new(alloc),
+            message,
+        })?,
+        None => found.push(of_file(alloc, Code::AsIf, message))?,
+    }
+    Ok(())
 }
