@@ -36,9 +36,9 @@ graph_words = (with_rule (new_app (codes "graph")) file_rule).top
 unfoldable pub c_words : Shape
 c_words = (new_app (codes "c")).top
 
--- an array that is there before, and others behind it
+-- a macro, or an array that is there before, and others behind it: `-D` (68) or `--define`
 unfoldable pub define_rule : Rule
-define_rule = record (new_rule (codes "define")) { long = Some (codes "define"); action = Some Append; value_names = 1 }
+define_rule = record (new_rule (codes "define")) { short = Some 68; long = Some (codes "define"); action = Some Append; value_names = 1 }
 
 -- what standard input is called
 unfoldable pub call_rule : Rule

@@ -5,7 +5,7 @@ ghost use Rattle.omptask.specs.Asked.{format_of, is_c, is_cpp, kind_of};
 
 use crate::asked::{Check, Kind};
 use crate::ended::Ended;
-use crate::fault::{Fault, want_for};
+use crate::fault::{Fault, want_for, want_text};
 use crate::folder::{files_below, is_folder};
 use crate::judging::{
     Judged, judge_c, judge_cpp, judge_requests, tell, tell_end, write_lines, write_session,
@@ -29,7 +29,6 @@ const STDIN_NAME: &str = "<stdin>";
 struct Order<'a> {
     check: &'a Check,
     format: Format,
-    arrays: &'a [ArrayShape],
 }
 
 /// What the files so far came to.
@@ -38,6 +37,8 @@ struct Tally {
     ended: Ended,
     outcomes: Vec<Outcome>,
     results: Vec<Value>,
+    /// Whether each file could be read.
+    is_whole: bool,
 }
 
 /// Judges the files that are asked for, one after another, or writes their requests as lines.
@@ -50,16 +51,12 @@ pub(crate) fn check_files<R: Input + Print + Eprint + Files + AllocGlobal + Clon
     let Some(format) = format_of(check.format.as_str(), paint) else {
         return Err(Fault::BadFormat);
     };
-    let arrays = arrays_of(alloc, check.defined.as_slice())?;
-    let order = Order {
-        check,
-        format,
-        arrays: arrays.as_slice(),
-    };
+    let order = Order { check, format };
     let mut tally = Tally {
         ended: Ended::Well,
         outcomes: Vec::new(alloc),
         results: Vec::new(alloc),
+        is_whole: true,
     };
     for (place, path) in check.files.iter().enumerate() {
         check_path(rt, alloc, &order, path.as_str(), place, &mut tally)?;
@@ -73,8 +70,11 @@ fn end<R: Print>(rt: &R, alloc: Global, order: &Order<'_>, tally: Tally) -> Resu
         ended,
         outcomes,
         results,
+        is_whole,
     } = tally;
-    if !order.check.lines {
+    // (a document of some of the files would be taken for one of all)
+    let is_told = is_whole || !matches!(order.format, Format::Sarif);
+    if !order.check.lines && is_told {
         let mut to = Writing::new(io::writer(rt));
         let quiet = order.check.quiet;
         tell_end(
@@ -106,9 +106,37 @@ fn check_path<R: Input + Print + Eprint + Files + AllocGlobal + Clone + Drop>(
         Err(error) => return Err(unread(place, &error)),
     };
     for file in &files {
-        check_file(rt, alloc, order, file.as_str(), place, tally)?;
+        check_below(rt, alloc, order, file.as_str(), place, tally)?;
     }
     Ok(())
+}
+
+/// Judges a file below a folder. One that can't be read is told by its own path, and is one that isn't judged.
+fn check_below<R: Input + Print + Eprint + Files>(
+    rt: &R,
+    alloc: Global,
+    order: &Order<'_>,
+    path: &str,
+    place: usize,
+    tally: &mut Tally,
+) -> Result<(), Fault> {
+    match check_file(rt, alloc, order, path, place, tally) {
+        Err(Fault::Unread(_, want)) => {
+            let _ = eprintln!(rt; "omptask: {path}: {}", want_text(want));
+            pass_over(tally)
+        }
+        checked => checked,
+    }
+}
+
+/// Counts a file that can't be read.
+fn pass_over(tally: &mut Tally) -> Result<(), Fault> {
+    tally.is_whole = false;
+    tally.ended = worse_of(tally.ended, Ended::Outside);
+    match tally.outcomes.push(Outcome::Outside) {
+        Ok(()) => Ok(()),
+        Err(_) => Err(Fault::Memory),
+    }
 }
 
 /// Judges a file, or writes its requests as lines.
@@ -123,7 +151,7 @@ fn check_file<R: Input + Print + Eprint + Files>(
     let text = text_of(rt, alloc, path, place)?;
     let source = Source {
         name: name_of(path, order.check.name.as_str()),
-        text: text.as_slice(),
+        text: without_mark(text.as_slice()),
     };
     let ended = if order.check.lines {
         write_text(rt, alloc, source)?
@@ -289,11 +317,19 @@ fn check_text<R: Print + Eprint>(
     }
 }
 
-/// Tells how C on standard input is read as C, where standard error takes it.
+/// Tells how C is read as C that was taken for requests, where standard error takes it.
 fn tell_hint(rt: &impl Eprint, source: Source<'_>) {
-    if source.name == STDIN_NAME && has_directives(source.text) {
-        let _ = eprintln!(rt; "omptask: C on standard input is read with --name FILE.c");
+    if kind_of(source.name) != Kind::Requests || !has_directives(source.text) {
+        return;
     }
+    let _ = if source.name == STDIN_NAME {
+        eprintln!(rt; "omptask: C on standard input is read with --name FILE.c")
+    } else {
+        eprintln!(rt;
+            "omptask: {}: C is read where a name ends in .c",
+            source.name
+        )
+    };
 }
 
 /// Keeps for the end how a file ended, and what was found where that is written there.
@@ -322,7 +358,10 @@ fn judged_text(alloc: Global, order: &Order<'_>, source: Source<'_>) -> Result<J
             source.text,
         ),
         Kind::InCpp => judge_cpp(alloc),
-        Kind::Requests => return judge_requests(alloc, source.text, order.arrays),
+        Kind::Requests => {
+            let arrays = arrays_of(alloc, order.check.defined.as_slice())?;
+            return judge_requests(alloc, source.text, arrays.as_slice());
+        }
     };
     match judged {
         Ok(judged) => Ok(judged),
@@ -340,6 +379,14 @@ fn has_directives(text: &[u8]) -> bool {
         begins = *byte == b'\n';
     }
     false
+}
+
+/// A text without the mark of UTF-8 at its begin, which some editors write there.
+pub(crate) fn without_mark(text: &[u8]) -> &[u8] {
+    match text.strip_prefix(b"\xEF\xBB\xBF".as_slice()) {
+        Some(rest) => rest,
+        None => text,
+    }
 }
 
 /// The text of a file; `-` is standard input.

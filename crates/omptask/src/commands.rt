@@ -44,12 +44,14 @@ The status is 4 where the tenant has another session, 3 where a line was refused
 /// What `graph` writes.
 const GRAPH_HELP: &str = "\
 It reads a session of one tenant on standard input, as `omptaskd solo` reads it, and writes a text for dot
-of Graphviz. Each task is a node, and each wait a box. A dashed edge leads from the task that creates or
-executes one to it, a solid one to a task from each that it waits for by itself, with the cells, and a dotted
-one to a wait from each task that it awaits. Above 200 tasks standard error tells how many there are.
+of Graphviz: `omptask graph FILE.c | dot -Tsvg > FILE.svg` makes a picture. Each task is a node, and each wait a box.
+A dashed edge leads from the task that creates or executes one to it, a solid one to a task from each that it waits
+for by itself, with the cells, and a dotted one to a wait from each task that it awaits. Above 200 tasks standard error
+tells how many there are. Where a statement of a program is refused (425 to 429), its tasks are drawn, with that
+statement and the other one in red and a dashed red line between them; the status is 3.
 Of a FILE in C the run is drawn as it is executed, up to the first race that is found: its two touches are red, with a
-dashed red line between them. Standard error tells what `check` tells of it, and the status is that of `check`.
-Else the status is 1 where a line isn't taken, behind the last run too, or none runs a program.";
+dashed red line between them. Standard error tells what is found, as `check --define` tells it, and the status is that
+of `check --define`. Else the status is 1 where a line isn't taken, behind the last run too, or none runs a program.";
 
 /// What `c` writes.
 const C_HELP: &str = "\
@@ -287,8 +289,9 @@ fn define_arg<'a>(alloc: Global) -> Arg<'a>
     ensures own { result.global ≡ false }
 {
     Arg::new(alloc, "define")
+        .short('D')
         .long("define")
         .action(ArgAction::Append)
-        .value_name("NAME=LEN")
-        .help("An array that is there before each file, as a=3; may be given again")
+        .value_name("NAME=VALUE")
+        .help("A macro of each file in C; of requests an array and its length; may be given again")
 }

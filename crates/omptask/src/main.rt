@@ -27,14 +27,13 @@ pub use command_line::words;
 pub use ended::Ended;
 use explaining::ask_explained;
 pub use fault::{Fault, Want, fault_line, want_text};
-use graphing::draw_file;
+use graphing::{draw_file, draw_session};
 use ot_ask::{Asked, LineSource, LinesOf, Tally, ask};
 use ot_commands::hold_standard;
 use ot_cprinted::{NoC, c_checked};
 use ot_diagnosis::Paint;
 use ot_explain::{Explained, explain, explain_quietly};
 use ot_front::{Reading, Sink, Writing, write_whole};
-use ot_graph::draw;
 use ot_keep::{restore, save};
 use ot_last::{Untaken, last_run};
 use ot_reason::code_page;
@@ -49,9 +48,6 @@ use std::os::unix::net::UnixStream;
 use std::process::ExitCode;
 use std::rt::Files;
 use std::{env, io};
-
-/// Above how many tasks their number is told.
-const MANY_TASKS: u32 = 200;
 
 fn main(rt: HostRuntime) -> ExitCode {
     hold_standard(&rt);
@@ -124,7 +120,7 @@ fn run<R: Input + Print + Eprint + Files + Net + AllocGlobal + Clone + Drop>(
         Words::Restore(asked, replace) => restore_tenant(rt, alloc, asked, *replace),
         Words::Explain(None, quiet) => explain_session(rt, alloc, *quiet),
         Words::Explain(Some(code), _) => explain_code(rt, alloc, *code),
-        Words::Graph(path) if path.is_empty() => draw_run(rt, alloc),
+        Words::Graph(path) if path.is_empty() => draw_session(rt, alloc),
         Words::Graph(path) => draw_file(rt, alloc, path.as_str()),
         Words::C => write_run(rt, alloc),
         Words::Check(asked) | Words::Lines(asked) => check_files(rt, alloc, asked, terminal.paint),
@@ -217,18 +213,6 @@ fn explain_code<R: Print>(rt: &R, alloc: Global, code: u32) -> Result<Ended, Fau
     print_text(rt, text.as_str())
 }
 
-/// Prints the last run of the session on standard input as a task graph, and tells how large a large one is.
-fn draw_run<R: Input + Print + Eprint>(rt: &R, alloc: Global) -> Result<Ended, Fault> {
-    let drawing = match draw(alloc, &mut Reading::new(rt.reader())) {
-        Ok(drawing) => drawing,
-        Err(fault) => return Err(Fault::from(fault)),
-    };
-    if drawing.tasks > MANY_TASKS {
-        let _ = eprintln!(rt; "omptask: {} tasks", drawing.tasks);
-    }
-    print_text(rt, drawing.text.as_str())
-}
-
 /// Prints the last run of the session on standard input as C with OpenMP, which is read back before, or tells why it has none.
 fn write_run<R: Input + Print + Eprint>(rt: &R, alloc: Global) -> Result<Ended, Fault> {
     let last = match last_run(alloc, &mut Reading::new(rt.reader())) {
@@ -267,7 +251,7 @@ fn tell_no_c(rt: &impl Eprint, no: NoC) -> io::Result<()> {
 }
 
 /// Prints a text.
-fn print_text<R: Print>(rt: &R, text: &str) -> Result<Ended, Fault> {
+pub(crate) fn print_text<R: Print>(rt: &R, text: &str) -> Result<Ended, Fault> {
     match write_whole(&mut Writing::new(io::writer(rt)), text.as_bytes()) {
         Ok(()) => Ok(Ended::Well),
         Err(_) => Err(Fault::WriteFailed),
@@ -431,7 +415,7 @@ fn tell(rt: &impl Eprint, path: &str, fault: &Fault) -> ExitCode
 {
     let line = fault_line(fault);
     let _ = match fault {
-        Fault::BadLine(number, answer) => tell_bad_line(rt, line, *number, *answer),
+        Fault::BadLine(number, answer) => tell_bad_line(rt, *number, *answer),
         Fault::RefusedLine(number) => eprintln!(rt; "{line} {number}"),
         Fault::Unreached(cause) => eprintln!(rt; "{line} {path}: {}", cause_text(*cause)),
         Fault::BadDefinition(_) | Fault::BadFormat => {
@@ -449,7 +433,8 @@ fn tell(rt: &impl Eprint, path: &str, fault: &Fault) -> ExitCode
 }
 
 /// Prints which line of a session isn't taken, and what a server answers it.
-fn tell_bad_line(rt: &impl Eprint, line: &str, number: u64, answer: Untaken) -> io::Result<()> {
+pub(crate) fn tell_bad_line(rt: &impl Eprint, number: u64, answer: Untaken) -> io::Result<()> {
+    let line = fault_line(&Fault::BadLine(number, answer));
     match answer {
         Untaken::Refused(code) => {
             eprintln!(rt; "{line} {number}: [\"err\",{number},{code}], see omptask explain")

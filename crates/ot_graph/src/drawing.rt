@@ -1,11 +1,13 @@
 //! The task graph of the last run of a session.
-ghost use Rattle.std.specs.Prelude.{IfOk};
+ghost use Rattle.std.specs.Prelude.{◌≡◌, IfOk};
+ghost use Rattle.ot_last.specs.LastRuns.{beginner};
 ghost use Rattle.ot_graph.specs.Drawn.{Draws, DrawsLast};
 
 use crate::dot::dot_text;
 use crate::graph::graph_of;
+use ot_book::Book;
 use ot_front::Source;
-use ot_last::{LastFault, LastRun, last_run};
+use ot_last::{LastFault, LastRun, last_run_in};
 use std::alloc::{AllocError, Global};
 
 /// A task graph as text.
@@ -17,11 +19,12 @@ pub struct Drawing {
     pub tasks: u32,
 }
 
-/// The task graph of the last program that a session runs.
-pub fn draw<R: Source>(alloc: Global, source: &mut R) -> Result<Drawing, LastFault>
+/// The task graph of the last program that a session runs, which the book of a tenant that begins takes.
+pub fn draw<R: Source>(alloc: Global, book: &mut Book, source: &mut R) -> Result<Drawing, LastFault>
+    requires { book.old ≡ beginner }
     ensures { IfOk result (λ drawing. DrawsLast (R.ahead source.old) (R.ahead source.new) drawing) }
 {
-    match last_run(alloc, source) {
+    match last_run_in(alloc, book, source) {
         Ok(last) => drawing_of(alloc, &last),
         Err(fault) => Err(fault),
     }

@@ -9,4 +9,4 @@ mod stop;
 
 pub use fault::{LastFault, Untaken};
 pub use found::LastRun;
-pub use reading::last_run;
+pub use reading::{begun, last_run, last_run_in};

@@ -1,7 +1,7 @@
 use Rattle.std.proofs.Common.{sym, subst, ◌∙◌}
 use Rattle.ot_last.specs.LastRuns.{Finds}
 use Rattle.ot_last.proofs.GoingLemmas.{finds, told_failed, told_worked}
-use Rattle.ot_last.proofs.reading.last_run.Goals as goal
+use Rattle.ot_last.proofs.reading.last_run_in.Goals as goal
 
 pub returns-clause-finds : goal.returns-clause-finds
 returns-clause-finds g c =
