@@ -25,4 +25,5 @@ mod wait;
 
 pub use fault::{ProgramFault, Refusal};
 pub use name::{is_name, is_word};
+pub use profile::{Profile, read_profile};
 pub use program::read_program;

@@ -7,7 +7,7 @@ use serde_json::Value;
 
 /// Which forms a program has. Most are those of both profiles.
 #[derive(Clone, Copy, Debug, PartialEq, Eq)]
-pub(crate) enum Profile {
+pub enum Profile {
     /// Those of `["program", shows, body]`: all that folds, folds by `+`.
     One,
     /// Those of `["program2", shows, body]`: folds, groups and `red` have an operation.
@@ -16,14 +16,14 @@ pub(crate) enum Profile {
 
 impl Profile {
     /// Whether a value is a word that profile 1 alone has for its form, in that profile.
-    pub(crate) fn one_has(self, value: &Value, word: &str) -> bool
+    pub fn one_has(self, value: &Value, word: &str) -> bool
         ensures { result ≡ is_one self && is_word (view value.now) word.now }
     {
         matches!(self, Profile::One) && is_word(value, word)
     }
 
     /// The same of profile 2.
-    pub(crate) fn two_has(self, value: &Value, word: &str) -> bool
+    pub fn two_has(self, value: &Value, word: &str) -> bool
         ensures { result ≡ is_two self && is_word (view value.now) word.now }
     {
         matches!(self, Profile::Two) && is_word(value, word)
@@ -31,7 +31,7 @@ impl Profile {
 }
 
 /// The profile that a program's first word names.
-pub(crate) fn read_profile(tag: &Value) -> Option<Profile>
+pub fn read_profile(tag: &Value) -> Option<Profile>
     ensures { result ≡ profile_of (view tag.now) }
 {
     if is_word(tag, "program") {
