@@ -1,4 +1,4 @@
-/* A barrier among the threads of a team, which isn't executed yet. */
+/* A barrier among the threads of a team awaits the task that one of them created. */
 #include <stdint.h>
 #include <stdio.h>
 int main(void)
