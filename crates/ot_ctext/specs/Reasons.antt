@@ -23,19 +23,19 @@ word_reason w.OtherDirective = codes "of directives #include, #define and #pragm
 -- why words say no value, or no clause
 abbrev pub part_reason : part.Fault → List ℕ
 part_reason (p.NoValue n) = codes "a value that is read has to begin here"
-part_reason (p.NoMark n) = codes "another mark has to stand here"
+part_reason (p.NoMark n) = codes "what stands here has no form in the server's programs"
 part_reason (p.NoName n) = codes "a name has to stand here"
-part_reason (p.NoClause n) = codes "this is no clause that is read, or no item of one"
+part_reason (p.NoClause n) = codes "this clause, or this item of one, has no form in the server's programs"
 part_reason (p.TooDeep n) = codes "brackets nest too deep, or too many signs stand in a row"
 part_reason (p.TooLong n) = codes "the text ends before it is whole"
 
 -- why words say no statement, or no file whole
 abbrev pub statement_reason : Fault → List ℕ
-statement_reason (f.NoStatement n) = codes "this is no statement that is read"
-statement_reason (f.Declared n) = codes "tasks would have copies of what a block declares"
-statement_reason (f.NoDirective n) = codes "this directive isn't read here"
+statement_reason (f.NoStatement n) = codes "this statement has no form in the server's programs"
+statement_reason (f.Declared n) = codes "a block's variable has no form in the server's programs: tasks would copy it"
+statement_reason (f.NoDirective n) = codes "this directive has no form in the server's programs here"
 statement_reason (f.OtherClause n) = codes "this directive isn't read with all of these clauses"
-statement_reason (f.NoSingle n) = codes "single, master or masked has to stand here, alone"
+statement_reason (f.NoSingle n) = codes "single, master or masked has to stand here, without clauses"
 statement_reason (f.NoConstant n) = codes "a constant is a number, a name, or a value in brackets"
 statement_reason (f.NoRegion n) = codes "main has no parallel region"
 statement_reason (f.More n) = codes "nothing stands behind main"
@@ -45,7 +45,7 @@ statement_reason _ = codes "the text ends before it is whole"
 -- why words say no file
 abbrev pub file_reason : Fault → List ℕ
 file_reason (f.Part part) = part_reason part
-file_reason (f.NoMark n) = codes "another mark has to stand here"
+file_reason (f.NoMark n) = codes "what stands here has no form in the server's programs"
 file_reason (f.NoName n) = codes "a name has to stand here"
 file_reason (f.NoText n) = codes "a string has to stand here"
 file_reason (f.NoType n) = codes "a type has to stand here, as int, unsigned, long, uint64_t or size_t"
@@ -62,7 +62,7 @@ name_reason why.NoDependence = codes "in_reduction by a pointer wants its cell u
 name_reason why.CallInGroup = codes "a function is called here while a group combines"
 name_reason why.Unlisted = codes "default(none) stands here, and no clause lists this"
 name_reason why.TooMany = codes "a program has at most 20000 statements"
-name_reason _ = codes "this function isn't judged here"
+name_reason _ = codes "a call of this function has no form in the server's programs"
 
 -- why a directive has none
 abbrev pub directive_reason : Reason → List ℕ

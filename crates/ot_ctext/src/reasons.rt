@@ -28,9 +28,9 @@ fn part_reason(fault: ot_cread::Fault) -> &'static str
 {
     match fault {
         ot_cread::Fault::NoValue(_) => "a value that is read has to begin here",
-        ot_cread::Fault::NoMark(_) => "another mark has to stand here",
+        ot_cread::Fault::NoMark(_) => "what stands here has no form in the server's programs",
         ot_cread::Fault::NoName(_) => "a name has to stand here",
-        ot_cread::Fault::NoClause(_) => "this is no clause that is read, or no item of one",
+        ot_cread::Fault::NoClause(_) => "this clause, or this item of one, has no form in the server's programs",
         ot_cread::Fault::TooDeep(_) => "brackets nest too deep, or too many signs stand in a row",
         ot_cread::Fault::TooLong(_) => "the text ends before it is whole",
     }
@@ -42,7 +42,7 @@ pub(crate) fn file_reason(fault: ot_cstatement::Fault) -> &'static str
 {
     match fault {
         ot_cstatement::Fault::Part(part) => part_reason(part),
-        ot_cstatement::Fault::NoMark(_) => "another mark has to stand here",
+        ot_cstatement::Fault::NoMark(_) => "what stands here has no form in the server's programs",
         ot_cstatement::Fault::NoName(_) => "a name has to stand here",
         ot_cstatement::Fault::NoText(_) => "a string has to stand here",
         ot_cstatement::Fault::NoType(_) =>
@@ -59,12 +59,12 @@ fn statement_reason(fault: ot_cstatement::Fault) -> &'static str
     ensures { result.now ≡ meant.statement_reason fault }
 {
     match fault {
-        ot_cstatement::Fault::NoStatement(_) => "this is no statement that is read",
-        ot_cstatement::Fault::Declared(_) => "tasks would have copies of what a block declares",
-        ot_cstatement::Fault::NoDirective(_) => "this directive isn't read here",
+        ot_cstatement::Fault::NoStatement(_) => "this statement has no form in the server's programs",
+        ot_cstatement::Fault::Declared(_) => "a block's variable has no form in the server's programs: tasks would copy it",
+        ot_cstatement::Fault::NoDirective(_) => "this directive has no form in the server's programs here",
         ot_cstatement::Fault::OtherClause(_) =>
             "this directive isn't read with all of these clauses",
-        ot_cstatement::Fault::NoSingle(_) => "single, master or masked has to stand here, alone",
+        ot_cstatement::Fault::NoSingle(_) => "single, master or masked has to stand here, without clauses",
         ot_cstatement::Fault::NoConstant(_) =>
             "a constant is a number, a name, or a value in brackets",
         ot_cstatement::Fault::NoRegion(_) => "main has no parallel region",
@@ -139,6 +139,6 @@ fn name_reason(reason: Reason) -> &'static str
         Reason::CallInGroup => "a function is called here while a group combines",
         Reason::Unlisted => "default(none) stands here, and no clause lists this",
         Reason::TooMany => "a program has at most 20000 statements",
-        _ => "this function isn't judged here",
+        _ => "a call of this function has no form in the server's programs",
     }
 }
