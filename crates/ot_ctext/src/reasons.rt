@@ -30,7 +30,8 @@ fn part_reason(fault: ot_cread::Fault) -> &'static str
         ot_cread::Fault::NoValue(_) => "a value that is read has to begin here",
         ot_cread::Fault::NoMark(_) => "what stands here has no form in the server's programs",
         ot_cread::Fault::NoName(_) => "a name has to stand here",
-        ot_cread::Fault::NoClause(_) => "this clause, or this item of one, has no form in the server's programs",
+        ot_cread::Fault::NoClause(_) =>
+            "this clause, or this item of one, has no form in the server's programs",
         ot_cread::Fault::TooDeep(_) => "brackets nest too deep, or too many signs stand in a row",
         ot_cread::Fault::TooLong(_) => "the text ends before it is whole",
     }
@@ -59,12 +60,16 @@ fn statement_reason(fault: ot_cstatement::Fault) -> &'static str
     ensures { result.now ≡ meant.statement_reason fault }
 {
     match fault {
-        ot_cstatement::Fault::NoStatement(_) => "this statement has no form in the server's programs",
-        ot_cstatement::Fault::Declared(_) => "a block's variable has no form in the server's programs: tasks would copy it",
-        ot_cstatement::Fault::NoDirective(_) => "this directive has no form in the server's programs here",
+        ot_cstatement::Fault::NoStatement(_) =>
+            "this statement has no form in the server's programs",
+        ot_cstatement::Fault::Declared(_) =>
+            "a block's variable has no form in the server's programs: tasks would copy it",
+        ot_cstatement::Fault::NoDirective(_) =>
+            "this directive has no form in the server's programs here",
         ot_cstatement::Fault::OtherClause(_) =>
             "this directive isn't read with all of these clauses",
-        ot_cstatement::Fault::NoSingle(_) => "single, master or masked has to stand here, without clauses",
+        ot_cstatement::Fault::NoSingle(_) =>
+            "single, master or masked has to stand here, without clauses",
         ot_cstatement::Fault::NoConstant(_) =>
             "a constant is a number, a name, or a value in brackets",
         ot_cstatement::Fault::NoRegion(_) => "main has no parallel region",
