@@ -5,7 +5,7 @@ use Rattle.serde_json.specs.View.{items_view}
 use Rattle.serde_json.specs.declared.value.Value.{Value}
 use Rattle.ot_model.specs.Programs.{Arrays}
 use Rattle.ot_program.specs.Meanings.{Bindings, size, section, clause, wait_clause, is_two}
-use Rattle.ot_place.specs.Texts.{Profile}
+use Rattle.ot_program.specs.declared.profile.Profile.{Profile}
 use Rattle.ot_fault.specs.Whys.{Form, clause_whys}
 use Rattle.ot_fault.specs.declared.why.Wanted.TheVariants as wanted
 

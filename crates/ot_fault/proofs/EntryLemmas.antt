@@ -8,8 +8,8 @@ use Rattle.ot_program.specs.Copies.{in_copy}
 use Rattle.ot_program.specs.Limits.{total}
 use Rattle.ot_program.specs.Meanings.{profile_of}
 use Rattle.ot_program.specs.Programs.{program_copy}
+use Rattle.ot_program.specs.declared.profile.Profile.{Profile}
 use Rattle.ot_place.specs.Spots.{text_spots}
-use Rattle.ot_place.specs.Texts.{Profile}
 use Rattle.ot_place.proofs.PlaceLemmas.{a_program}
 use Rattle.ot_fault.specs.Whys.{counts_of, first_among, first_fault}
 use Rattle.ot_fault.specs.Walk.{Walked, walk}

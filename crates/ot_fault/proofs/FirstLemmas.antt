@@ -12,9 +12,10 @@ use Rattle.ot_program.specs.Copies.{Text, IfText, ForText, TaskText, GroupText, 
 use Rattle.ot_program.specs.Limits.{Tally, total, plus, own_tally}
 use Rattle.ot_program.specs.Meanings.{Bindings, profile_of}
 use Rattle.ot_program.specs.Programs.{program_copy}
+use Rattle.ot_program.specs.declared.profile.Profile.{Profile}
 use Rattle.ot_program.proofs.Tallies.{plus-nothing, total-append}
 use Rattle.ot_place.specs.Spots.{Path, Spot, first_body, is_loop, spots, in_turns, in_body, program_spots}
-use Rattle.ot_place.specs.Texts.{Profile, text_by}
+use Rattle.ot_place.specs.Texts.{text_by}
 use Rattle.ot_place.specs.declared.text.Text.{Text as CodeText}
 use Rattle.ot_place.specs.declared.text.Text.TheVariants as t
 use Rattle.ot_fault.specs.Whys.{counts_of, past_limits, mixed_why, mixed_whys, whys_at, whys_behind, first_behind, first_among, Why, Mixed, long, short, earlier, after, nested, text_whys}

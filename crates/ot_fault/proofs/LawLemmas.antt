@@ -13,10 +13,10 @@ use Rattle.ot_program.specs.Meanings.{profile_of}
 use Rattle.ot_program.specs.Programs.{foremost, faults_behind, told as refusal_told, told_or, program_copy, program_in, program_of}
 use Rattle.ot_program.specs.Faults.{rank, least}
 use Rattle.ot_program.specs.declared.fault.Refusal.{Refusal}
+use Rattle.ot_program.specs.declared.profile.Profile.{Profile}
 use Rattle.ot_program.proofs.Firsts.{first_of, foremost_is, merged, first-append}
 use Rattle.ot_program.proofs.StatementsRead.{first-swap}
 use Rattle.ot_place.specs.Spots.{program_spots}
-use Rattle.ot_place.specs.Texts.{Profile}
 use Rattle.ot_fault.specs.Whys.{counts_of, past_limits, mixed_whys, whys_behind, first_behind, first_among, first_fault, Why, long, short, refusal_of, earlier, after, text_whys}
 use Rattle.ot_fault.specs.Laws.{refused}
 use Rattle.ot_fault.proofs.FirstLemmas.{placed_of, program_placed, none_among}

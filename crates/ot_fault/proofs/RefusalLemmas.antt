@@ -19,7 +19,8 @@ use Rattle.ot_program.specs.Faults as told
 use Rattle.ot_program.specs.Faults.{size_faults, value_faults}
 use Rattle.ot_program.specs.declared.fault.Refusal.{Refusal}
 use Rattle.ot_program.specs.declared.fault.Refusal.TheVariants.{Form, MixedReduction}
-use Rattle.ot_place.specs.Texts.{Profile, text_by}
+use Rattle.ot_program.specs.declared.profile.Profile.{Profile}
+use Rattle.ot_place.specs.Texts.{text_by}
 use Rattle.ot_place.specs.declared.text.Text.{Text as CodeText}
 use Rattle.ot_place.specs.declared.text.Text.TheVariants as t
 use Rattle.ot_mixed.proofs.ClauseLemmas.{none_first, none_second}

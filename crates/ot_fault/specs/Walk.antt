@@ -1,21 +1,20 @@
 -- A walk from entry to entry, with what statements and values count on it.
-use Rattle.std.specs.Prelude.{ℕ, [], ◌+◌, List, ◌∷◌, ◌++◌, Option, Some, None, option_map, ◌≡◌}
+use Rattle.std.specs.Prelude.{ℕ, [], ◌+◌, List, ◌∷◌, ◌++◌, Option, Some, None, option_map}
 use Rattle.ot_model.specs.Programs.{Arrays}
 use Rattle.ot_program.specs.Copies.{Text, Placed, in_order}
 use Rattle.ot_program.specs.Limits.{own_tally, depth_of, nodes_of, picked_of}
-use Rattle.ot_program.specs.Meanings.{Bindings, profile_of}
-use Rattle.ot_place.specs.Texts.{Profile, first_copies, second_copies, Stands}
+use Rattle.ot_program.specs.Meanings.{Bindings}
+use Rattle.ot_program.specs.declared.profile.Profile.{Profile}
+use Rattle.ot_place.specs.Texts.{first_copies, second_copies}
 use Rattle.ot_fault.specs.Whys.{why_by, shape_of, Why, short, after, long, counts_of, whys_at}
 use Rattle.ot_fault.specs.declared.find.Finder.{Finder}
 use Rattle.ot_fault.specs.declared.find.Passed.{Passed as CodePassed}
 use Rattle.ot_fault.specs.declared.find.Step.{Step}
 use Rattle.ot_fault.specs.declared.find.Step.TheVariants as s
 use Rattle.ot_fault.specs.declared.own.Tally.{Tally as CodeTally}
-use Rattle.serde_json.specs.Data.{Data}
 use Rattle.ot_place.specs.Spots.{bindings_of}
 use Rattle.ot_model.specs.Tree.{E}
 use Rattle.ot_fault.specs.declared.look.Measure.{Measure}
-use Rattle.ot_place.specs.declared.text.Profile.{Profile as CodeProfile}
 use Rattle.ot_fault.specs.declared.why.First.{First}
 use Rattle.ot_fault.specs.declared.look.Look.{Look}
 
@@ -77,7 +76,3 @@ shape_by look = shape_of look.arrays.now look.tasks
 
 abbrev pub variables_by : Look → Bindings
 variables_by look = bindings_of look.trail.now
-
--- the code's profile is this one, which a program's first word names
-abbrev pub IsProfile : CodeProfile → Profile → Type 0
-IsProfile code profile = Stands code profile × ((t : Data) × (profile_of t ≡ Some profile))

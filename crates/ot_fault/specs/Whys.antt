@@ -8,7 +8,7 @@ use Rattle.ot_program.specs.Copies.{Text, SetText, AddText, FoldText, IfText, Fo
 use Rattle.ot_program.specs.Faults.{is_list, rank}
 use Rattle.ot_program.specs.Limits.{max_nesting, max_depth, size_depth, depth_of, total, max_statements, max_turns, max_nodes, max_cells, Tally}
 use Rattle.ot_program.specs.Meanings.{items, letters, Bindings, bound, sign_of, in_range, exact, size, is_called, length_of, op_of, fold_of, value, whole_number, is_name, is_word, is_one, is_two}
-use Rattle.ot_place.specs.Texts.{Profile}
+use Rattle.ot_program.specs.declared.profile.Profile.{Profile}
 use Rattle.ot_fault.specs.declared.why.Wanted.TheVariants as wanted
 use Rattle.ot_model.specs.declared.expr.Op.{Op}
 use Rattle.ot_program.specs.declared.fault.Refusal.{Refusal}
@@ -20,7 +20,6 @@ use Rattle.ot_model.specs.declared.shape.ArrayShape.{ArrayShape}
 use Rattle.ot_fault.specs.declared.why.Why.{Why as CodeWhy}
 use Rattle.ot_fault.specs.declared.why.Why.TheVariants as w
 use Rattle.ot_fault.specs.declared.find.Found.{Found}
-use Rattle.ot_fault.specs.declared.find.Step.TheVariants as s
 use Rattle.ot_fault.specs.declared.own.Tally.{Tally as CodeTally}
 use Rattle.std.specs.Option.{option_or, option_to_list}
 use Rattle.ot_place.specs.Spots.{text_spots}

@@ -6,9 +6,9 @@ ghost use Rattle.ot_program.specs.Copies.{copies, copies_of, copy, turns as each
 ghost use Rattle.ot_program.specs.Limits.{total};
 ghost use Rattle.ot_program.specs.Programs.{program_copy};
 ghost use Rattle.ot_place.specs.Spots.{bindings_of, text_spots};
-ghost use Rattle.ot_place.specs.Texts.{Profile as Defined, text_by};
+ghost use Rattle.ot_place.specs.Texts.{text_by};
 ghost use Rattle.ot_fault.specs.Whys.{Form, short, after, text_whys, why_by, shape_of, counts_of, more_than, past_limits, mixed_whys, first_among, first_fault, found_by};
-ghost use Rattle.ot_fault.specs.Walk.{IsProfile, told_by, walk, step_by, walk_on, in_bodies};
+ghost use Rattle.ot_fault.specs.Walk.{told_by, walk, step_by, walk_on, in_bodies};
 ghost use Rattle.ot_fault.specs.declared.why.Wanted.TheVariants.{Program};
 
 use crate::look::Look;
@@ -16,7 +16,8 @@ use crate::own::Tally;
 use crate::why::{Count, First, Wanted, Why};
 use ot_mixed::mixed_in;
 use ot_model::ArrayShape;
-use ot_place::{Profile, Text, Trail, Turn, letters, read_profile, size_of, text_of};
+use ot_place::{Text, Trail, Turn, letters, size_of, text_of};
+use ot_program::{Profile, read_profile};
 use serde_json::Value;
 use std::alloc::{AllocError, Global};
 
@@ -162,9 +163,9 @@ pub(crate) struct Turns<'a> {
 
 impl Finder<'_> {
     fn program<'a>(&self, shows: &'a Value, body: &'a Value) -> Result<Step<'a>, AllocError>
-        ensures { (defined : Defined) → IsProfile self.now.profile defined → IfOk result (λ step. step_by step
+        ensures { IfOk result (λ step. step_by step
             ≡ walk (shape_of self.now.arrays.now self.now.tasks) 0 (counts_of (total (shape_of self.now.arrays.now self.now.tasks) []))
-            (in_copy (program_copy defined (view shows.now) (view body.now)))) }
+            (in_copy (program_copy self.now.profile (view shows.now) (view body.now)))) }
     {
         let root = Trail::Root;
         let passed = Passed {
@@ -186,8 +187,8 @@ impl Finder<'_> {
         level: u32,
         passed: Passed,
     ) -> Result<Step<'a>, AllocError>
-        ensures { (defined : Defined) (nested : ℕ) → IsProfile self.now.profile defined → level ≡ short nested → IfOk result (λ step. step_by step ≡ walk_on self.now passed
-            (in_order (copies defined nested (view body.now) (bindings_of trail.now)))) }
+        ensures { (nested : ℕ) → level ≡ short nested → IfOk result (λ step. step_by step ≡ walk_on self.now passed
+            (in_order (copies self.now.profile nested (view body.now) (bindings_of trail.now)))) }
     {
         match body {
             Value::Array(items) => self.items(items, &*trail, level, passed),
@@ -203,8 +204,8 @@ impl Finder<'_> {
         level: u32,
         passed: Passed,
     ) -> Result<Step<'a>, AllocError>
-        ensures { (defined : Defined) (nested : ℕ) → IsProfile self.now.profile defined → level ≡ short nested → IfOk result (λ step. step_by step ≡ walk_on self.now passed
-            (in_order (copies_of defined nested (items_view items.now) (bindings_of trail.now)))) }
+        ensures { (nested : ℕ) → level ≡ short nested → IfOk result (λ step. step_by step ≡ walk_on self.now passed
+            (in_order (copies_of self.now.profile nested (items_view items.now) (bindings_of trail.now)))) }
     {
         let mut passed = passed;
         for item in items {
@@ -225,8 +226,8 @@ impl Finder<'_> {
         level: u32,
         passed: Passed,
     ) -> Result<Step<'a>, AllocError>
-        ensures { (defined : Defined) (nested : ℕ) → IsProfile self.now.profile defined → level ≡ short nested → IfOk result (λ step. step_by step ≡ walk_on self.now passed
-            (in_copy (copy defined nested (view statement.now) (bindings_of trail.now)))) }
+        ensures { (nested : ℕ) → level ≡ short nested → IfOk result (λ step. step_by step ≡ walk_on self.now passed
+            (in_copy (copy self.now.profile nested (view statement.now) (bindings_of trail.now)))) }
     {
         let text = text_of(self.profile, statement);
         match self.enter(text, &*trail, level, passed)? {
@@ -244,8 +245,8 @@ impl Finder<'_> {
         level: u32,
         passed: Passed,
     ) -> Result<Step<'a>, AllocError>
-        ensures { (defined : Defined) (nested : ℕ) → IsProfile self.now.profile defined → level ≡ short nested → IfOk result (λ step. step_by step ≡ walk_on self.now passed
-            (in_bodies defined nested (bindings_of trail.now) (text_by defined text.entry))) }
+        ensures { (nested : ℕ) → level ≡ short nested → IfOk result (λ step. step_by step ≡ walk_on self.now passed
+            (in_bodies self.now.profile nested (bindings_of trail.now) (text_by self.now.profile text.entry))) }
     {
         let inner = level.saturating_add(1);
         match text {
@@ -277,9 +278,9 @@ impl Finder<'_> {
         level: u32,
         passed: Passed,
     ) -> Result<Step<'a>, AllocError>
-        ensures { (defined : Defined) (nested : ℕ) → IsProfile self.now.profile defined → level ≡ short nested → IfOk result (λ step. step_by step ≡ walk_on self.now passed
+        ensures { (nested : ℕ) → level ≡ short nested → IfOk result (λ step. step_by step ≡ walk_on self.now passed
             (in_order (each_turn nested (bindings_of trail.now)
-            (λ n. copies defined (nested + 1) (view body.now) ((turns.entry.variable.now, n) ∷ bindings_of trail.now))
+            (λ n. copies self.now.profile (nested + 1) (view body.now) ((turns.entry.variable.now, n) ∷ bindings_of trail.now))
             turns.entry.from (turns.entry.behind - turns.entry.from)))) }
     {
         let mut passed = passed;
@@ -305,9 +306,9 @@ impl Finder<'_> {
         level: u32,
         passed: Passed,
     ) -> Result<Step<'a>, AllocError>
-        ensures { (defined : Defined) (nested : ℕ) → IsProfile self.now.profile defined → level ≡ short nested → IfOk result (λ step. step_by step ≡ walk_on self.now passed
+        ensures { (nested : ℕ) → level ≡ short nested → IfOk result (λ step. step_by step ≡ walk_on self.now passed
             (in_copy (at nested (bindings_of trail.now) OneTurn
-            (copies defined (nested + 1) (view body.now) ((turn.entry.name.now, turn.entry.number) ∷ bindings_of trail.now)) Done))) }
+            (copies self.now.profile (nested + 1) (view body.now) ((turn.entry.name.now, turn.entry.number) ∷ bindings_of trail.now)) Done))) }
     {
         match self.enter(Text::Turn, &*trail, level, passed)? {
             Step::Passed(passed) => {
@@ -326,8 +327,8 @@ impl Finder<'_> {
         level: u32,
         passed: Passed,
     ) -> Result<Step<'a>, AllocError>
-        ensures { (defined : Defined) (nested : ℕ) → IsProfile self.now.profile defined → level ≡ short nested → IfOk result (λ step. step_by step ≡ walk_on self.now passed
-            (record { level = nested; variables = bindings_of trail.now; text = text_by defined text.entry } ∷ [])) }
+        ensures { (nested : ℕ) → level ≡ short nested → IfOk result (λ step. step_by step ≡ walk_on self.now passed
+            (record { level = nested; variables = bindings_of trail.now; text = text_by self.now.profile text.entry } ∷ [])) }
     {
         let look = Look {
             arrays: self.arrays,
@@ -357,10 +358,10 @@ impl Finder<'_> {
         text: Text<'a>,
         trail: &Trail<'_, 'a>,
     ) -> Result<Option<Why<'a>>, AllocError>
-        ensures { (defined : Defined) (level : ℕ) → IsProfile self.now.profile defined
-            → (option_map why_by told.entry ≡ None → text_whys (shape_of self.now.arrays.now self.now.tasks) level (bindings_of trail.now) (text_by defined text.entry) ≡ [])
+        ensures { (level : ℕ)
+            → (option_map why_by told.entry ≡ None → text_whys (shape_of self.now.arrays.now self.now.tasks) level (bindings_of trail.now) (text_by self.now.profile text.entry) ≡ [])
             → IfOk result (λ why. option_map why_by why ≡ after (option_map why_by told.entry)
-            (mixed_whys (shape_of self.now.arrays.now self.now.tasks) (bindings_of trail.now) (text_by defined text.entry))) }
+            (mixed_whys (shape_of self.now.arrays.now self.now.tasks) (bindings_of trail.now) (text_by self.now.profile text.entry))) }
     {
         match told {
             Some(why) => Ok(Some(why)),
@@ -374,10 +375,10 @@ impl Finder<'_> {
         text: Text<'a>,
         trail: &Trail<'_, 'a>,
     ) -> Result<Option<Why<'a>>, AllocError>
-        ensures { (defined : Defined) (level : ℕ) → IsProfile self.now.profile defined
-            → text_whys (shape_of self.now.arrays.now self.now.tasks) level (bindings_of trail.now) (text_by defined text.entry) ≡ []
+        ensures { (level : ℕ)
+            → text_whys (shape_of self.now.arrays.now self.now.tasks) level (bindings_of trail.now) (text_by self.now.profile text.entry) ≡ []
             → IfOk result (λ why. option_map why_by why
-            ≡ after None (mixed_whys (shape_of self.now.arrays.now self.now.tasks) (bindings_of trail.now) (text_by defined text.entry))) }
+            ≡ after None (mixed_whys (shape_of self.now.arrays.now self.now.tasks) (bindings_of trail.now) (text_by self.now.profile text.entry))) }
     {
         match text {
             Text::Task(clauses, _) => {

@@ -5,15 +5,15 @@ ghost use Rattle.serde_json.specs.View.{view, items_view};
 ghost use Rattle.ot_program.specs.Copies.{IfText, ForText, TaskText};
 ghost use Rattle.ot_program.specs.Limits.{cells_in, own_tally, with_value, tally};
 ghost use Rattle.ot_program.specs.Meanings.{items, each, fold_of, section, value, clause, wait_clause};
-ghost use Rattle.ot_place.specs.Texts.{Profile as Defined, text_by};
+ghost use Rattle.ot_place.specs.Texts.{text_by};
 ghost use Rattle.ot_fault.specs.Whys.{after, long, is_depend, is_mode, no_list, name_whys, fold_whys, red_whys, clause_whys, wait_clause_whys, section_whys, list_whys, nested, target_whys, group_whys, text_whys, counts_of};
-ghost use Rattle.ot_fault.specs.Walk.{IsProfile, told_by, shape_by, variables_by, counts_with, measure_of};
+ghost use Rattle.ot_fault.specs.Walk.{told_by, shape_by, variables_by, counts_with, measure_of};
 
 use crate::look::{Look, Measure};
 use crate::why::{First, Wanted, Why};
 use ot_model::Fold;
-use ot_place::{Profile, Text, size_of};
-use ot_program::is_word;
+use ot_place::{Text, size_of};
+use ot_program::{Profile, is_word};
 use serde_json::Value;
 
 const MAX_NESTING: u32 = 16;
@@ -133,10 +133,8 @@ impl<'a> Look<'_, '_, 'a> {
         level: u32,
         text: Text<'a>,
     ) -> Tally
-        ensures counts { (defined : Defined) → IsProfile profile defined
-            → result ≡ counts_of (own_tally (shape_by self.now) (variables_by self.now) (text_by defined text.entry)) }
-        ensures first { (defined : Defined) → IsProfile profile defined
-            → told_by first.new ≡ after (told_by first.old) (text_whys (shape_by self.now) level (variables_by self.now) (text_by defined text.entry)) }
+        ensures counts { result ≡ counts_of (own_tally (shape_by self.now) (variables_by self.now) (text_by profile text.entry)) }
+        ensures first { told_by first.new ≡ after (told_by first.old) (text_whys (shape_by self.now) level (variables_by self.now) (text_by profile text.entry)) }
     {
         match text {
             Text::Set(cell, value) => self.target(first, cell, value),
@@ -239,11 +237,9 @@ impl<'a> Look<'_, '_, 'a> {
         clauses: &'a Value,
         body: &'a Value,
     ) -> Tally
-        ensures counts { (defined : Defined) → IsProfile profile defined
-            → result ≡ counts_of (own_tally (shape_by self.now) (variables_by self.now) (TaskText defined (view clauses.now) (view body.now))) }
-        ensures first { (defined : Defined) → IsProfile profile defined
-            → told_by first.new ≡ after (told_by first.old)
-            (text_whys (shape_by self.now) level (variables_by self.now) (TaskText defined (view clauses.now) (view body.now))) }
+        ensures counts { result ≡ counts_of (own_tally (shape_by self.now) (variables_by self.now) (TaskText profile (view clauses.now) (view body.now))) }
+        ensures first { told_by first.new ≡ after (told_by first.old)
+            (text_whys (shape_by self.now) level (variables_by self.now) (TaskText profile (view clauses.now) (view body.now))) }
     {
         let cells = self.clauses(first, profile, clauses);
         first.list(body);
@@ -306,10 +302,8 @@ impl<'a> Look<'_, '_, 'a> {
     }
 
     fn clauses(&self, first: &mut First<'a>, profile: Profile, clauses: &'a Value) -> u64
-        ensures cells { (defined : Defined) → IsProfile profile defined
-            → result ≡ long (cells_in (map (λ c. c.section) (map (clause (shape_by self.now) defined (variables_by self.now)) (items (view clauses.now))))) }
-        ensures first { (defined : Defined) → IsProfile profile defined
-            → told_by first.new ≡ after (told_by first.old) (list_whys (clause_whys (shape_by self.now) defined (variables_by self.now)) (view clauses.now)) }
+        ensures cells { result ≡ long (cells_in (map (λ c. c.section) (map (clause (shape_by self.now) profile (variables_by self.now)) (items (view clauses.now))))) }
+        ensures first { told_by first.new ≡ after (told_by first.old) (list_whys (clause_whys (shape_by self.now) profile (variables_by self.now)) (view clauses.now)) }
     {
         first.list(clauses);
         match clauses {
@@ -319,10 +313,8 @@ impl<'a> Look<'_, '_, 'a> {
     }
 
     fn each_clause(&self, first: &mut First<'a>, profile: Profile, items: &'a [Value]) -> u64
-        ensures cells { (defined : Defined) → IsProfile profile defined
-            → result ≡ long (cells_in (map (λ c. c.section) (map (clause (shape_by self.now) defined (variables_by self.now)) (each (items_view items.now))))) }
-        ensures first { (defined : Defined) → IsProfile profile defined
-            → told_by first.new ≡ after (told_by first.old) (flat_map (clause_whys (shape_by self.now) defined (variables_by self.now)) (each (items_view items.now))) }
+        ensures cells { result ≡ long (cells_in (map (λ c. c.section) (map (clause (shape_by self.now) profile (variables_by self.now)) (each (items_view items.now))))) }
+        ensures first { told_by first.new ≡ after (told_by first.old) (flat_map (clause_whys (shape_by self.now) profile (variables_by self.now)) (each (items_view items.now))) }
     {
         let mut cells: u64 = 0;
         for item in items {
@@ -333,10 +325,8 @@ impl<'a> Look<'_, '_, 'a> {
 
     /// `[word, section]`, `["red", op, section]`
     fn clause(&self, first: &mut First<'a>, profile: Profile, part: &'a Value) -> u64
-        ensures len { (defined : Defined) → IsProfile profile defined
-            → result ≡ (clause (shape_by self.now) defined (variables_by self.now) (view part.now)).section.len }
-        ensures first { (defined : Defined) → IsProfile profile defined
-            → told_by first.new ≡ after (told_by first.old) (clause_whys (shape_by self.now) defined (variables_by self.now) (view part.now)) }
+        ensures len { result ≡ (clause (shape_by self.now) profile (variables_by self.now) (view part.now)).section.len }
+        ensures first { told_by first.new ≡ after (told_by first.old) (clause_whys (shape_by self.now) profile (variables_by self.now) (view part.now)) }
     {
         match part {
             Value::Array(items) => self.clause_of_items(first, profile, items, part),
@@ -355,10 +345,8 @@ impl<'a> Look<'_, '_, 'a> {
         part: &'a Value,
     ) -> u64
         requires { view part.now ≡ array (items_view items.now) }
-        ensures len { (defined : Defined) → IsProfile profile defined
-            → result ≡ (clause (shape_by self.now) defined (variables_by self.now) (array (items_view items.now))).section.len }
-        ensures first { (defined : Defined) → IsProfile profile defined
-            → told_by first.new ≡ after (told_by first.old) (clause_whys (shape_by self.now) defined (variables_by self.now) (array (items_view items.now))) }
+        ensures len { result ≡ (clause (shape_by self.now) profile (variables_by self.now) (array (items_view items.now))).section.len }
+        ensures first { told_by first.new ≡ after (told_by first.old) (clause_whys (shape_by self.now) profile (variables_by self.now) (array (items_view items.now))) }
     {
         if items.len() == 2 {
             return self.clause_of_two(first, profile, items, part);
@@ -379,10 +367,8 @@ impl<'a> Look<'_, '_, 'a> {
     ) -> u64
         requires part { view part.now ≡ array (items_view items.now) }
         requires two { length items.now ≡ 2 }
-        ensures len { (defined : Defined) → IsProfile profile defined
-            → result ≡ (clause (shape_by self.now) defined (variables_by self.now) (array (items_view items.now))).section.len }
-        ensures first { (defined : Defined) → IsProfile profile defined
-            → told_by first.new ≡ after (told_by first.old) (clause_whys (shape_by self.now) defined (variables_by self.now) (array (items_view items.now))) }
+        ensures len { result ≡ (clause (shape_by self.now) profile (variables_by self.now) (array (items_view items.now))).section.len }
+        ensures first { told_by first.new ≡ after (told_by first.old) (clause_whys (shape_by self.now) profile (variables_by self.now) (array (items_view items.now))) }
     {
         match items {
             [tag, section] => {
@@ -402,10 +388,8 @@ impl<'a> Look<'_, '_, 'a> {
     ) -> u64
         requires part { view part.now ≡ array (items_view items.now) }
         requires three { length items.now ≡ 3 }
-        ensures len { (defined : Defined) → IsProfile profile defined
-            → result ≡ (clause (shape_by self.now) defined (variables_by self.now) (array (items_view items.now))).section.len }
-        ensures first { (defined : Defined) → IsProfile profile defined
-            → told_by first.new ≡ after (told_by first.old) (clause_whys (shape_by self.now) defined (variables_by self.now) (array (items_view items.now))) }
+        ensures len { result ≡ (clause (shape_by self.now) profile (variables_by self.now) (array (items_view items.now))).section.len }
+        ensures first { told_by first.new ≡ after (told_by first.old) (clause_whys (shape_by self.now) profile (variables_by self.now) (array (items_view items.now))) }
     {
         match items {
             [tag, op, section] => match profile {
@@ -511,7 +495,7 @@ impl<'a> First<'a> {
 
 /// Whether a word is that of a clause without an operation.
 fn is_mode(profile: Profile, tag: &Value) -> bool
-    ensures { (defined : Defined) → IsProfile profile defined → result ≡ is_mode defined (view tag.now) }
+    ensures { result ≡ is_mode profile (view tag.now) }
 {
     is_depend(tag) || matches!(profile, Profile::One) && is_word(tag, "red")
 }

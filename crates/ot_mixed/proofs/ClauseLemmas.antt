@@ -16,7 +16,7 @@ use Rattle.ot_program.specs.Faults.{unless, deep, array_faults, size_faults, sec
 use Rattle.ot_program.specs.Limits.{size_depth}
 use Rattle.ot_program.specs.declared.fault.Refusal.{Refusal}
 use Rattle.ot_program.specs.declared.fault.Refusal.TheVariants.{Form, UnknownArray, OutOfRange, EmptySection}
-use Rattle.ot_place.specs.Texts.{Profile}
+use Rattle.ot_program.specs.declared.profile.Profile.{Profile}
 use Rattle.ot_mixed.specs.Rows.{Row, address, row_at, row_of, Fits, place_from}
 
 -- ---- no faults

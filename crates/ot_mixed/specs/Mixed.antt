@@ -7,7 +7,7 @@ use Rattle.ot_model.specs.declared.expr.Cell.{Cell}
 use Rattle.ot_program.specs.Meanings.{named_cells, is_mixed, items, Bindings, Clause, clause}
 use Rattle.ot_program.specs.Faults.{clause_faults}
 use Rattle.ot_program.specs.declared.fault.Refusal.{Refusal}
-use Rattle.ot_place.specs.Texts.{Profile}
+use Rattle.ot_program.specs.declared.profile.Profile.{Profile}
 
 -- the first of them, by array and then by index
 abbrev pub first_mixed : List Clause → Option Cell

@@ -6,8 +6,8 @@ ghost use Rattle.ot_model.specs.Programs.{Arrays, arrays_of};
 ghost use Rattle.ot_model.specs.declared.fold.Fold.TheVariants.{Plus};
 ghost use Rattle.ot_program.specs.Faults.{section_faults, clause_faults};
 ghost use Rattle.ot_program.specs.Meanings.{section, clause, fold_of, is_word};
+ghost use Rattle.ot_program.specs.declared.profile.Profile.{Profile};
 ghost use Rattle.ot_place.specs.Spots.{bindings_of};
-ghost use Rattle.ot_place.specs.Texts.{Profile};
 ghost use Rattle.ot_mixed.specs.Rows.{row_at, row_of, row_by, Fits, place_from};
 
 use ot_model::{ArrayShape, Fold};

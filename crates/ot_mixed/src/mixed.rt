@@ -2,13 +2,13 @@
 ghost use Rattle.std.specs.Prelude.{◌≡◌, [], ◌++◌, map, flat_map, Some, None, option_map, IfOk, OnOk};
 ghost use Rattle.std.specs.Option.{option_to_list};
 ghost use Rattle.std.specs.List.{AllByRecursion};
-ghost use Rattle.serde_json.specs.Data.{Data, array};
+ghost use Rattle.serde_json.specs.Data.{array};
 ghost use Rattle.serde_json.specs.View.{view, items_view};
 ghost use Rattle.ot_model.specs.Programs.{Arrays, arrays_of};
 ghost use Rattle.ot_program.specs.Faults.{clause_faults};
-ghost use Rattle.ot_program.specs.Meanings.{each, clause, profile_of};
+ghost use Rattle.ot_program.specs.Meanings.{each, clause};
+ghost use Rattle.ot_program.specs.declared.profile.Profile.{Profile};
 ghost use Rattle.ot_place.specs.Spots.{bindings_of};
-ghost use Rattle.ot_place.specs.Texts.{Profile};
 ghost use Rattle.ot_mixed.specs.Mixed.{mixed_of, faults_of, named_by};
 ghost use Rattle.ot_mixed.specs.Rows.{row_of, row_by, Fits, same_operation, sweep};
 
@@ -26,8 +26,7 @@ pub fn mixed_in<'a>(
     clauses: &'a Value,
     trail: &Trail<'_, 'a>,
 ) -> Result<Option<(&'a str, u32)>, AllocError>
-    ensures { (shape : Arrays) (profile : Profile) (word : Data) → shape.arrays ≡ arrays_of arrays.now → profile_of word ≡ Some profile
-        → faults_of shape profile (bindings_of trail.now) (view clauses.now) ≡ []
+    ensures { (shape : Arrays) (profile : Profile) → shape.arrays ≡ arrays_of arrays.now → faults_of shape profile (bindings_of trail.now) (view clauses.now) ≡ []
         → IfOk result (λ found. option_map named_by found ≡ mixed_of shape profile (bindings_of trail.now) (view clauses.now)) }
 {
     match clauses {

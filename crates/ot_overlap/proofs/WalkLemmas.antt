@@ -7,7 +7,8 @@ use Rattle.serde_json.specs.View.{view, items_view}
 use Rattle.serde_json.specs.declared.value.Value.{Value}
 use Rattle.ot_program.specs.Copies.{Copies, Done, Turn, at, turns, copies, copies_of, copy}
 use Rattle.ot_program.specs.Meanings.{Bindings, each, letters, size}
-use Rattle.ot_place.specs.Texts.{Profile, text_by, text_at, first_copies, second_copies, copy_by}
+use Rattle.ot_program.specs.declared.profile.Profile.{Profile}
+use Rattle.ot_place.specs.Texts.{text_by, text_at, first_copies, second_copies, copy_by}
 use Rattle.ot_place.specs.declared.text.Text.{Text as CodeText}
 use Rattle.ot_place.specs.declared.text.Text.TheVariants as t
 use Rattle.ot_place.proofs.CopyLemmas.{copy_is}

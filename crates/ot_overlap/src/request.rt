@@ -12,7 +12,7 @@ use crate::names::Names;
 use crate::order::writers_first;
 use crate::walk::{Met, Walk};
 use ot_model::ArrayShape;
-use ot_place::read_profile;
+use ot_program::read_profile;
 use serde_json::Value;
 use std::alloc::{AllocError, Global};
 

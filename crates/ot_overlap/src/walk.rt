@@ -3,7 +3,8 @@ ghost use Rattle.std.specs.Prelude.{◌≡◌, ℕ, ◌+◌, ◌-◌, ◌∷◌,
 ghost use Rattle.serde_json.specs.View.{view, items_view};
 ghost use Rattle.ot_program.specs.Copies.{copies, copies_of, copy, turns as each_turn, at, Done, Turn as OneTurn};
 ghost use Rattle.ot_program.specs.Programs.{program_copy};
-ghost use Rattle.ot_place.specs.Texts.{Profile as Defined, Stands, text_by, first_copies, second_copies};
+ghost use Rattle.ot_program.specs.declared.profile.Profile.{Profile as Defined};
+ghost use Rattle.ot_place.specs.Texts.{text_by, first_copies, second_copies};
 ghost use Rattle.ot_place.specs.Spots.{bindings_of};
 ghost use Rattle.ot_overlap.specs.Items.{met_at, met_one, met_in, task_of, region_of, item_of, sections_at, sections_in, sections_among, section_as};
 ghost use Rattle.ot_overlap.specs.View.{met_by, ground_by};
@@ -11,7 +12,8 @@ ghost use Rattle.ot_overlap.specs.View.{met_by, ground_by};
 use crate::clause::{depends, is_iterated, section_of, writes};
 use crate::item::{Item, note_items};
 use crate::names::Names;
-use ot_place::{Profile, Text, Trail, Turn, letters, size_of, text_of};
+use ot_place::{Text, Trail, Turn, letters, size_of, text_of};
+use ot_program::Profile;
 use serde_json::Value;
 use std::alloc::AllocError;
 
@@ -46,8 +48,8 @@ impl Walk<'_, '_> {
         body: &'a Value,
         met: &mut Met,
     ) -> Result<(), AllocError>
-        ensures { (defined : Defined) → Stands self.now.profile defined → OnOk result (met_by met.new
-            ≡ met_one (ground_by self.now) 0 (program_copy defined (view shows.now) (view body.now)) (met_by met.old)) }
+        ensures { OnOk result (met_by met.new
+            ≡ met_one (ground_by self.now) 0 (program_copy self.now.profile (view shows.now) (view body.now)) (met_by met.old)) }
     {
         let root = Trail::Root;
         self.enter(&Text::Program(shows, body), &root, 0, met)?;
@@ -63,8 +65,8 @@ impl Walk<'_, '_> {
         parent: u32,
         met: &mut Met,
     ) -> Result<(), AllocError>
-        ensures { (defined : Defined) (level : ℕ) → Stands self.now.profile defined → OnOk result (met_by met.new
-            ≡ met_in (ground_by self.now) parent (copies defined level (view body.now) (bindings_of trail.now)) (met_by met.old)) }
+        ensures { (level : ℕ) → OnOk result (met_by met.new
+            ≡ met_in (ground_by self.now) parent (copies self.now.profile level (view body.now) (bindings_of trail.now)) (met_by met.old)) }
     {
         match body {
             Value::Array(items) => self.items(items, &*trail, parent, met),
@@ -80,8 +82,8 @@ impl Walk<'_, '_> {
         parent: u32,
         met: &mut Met,
     ) -> Result<(), AllocError>
-        ensures { (defined : Defined) (level : ℕ) → Stands self.now.profile defined → OnOk result (met_by met.new
-            ≡ met_in (ground_by self.now) parent (copies_of defined level (items_view items.now) (bindings_of trail.now)) (met_by met.old)) }
+        ensures { (level : ℕ) → OnOk result (met_by met.new
+            ≡ met_in (ground_by self.now) parent (copies_of self.now.profile level (items_view items.now) (bindings_of trail.now)) (met_by met.old)) }
     {
         for item in items {
             self.statement(item, &*trail, parent, met)?;
@@ -98,8 +100,8 @@ impl Walk<'_, '_> {
         parent: u32,
         met: &mut Met,
     ) -> Result<(), AllocError>
-        ensures { (defined : Defined) (level : ℕ) → Stands self.now.profile defined → OnOk result (met_by met.new
-            ≡ met_one (ground_by self.now) parent (copy defined level (view statement.now) (bindings_of trail.now)) (met_by met.old)) }
+        ensures { (level : ℕ) → OnOk result (met_by met.new
+            ≡ met_one (ground_by self.now) parent (copy self.now.profile level (view statement.now) (bindings_of trail.now)) (met_by met.old)) }
     {
         let text = text_of(self.profile, statement);
         let task = task_of(parent, met.entries, &text);
@@ -116,9 +118,9 @@ impl Walk<'_, '_> {
         task: u32,
         met: &mut Met,
     ) -> Result<(), AllocError>
-        ensures { (defined : Defined) (level : ℕ) → Stands self.now.profile defined → OnOk result (met_by met.new
-            ≡ met_in (ground_by self.now) task (second_copies defined level (bindings_of trail.now) (text_by defined text.entry))
-            (met_in (ground_by self.now) task (first_copies defined level (bindings_of trail.now) (text_by defined text.entry)) (met_by met.old))) }
+        ensures { (level : ℕ) → OnOk result (met_by met.new
+            ≡ met_in (ground_by self.now) task (second_copies self.now.profile level (bindings_of trail.now) (text_by self.now.profile text.entry))
+            (met_in (ground_by self.now) task (first_copies self.now.profile level (bindings_of trail.now) (text_by self.now.profile text.entry)) (met_by met.old))) }
     {
         match text {
             Text::If(_, one, two) => {
@@ -149,9 +151,9 @@ impl Walk<'_, '_> {
         parent: u32,
         met: &mut Met,
     ) -> Result<(), AllocError>
-        ensures { (defined : Defined) (level : ℕ) → Stands self.now.profile defined → OnOk result (met_by met.new
+        ensures { (level : ℕ) → OnOk result (met_by met.new
             ≡ met_in (ground_by self.now) parent (each_turn level (bindings_of trail.now)
-            (λ n. copies defined (level + 1) (view body.now) ((turns.entry.variable.now, n) ∷ bindings_of trail.now))
+            (λ n. copies self.now.profile (level + 1) (view body.now) ((turns.entry.variable.now, n) ∷ bindings_of trail.now))
             turns.entry.first (turns.entry.behind - turns.entry.first)) (met_by met.old)) }
     {
         for number in turns.first..turns.behind {
@@ -173,9 +175,9 @@ impl Walk<'_, '_> {
         parent: u32,
         met: &mut Met,
     ) -> Result<(), AllocError>
-        ensures { (defined : Defined) (level : ℕ) → Stands self.now.profile defined → OnOk result (met_by met.new
+        ensures { (level : ℕ) → OnOk result (met_by met.new
             ≡ met_one (ground_by self.now) parent (at level (bindings_of trail.now) OneTurn
-            (copies defined (level + 1) (view body.now) ((turn.entry.name.now, turn.entry.number) ∷ bindings_of trail.now)) Done) (met_by met.old)) }
+            (copies self.now.profile (level + 1) (view body.now) ((turn.entry.name.now, turn.entry.number) ∷ bindings_of trail.now)) Done) (met_by met.old)) }
     {
         self.enter(&Text::Turn, trail, parent, met)?;
         let inner = Trail::Turn(turn, &*trail);

@@ -6,9 +6,10 @@ use Rattle.serde_json.specs.View.{view}
 use Rattle.serde_json.specs.declared.value.Value.{Value}
 use Rattle.ot_program.specs.Copies.{Text, turns, copies, copy}
 use Rattle.ot_program.specs.Meanings.{Bindings, letters, size}
+use Rattle.ot_program.specs.declared.profile.Profile.{Profile}
 use Rattle.ot_place.specs.Spots.{Path, Spot, spot, spots, in_body, in_turns}
 use Rattle.ot_place.specs.Seeking.{Sought, Skipped, Met, seek, step_by, bodies_in}
-use Rattle.ot_place.specs.Texts.{Profile, text_by, text_at, first_copies, second_copies, copy_by}
+use Rattle.ot_place.specs.Texts.{text_by, text_at, first_copies, second_copies, copy_by}
 use Rattle.ot_place.specs.declared.text.Text.{Text as CodeText}
 use Rattle.ot_place.specs.declared.text.Text.TheVariants as t
 use Rattle.ot_place.specs.declared.walk.Step.{Step}

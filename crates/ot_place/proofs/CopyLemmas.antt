@@ -5,7 +5,8 @@ use Rattle.serde_json.specs.View.{view, items_view}
 use Rattle.serde_json.specs.declared.value.Value.{Value, Array, the_lemmas}
 use Rattle.ot_program.specs.Copies.{Text, SetText, AddText, FoldText, IfText, ForText, TaskText, WaitText, WaitForText, GroupText, GroupByText, NoForm, Copy, copies, copies_of, copy, at, Done, Then}
 use Rattle.ot_program.specs.Meanings.{Bindings, is_word, is_one, is_two}
-use Rattle.ot_place.specs.Texts.{Profile, of_one, of_two, of_three, of_four, of_five, text_at, copy_by}
+use Rattle.ot_program.specs.declared.profile.Profile.{Profile}
+use Rattle.ot_place.specs.Texts.{of_one, of_two, of_three, of_four, of_five, text_at, copy_by}
 
 copy_if : (profile : Profile) (level : ℕ) (variables : Bindings) (b : Bool) (x y : Copy) (t u : Text)
     → x ≡ copy_by profile level variables t → y ≡ copy_by profile level variables u

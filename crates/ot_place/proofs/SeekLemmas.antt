@@ -6,7 +6,7 @@ use Rattle.serde_json.specs.View.{view, items_view}
 use Rattle.serde_json.specs.declared.value.Value.{Value}
 use Rattle.ot_program.specs.Copies.{Text, Copies, Done, Turn, at, turns, copies_of, copy}
 use Rattle.ot_program.specs.Meanings.{Bindings}
-use Rattle.ot_place.specs.Texts.{Profile}
+use Rattle.ot_program.specs.declared.profile.Profile.{Profile}
 use Rattle.ot_place.specs.Spots.{Path, Spot, spots, in_body, in_turns}
 use Rattle.ot_place.specs.Seeking.{Sought, Skipped, Met, meet, seek}
 

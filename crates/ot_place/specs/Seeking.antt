@@ -1,5 +1,5 @@
 -- One spot after the other, until the one that is sought.
-use Rattle.std.specs.Prelude.{ℕ, [], zero, suc, ◌+◌, Bool, true, if◌then◌else◌, List, ◌∷◌, ◌++◌, Option, Some, None, map}
+use Rattle.std.specs.Prelude.{ℕ, [], zero, suc, Bool, true, if◌then◌else◌, List, ◌∷◌, ◌++◌, Option, Some, None, map}
 use Rattle.ot_program.specs.Copies.{Text, Copies}
 use Rattle.ot_program.specs.Meanings.{Bindings}
 use Rattle.ot_place.specs.declared.walk.Step.{Step}

@@ -7,7 +7,6 @@ use Rattle.ot_program.specs.Programs.{program_copy}
 use Rattle.ot_place.specs.declared.trail.Trail.{Trail}
 use Rattle.ot_place.specs.declared.trail.Trail.TheVariants as t
 use Rattle.ot_place.specs.declared.trail.Turn as turns
-use Rattle.ot_place.specs.declared.walk.Step.TheVariants as s
 use Rattle.ot_place.specs.declared.trail.Place.{Place}
 
 -- Indices into lists, from the outermost on and from 0: 1 ∷ 2 ∷ [] is the third item of the second.

@@ -1,34 +1,14 @@
 -- The parts of a statement as they stand in the text, and the copy of it.
-use Rattle.std.specs.Prelude.{◌≡◌, ℕ, max, Bool, true, false, ◌+◌, ◌-◌, ◌∷◌, ◌&&◌, if◌then◌else◌, codes}
+use Rattle.std.specs.Prelude.{ℕ, max, ◌+◌, ◌-◌, ◌∷◌, ◌&&◌, if◌then◌else◌, codes}
 use Rattle.serde_json.specs.Data.{Data, array, no_items, item, depth}
 use Rattle.serde_json.specs.View.{view}
 use Rattle.ot_program.specs.Copies.{Text, SetText, AddText, FoldText, IfText, ForText, Turn, TaskText, WaitText, WaitForText, GroupText, GroupByText, ProgramText, NoForm, Copy, Copies, Done, at, turns, copies}
 use Rattle.ot_program.specs.Meanings.{letters, Bindings, size, is_word, is_one, is_two}
+use Rattle.ot_program.specs.declared.profile.Profile.{Profile}
 use Rattle.ot_place.specs.declared.text.Text.{Text as CodeText}
 use Rattle.ot_place.specs.declared.text.Text.TheVariants as t
-use Rattle.ot_place.specs.declared.text.Profile.{Profile as CodeProfile}
-use Rattle.ot_place.specs.declared.text.Profile.TheVariants as p
 
 -- ---- what the code's values stand for
-
--- what a function takes
-abbrev pub Taken : {A B : Type 0} → (A → B) → Type 0
-Taken {A} f = A
-
-abbrev pub Profile : Type 0
-Profile = Taken is_two
-
-abbrev pub is_first : CodeProfile → Bool
-is_first p.One = true
-is_first p.Two = false
-
-abbrev pub is_second : CodeProfile → Bool
-is_second p.One = false
-is_second p.Two = true
-
--- the code's profile is this one
-abbrev pub Stands : CodeProfile → Profile → Type 0
-Stands code profile = (is_one profile ≡ is_first code) × (is_two profile ≡ is_second code)
 
 abbrev pub text_by : Profile → CodeText → Text
 text_by profile (t.Set a b) = SetText (view a.now) (view b.now)

@@ -9,6 +9,6 @@ mod walk;
 
 pub use place::{entry_of, place_of, value_at};
 pub use size::{exact, sign_of, size_of};
-pub use text::{Profile, Text, read_profile, text_of};
+pub use text::{Text, text_of};
 pub use trail::{Place, Trail, Turn};
 pub use walk::letters;

@@ -6,9 +6,9 @@ ghost use Rattle.ot_program.specs.Meanings.{items};
 ghost use Rattle.ot_place.specs.Spots.{spots_of, statements_of, numbered, place_at, value_at, text_spots, program_spots, place_by};
 ghost use Rattle.ot_place.specs.Seeking.{seek, met_in, counts_by};
 
-use crate::text::read_profile;
 use crate::trail::{Place, Trail};
 use crate::walk::{Step, Walk, Which};
+use ot_program::read_profile;
 use serde_json::Value;
 use std::alloc::{AllocError, Global};
 

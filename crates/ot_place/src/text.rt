@@ -2,50 +2,11 @@
 ghost use Rattle.std.specs.Prelude.{◌≡◌, ◌≤◌, ◌&&◌, max, Some, None, MatchOption};
 ghost use Rattle.serde_json.specs.Data.{array, depth, items_depth};
 ghost use Rattle.serde_json.specs.View.{view, items_view};
-ghost use Rattle.ot_program.specs.Meanings.{profile_of, is_one, is_two, is_word};
-ghost use Rattle.ot_place.specs.Texts.{Profile as Defined, Stands, text_by, depth_of, text_at, of_one, of_two, of_three, of_four, of_five};
+ghost use Rattle.ot_program.specs.declared.profile.Profile.{Profile as Defined};
+ghost use Rattle.ot_place.specs.Texts.{text_by, depth_of, text_at, of_one, of_two, of_three, of_four, of_five};
 
-use ot_program::is_word;
+use ot_program::{Profile, is_word};
 use serde_json::Value;
-
-/// Which forms a program has.
-#[derive(Clone, Copy, Debug, PartialEq, Eq)]
-pub enum Profile {
-    /// Those of a `program`.
-    One,
-    /// Those of a `program2`.
-    Two,
-}
-
-impl Profile {
-    /// Whether a value is a word that profile 1 alone has for its form, in that profile.
-    fn one_has(self, value: &Value, word: &str) -> bool
-        ensures { (defined : Defined) → Stands self defined → result ≡ is_one defined && is_word (view value.now) word.now }
-    {
-        matches!(self, Profile::One) && is_word(value, word)
-    }
-
-    /// The same of profile 2.
-    fn two_has(self, value: &Value, word: &str) -> bool
-        ensures { (defined : Defined) → Stands self defined → result ≡ is_two defined && is_word (view value.now) word.now }
-    {
-        matches!(self, Profile::Two) && is_word(value, word)
-    }
-}
-
-/// The profile that a program's first word names.
-pub fn read_profile(tag: &Value) -> Option<Profile>
-    ensures { MatchOption result (profile_of (view tag.now) ≡ None)
-        (λ read. (profile : Defined) × (profile_of (view tag.now) ≡ Some profile) × Stands read profile) }
-{
-    if is_word(tag, "program") {
-        return Some(Profile::One);
-    }
-    if is_word(tag, "program2") {
-        return Some(Profile::Two);
-    }
-    None
-}
 
 /// The parts of a statement behind its word.
 #[derive(Clone, Copy, Debug)]
@@ -71,7 +32,7 @@ pub enum Text<'a> {
 /// The form of a statement.
 #[tactic(auto, using(crate::proofs::CopyLemmas::no_text))]
 pub fn text_of<'a>(profile: Profile, statement: &'a Value) -> Text<'a>
-    ensures is { (defined : Defined) → Stands profile defined → text_by defined result ≡ text_at defined (view statement.now) }
+    ensures is { text_by profile result ≡ text_at profile (view statement.now) }
     ensures shallow { depth_of result ≤ depth (view statement.now) }
 {
     match statement {
@@ -82,7 +43,7 @@ pub fn text_of<'a>(profile: Profile, statement: &'a Value) -> Text<'a>
 
 #[tactic(auto, using(crate::proofs::CopyLemmas::texts))]
 fn text_of_items<'a>(profile: Profile, items: &'a [Value]) -> Text<'a>
-    ensures is { (defined : Defined) → Stands profile defined → text_by defined result ≡ text_at defined (array (items_view items.now)) }
+    ensures is { text_by profile result ≡ text_at profile (array (items_view items.now)) }
     ensures shallow { depth_of result ≤ items_depth (items_view items.now) }
 {
     if items.is_empty() || items.len() > 5 {
@@ -110,7 +71,7 @@ fn of_one<'a>(tag: &Value) -> Text<'a>
 }
 
 fn of_two<'a>(profile: Profile, tag: &Value, one: &'a Value) -> Text<'a>
-    ensures is { (defined : Defined) → Stands profile defined → text_by defined result ≡ of_two defined (view tag.now) (view one.now) }
+    ensures is { text_by profile result ≡ of_two profile (view tag.now) (view one.now) }
     ensures shallow { depth_of result ≡ 0 }
 {
     if profile.two_has(tag, "wait") {
@@ -121,7 +82,7 @@ fn of_two<'a>(profile: Profile, tag: &Value, one: &'a Value) -> Text<'a>
 }
 
 fn of_three<'a>(profile: Profile, tag: &Value, one: &'a Value, two: &'a Value) -> Text<'a>
-    ensures is { (defined : Defined) → Stands profile defined → text_by defined result ≡ of_three defined (view tag.now) (view one.now) (view two.now) }
+    ensures is { text_by profile result ≡ of_three profile (view tag.now) (view one.now) (view two.now) }
     ensures shallow { depth_of result ≤ depth (view two.now) }
 {
     if is_word(tag, "set") {
@@ -144,7 +105,7 @@ fn of_four<'a>(
     two: &'a Value,
     three: &'a Value,
 ) -> Text<'a>
-    ensures is { (defined : Defined) → Stands profile defined → text_by defined result ≡ of_four defined (view tag.now) (view one.now) (view two.now) (view three.now) }
+    ensures is { text_by profile result ≡ of_four profile (view tag.now) (view one.now) (view two.now) (view three.now) }
     ensures shallow { depth_of result ≤ max (depth (view two.now)) (depth (view three.now)) }
 {
     if profile.two_has(tag, "fold") {

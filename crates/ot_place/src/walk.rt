@@ -3,13 +3,15 @@ ghost use Rattle.std.specs.Prelude.{◌≡◌, ℕ, ◌+◌, ◌-◌, [], ◌∷
 ghost use Rattle.serde_json.specs.View.{view, items_view};
 ghost use Rattle.ot_program.specs.Copies.{copies, copies_of, copy, turns as each_turn, at, Done, Turn as OneTurn};
 ghost use Rattle.ot_program.specs.Programs.{program_copy};
+ghost use Rattle.ot_program.specs.declared.profile.Profile.{Profile as Defined};
 ghost use Rattle.ot_place.specs.Spots.{spot, spots, in_body, in_turns, path_of, bindings_of};
 ghost use Rattle.ot_place.specs.Seeking.{bodies_in, seek, step_by, counts_by};
-ghost use Rattle.ot_place.specs.Texts.{Profile as Defined, Stands, text_by, first_copies, second_copies};
+ghost use Rattle.ot_place.specs.Texts.{text_by, first_copies, second_copies};
 
 use crate::size::size_of;
-use crate::text::{Profile, Text, text_of};
+use crate::text::{Text, text_of};
 use crate::trail::{Place, Trail, Turn};
+use ot_program::Profile;
 use serde_json::Value;
 use std::alloc::{AllocError, Global};
 
@@ -55,8 +57,8 @@ impl Walk {
         body: &'a Value,
         left: u32,
     ) -> Result<Step<'a>, AllocError>
-        ensures { (defined : Defined) → Stands self.now.profile defined → IfOk result (λ step. step_by step ≡ seek (counts_by self.now.which) left
-            (spots (1 ∷ []) (program_copy defined (view shows.now) (view body.now)))) }
+        ensures { IfOk result (λ step. step_by step ≡ seek (counts_by self.now.which) left
+            (spots (1 ∷ []) (program_copy self.now.profile (view shows.now) (view body.now)))) }
     {
         let root = Trail::Root;
         let trail = Trail::Item(1, &root);
@@ -74,8 +76,8 @@ impl Walk {
         trail: &Trail<'_, 'a>,
         left: u32,
     ) -> Result<Step<'a>, AllocError>
-        ensures { (defined : Defined) (level : ℕ) → Stands self.now.profile defined → IfOk result (λ step. step_by step ≡ seek (counts_by self.now.which) left
-            (in_body (path_of trail.now) 0 (copies defined level (view body.now) (bindings_of trail.now)))) }
+        ensures { (level : ℕ) → IfOk result (λ step. step_by step ≡ seek (counts_by self.now.which) left
+            (in_body (path_of trail.now) 0 (copies self.now.profile level (view body.now) (bindings_of trail.now)))) }
     {
         match body {
             Value::Array(items) => self.items(items, &*trail, left),
@@ -90,8 +92,8 @@ impl Walk {
         trail: &Trail<'_, 'a>,
         left: u32,
     ) -> Result<Step<'a>, AllocError>
-        ensures { (defined : Defined) (level : ℕ) → Stands self.now.profile defined → IfOk result (λ step. step_by step ≡ seek (counts_by self.now.which) left
-            (in_body (path_of trail.now) 0 (copies_of defined level (items_view items.now) (bindings_of trail.now)))) }
+        ensures { (level : ℕ) → IfOk result (λ step. step_by step ≡ seek (counts_by self.now.which) left
+            (in_body (path_of trail.now) 0 (copies_of self.now.profile level (items_view items.now) (bindings_of trail.now)))) }
     {
         let mut left = left;
         for (index, item) in items.iter().enumerate() {
@@ -111,8 +113,8 @@ impl Walk {
         trail: &Trail<'_, 'a>,
         left: u32,
     ) -> Result<Step<'a>, AllocError>
-        ensures { (defined : Defined) (level : ℕ) → Stands self.now.profile defined → IfOk result (λ step. step_by step ≡ seek (counts_by self.now.which) left
-            (spots (path_of trail.now) (copy defined level (view statement.now) (bindings_of trail.now)))) }
+        ensures { (level : ℕ) → IfOk result (λ step. step_by step ≡ seek (counts_by self.now.which) left
+            (spots (path_of trail.now) (copy self.now.profile level (view statement.now) (bindings_of trail.now)))) }
     {
         let text = text_of(self.profile, statement);
         match self.visit(&text, trail, left)? {
@@ -128,8 +130,8 @@ impl Walk {
         trail: &Trail<'_, 'a>,
         left: u32,
     ) -> Result<Step<'a>, AllocError>
-        ensures { (defined : Defined) (level : ℕ) → Stands self.now.profile defined → IfOk result (λ step. step_by step ≡ seek (counts_by self.now.which) left
-            (spot (path_of trail.now) (record { level = level; variables = bindings_of trail.now; text = text_by defined text.now }) ∷ [])) }
+        ensures { (level : ℕ) → IfOk result (λ step. step_by step ≡ seek (counts_by self.now.which) left
+            (spot (path_of trail.now) (record { level = level; variables = bindings_of trail.now; text = text_by self.now.profile text.now }) ∷ [])) }
     {
         if !self.counts(text) {
             return Ok(Step::Skipped(left));
@@ -160,10 +162,10 @@ impl Walk {
         trail: &Trail<'_, 'a>,
         left: u32,
     ) -> Result<Step<'a>, AllocError>
-        ensures { (defined : Defined) (level : ℕ) → Stands self.now.profile defined → IfOk result (λ step. step_by step ≡ seek (counts_by self.now.which) left
-            (bodies_in (path_of trail.now) (text_by defined text.entry)
-            (first_copies defined level (bindings_of trail.now) (text_by defined text.entry))
-            (second_copies defined level (bindings_of trail.now) (text_by defined text.entry)))) }
+        ensures { (level : ℕ) → IfOk result (λ step. step_by step ≡ seek (counts_by self.now.which) left
+            (bodies_in (path_of trail.now) (text_by self.now.profile text.entry)
+            (first_copies self.now.profile level (bindings_of trail.now) (text_by self.now.profile text.entry))
+            (second_copies self.now.profile level (bindings_of trail.now) (text_by self.now.profile text.entry)))) }
     {
         match text {
             Text::If(_, one, two) => {
@@ -195,9 +197,9 @@ impl Walk {
         trail: &Trail<'_, 'a>,
         left: u32,
     ) -> Result<Step<'a>, AllocError>
-        ensures { (defined : Defined) (level : ℕ) → Stands self.now.profile defined → IfOk result (λ step. step_by step ≡ seek (counts_by self.now.which) left
+        ensures { (level : ℕ) → IfOk result (λ step. step_by step ≡ seek (counts_by self.now.which) left
             (in_turns (path_of trail.now) (each_turn level (bindings_of trail.now)
-            (λ n. copies defined (level + 1) (view body.now) ((turns.entry.variable.now, n) ∷ bindings_of trail.now))
+            (λ n. copies self.now.profile (level + 1) (view body.now) ((turns.entry.variable.now, n) ∷ bindings_of trail.now))
             turns.entry.first (turns.entry.behind - turns.entry.first)))) }
     {
         let mut left = left;
@@ -222,9 +224,9 @@ impl Walk {
         trail: &Trail<'_, 'a>,
         left: u32,
     ) -> Result<Step<'a>, AllocError>
-        ensures { (defined : Defined) (level : ℕ) → Stands self.now.profile defined → IfOk result (λ step. step_by step ≡ seek (counts_by self.now.which) left
+        ensures { (level : ℕ) → IfOk result (λ step. step_by step ≡ seek (counts_by self.now.which) left
             (spots (path_of trail.now) (at level (bindings_of trail.now) OneTurn
-            (copies defined (level + 1) (view body.now) ((turn.entry.name.now, turn.entry.number) ∷ bindings_of trail.now)) Done))) }
+            (copies self.now.profile (level + 1) (view body.now) ((turn.entry.name.now, turn.entry.number) ∷ bindings_of trail.now)) Done))) }
     {
         match self.visit(&Text::Turn, trail, left)? {
             Step::Skipped(left) => {

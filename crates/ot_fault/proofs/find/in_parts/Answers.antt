@@ -17,16 +17,14 @@ returns-then-parts-ne3 c =
 
 pub returns-in-Passed : goal.returns-in-Passed
 returns-in-Passed c =
-    let profile = c.in-Some.ensures in
     sym (ap (λ (step : Step). met_in (step_by step)) c.in-Passed.is)
     ∙ program_walked (shape_of c.args.arrays.now c.args.tasks) (view c.args.program.now) c.args.parts.now c.tag-item.result c.shows-item.result c.body-item.result
-    profile.0 _ (omega (arith, c.if-parts-ne3.false, c.in-len3.len_at_least, c.in-len3.len_below)) c.tag-item.is c.shows-item.is c.body-item.is profile.1
-    (c.in_ok-program-in-Some.ensures profile.0 (profile.2, (view c.tag-item.result, profile.1)))
+    c.in-Some.profile _ (omega (arith, c.if-parts-ne3.false, c.in-len3.len_at_least, c.in-len3.len_below)) c.tag-item.is c.shows-item.is c.body-item.is (sym c.read_profile.ensures ∙ c.in-Some.is)
+    c.in_ok-program-in-Some.ensures
 
 pub returns-in-Met : goal.returns-in-Met
 returns-in-Met c =
-    let profile = c.in-Some.ensures in
     sym (ap (λ (step : Step). met_in (step_by step)) c.in-Met.is)
     ∙ program_walked (shape_of c.args.arrays.now c.args.tasks) (view c.args.program.now) c.args.parts.now c.tag-item.result c.shows-item.result c.body-item.result
-    profile.0 _ (omega (arith, c.if-parts-ne3.false, c.in-len3.len_at_least, c.in-len3.len_below)) c.tag-item.is c.shows-item.is c.body-item.is profile.1
-    (c.in_ok-program-in-Some.ensures profile.0 (profile.2, (view c.tag-item.result, profile.1)))
+    c.in-Some.profile _ (omega (arith, c.if-parts-ne3.false, c.in-len3.len_at_least, c.in-len3.len_below)) c.tag-item.is c.shows-item.is c.body-item.is (sym c.read_profile.ensures ∙ c.in-Some.is)
+    c.in_ok-program-in-Some.ensures

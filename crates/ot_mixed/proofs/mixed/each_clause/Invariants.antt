@@ -5,8 +5,8 @@ use Rattle.serde_json.specs.View.{items_view}
 use Rattle.ot_model.specs.Programs.{Arrays, arrays_of}
 use Rattle.ot_program.specs.Faults.{clause_faults}
 use Rattle.ot_program.specs.Meanings.{each, clause}
+use Rattle.ot_program.specs.declared.profile.Profile.{Profile}
 use Rattle.ot_place.specs.Spots.{bindings_of}
-use Rattle.ot_place.specs.Texts.{Profile}
 use Rattle.ot_mixed.specs.Rows.{row_of, row_by, Fits}
 use Rattle.ot_mixed.proofs.mixed.each_clause.Given as goal
 

@@ -8,15 +8,15 @@ use Rattle.ot_fault.proofs.RefusalLemmas.{task_faultless}
 use Rattle.ot_fault.proofs.find.Finder.mixed.Goals as goal
 
 pub returns-in-Some : goal.returns-in-Some
-returns-in-Some c defined level p none =
+returns-in-Some c level none =
     let shape = (shape_of c.args.self.now.arrays.now c.args.self.now.tasks) in
     let variables = bindings_of c.args.trail.now in
-    mixed_found shape defined variables c.args.text _ _ _ c.in-Task.is
-    (sym (ap (option_map named_by) c.in-Some.is) ∙ c.in_ok-name-in-Task.ensures shape defined p.1.0 refl p.1.1 (task_faultless shape defined level variables c.args.text _ _ c.in-Task.is none))
+    mixed_found shape c.args.self.now.profile variables c.args.text _ _ _ c.in-Task.is
+    (sym (ap (option_map named_by) c.in-Some.is) ∙ c.in_ok-name-in-Task.ensures shape c.args.self.now.profile refl (task_faultless shape c.args.self.now.profile level variables c.args.text _ _ c.in-Task.is none))
 
 pub returns-in-None : goal.returns-in-None
-returns-in-None c defined level p none =
+returns-in-None c level none =
     let shape = (shape_of c.args.self.now.arrays.now c.args.self.now.tasks) in
     let variables = bindings_of c.args.trail.now in
-    mixed_none shape defined variables c.args.text _ _ c.in-Task.is
-    (sym (ap (option_map named_by) c.in-None.is) ∙ c.in_ok-name-in-Task.ensures shape defined p.1.0 refl p.1.1 (task_faultless shape defined level variables c.args.text _ _ c.in-Task.is none))
+    mixed_none shape c.args.self.now.profile variables c.args.text _ _ c.in-Task.is
+    (sym (ap (option_map named_by) c.in-None.is) ∙ c.in_ok-name-in-Task.ensures shape c.args.self.now.profile refl (task_faultless shape c.args.self.now.profile level variables c.args.text _ _ c.in-Task.is none))

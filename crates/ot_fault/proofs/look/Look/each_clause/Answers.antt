@@ -8,13 +8,13 @@ use Rattle.ot_fault.proofs.look.Look.each_clause.Goals as goal
 pub loop-item-preserved : goal.loop-item-preserved
 loop-item-preserved c =
     record {
-      told = λ defined s. told_next (clause_whys (shape_by c.args.self.now) defined (variables_by c.args.self.now)) _ _ c.args.items.now _ _
-          c.loop-item-test.true c.item-item.is (c.clause.ensures.first defined s) ∙ c.loop-item.invariant.told defined s;
-      counted = λ defined s. clause_cells_next (clause (shape_by c.args.self.now) defined (variables_by c.args.self.now)) _ _ c.args.items.now _ _
-          c.loop-item-test.true c.item-item.is (rw (← c.clause.ensures.len defined s) (search rules)) ∙ c.loop-item.invariant.counted defined s;
+      told = told_next (clause_whys (shape_by c.args.self.now) c.args.profile (variables_by c.args.self.now)) _ _ c.args.items.now _ _
+          c.loop-item-test.true c.item-item.is c.clause.ensures.first ∙ c.loop-item.invariant.told;
+      counted = clause_cells_next (clause (shape_by c.args.self.now) c.args.profile (variables_by c.args.self.now)) _ _ c.args.items.now _ _
+          c.loop-item-test.true c.item-item.is (rw (← c.clause.ensures.len) (search rules)) ∙ c.loop-item.invariant.counted;
       fits = omega arith;
     }
 
 pub returns-clause-cells : goal.returns-clause-cells
-returns-clause-cells c defined s =
-    sym (clause_cells_end (clause (shape_by c.args.self.now) defined (variables_by c.args.self.now)) _ c.args.items.now _ c.loop-item-test.false c.loop-item.invariant.fits) ∙ c.loop-item.invariant.counted defined s
+returns-clause-cells c =
+    sym (clause_cells_end (clause (shape_by c.args.self.now) c.args.profile (variables_by c.args.self.now)) _ c.args.items.now _ c.loop-item-test.false c.loop-item.invariant.fits) ∙ c.loop-item.invariant.counted

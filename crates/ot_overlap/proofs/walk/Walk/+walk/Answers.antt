@@ -20,12 +20,12 @@ body-items-requires t c =
     (omega (arith, e, m), tt)
 
 pub body-returns-in-Array : goal.body-returns-in-Array
-body-returns-in-Array t c defined level s =
-    rw (array_seen _ _ _ c.in-Array.is c.deref.ensures.value, a_list defined level c.deref.result.now (bindings_of c.args.trail.now)) (c.items.ensures defined level s)
+body-returns-in-Array t c level =
+    rw (array_seen _ _ _ c.in-Array.is c.deref.ensures.value, a_list c.args.self.now.profile level c.deref.result.now (bindings_of c.args.trail.now)) (c.items.ensures level)
 
 pub body-returns-in_default : goal.body-returns-in_default
-body-returns-in_default t c defined level s =
-    rw (no_list defined level c.args.body.now (bindings_of c.args.trail.now) c.in_default.not-Array) (c.enter.ensures defined level)
+body-returns-in_default t c level =
+    rw (no_list c.args.self.now.profile level c.args.body.now (bindings_of c.args.trail.now) c.in_default.not-Array) (c.enter.ensures c.args.self.now.profile level)
 
 pub items-statement-requires : goal.items-statement-requires
 items-statement-requires t c =
@@ -34,21 +34,21 @@ items-statement-requires t c =
     (omega (arith, e, m), tt)
 
 pub items-loop-item-preserved : goal.items-loop-item-preserved
-items-loop-item-preserved t c defined level s =
+items-loop-item-preserved t c level =
     let trail = c.args.trail.now in
     let ground = ground_by c.args.self.now in
     let items = c.args.items.now in
-    c.loop-item.invariant defined level s
-    ∙ items_next ground defined level (bindings_of trail) c.args.parent items c.loop-item.item-index c.item-item.result (met_by c.loop-item.met)
+    c.loop-item.invariant level
+    ∙ items_next ground c.args.self.now.profile level (bindings_of trail) c.args.parent items c.loop-item.item-index c.item-item.result (met_by c.loop-item.met)
     c.loop-item-test.true c.item-item.is
-    ∙ ap (met_in ground c.args.parent (copies_of defined level (items_view (drop (c.loop-item.item-index + 1) items)) (bindings_of trail)))
-    (sym (c.in_ok-statement.ensures defined level s))
+    ∙ ap (met_in ground c.args.parent (copies_of c.args.self.now.profile level (items_view (drop (c.loop-item.item-index + 1) items)) (bindings_of trail)))
+    (sym (c.in_ok-statement.ensures level))
 
 pub items-returns : goal.items-returns
-items-returns t c defined level s =
+items-returns t c level =
     let trail = c.args.trail.now in
-    sym (c.loop-item.invariant defined level s
-    ∙ items_none (ground_by c.args.self.now) defined level (bindings_of trail) c.args.parent c.args.items.now c.loop-item.item-index (met_by c.loop-item.met) c.loop-item-test.false)
+    sym (c.loop-item.invariant level
+    ∙ items_none (ground_by c.args.self.now) c.args.self.now.profile level (bindings_of trail) c.args.parent c.args.items.now c.loop-item.item-index (met_by c.loop-item.met) c.loop-item-test.false)
 
 pub statement-bodies-requires : goal.statement-bodies-requires
 statement-bodies-requires t c =
@@ -57,21 +57,21 @@ statement-bodies-requires t c =
     (omega (arith, e, m), tt)
 
 pub statement-returns : goal.statement-returns
-statement-returns t c defined level s =
+statement-returns t c level =
     let trail = c.args.trail.now in
     on_ok_weaker c.bodies.result
-    (λ e. statement_met (ground_by c.args.self.now) defined level (bindings_of trail) c.args.parent (view c.args.statement.now) c.text_of-text.result c.task_of-task.result
-    (met_by c.args.met.now) (met_by c.enter.new.met) (met_by c.bodies.new.met) (c.text_of-text.ensures.is defined s) (c.task_of-task.ensures defined)
-    (c.in_ok-enter.ensures defined level) e)
-    (c.bodies.ensures defined level s)
+    (λ e. statement_met (ground_by c.args.self.now) c.args.self.now.profile level (bindings_of trail) c.args.parent (view c.args.statement.now) c.text_of-text.result c.task_of-task.result
+    (met_by c.args.met.now) (met_by c.enter.new.met) (met_by c.bodies.new.met) c.text_of-text.ensures.is (c.task_of-task.ensures c.args.self.now.profile)
+    (c.in_ok-enter.ensures c.args.self.now.profile level) e)
+    (c.bodies.ensures level)
 
 pub bodies-returns-in-For : goal.bodies-returns-in-For
-bodies-returns-in-For t c defined level s =
+bodies-returns-in-For t c level =
     let trail = c.args.trail.now in
     on_ok_weaker c.turns.result
-    (λ e. e ∙ for_met (ground_by c.args.self.now) defined level (bindings_of trail) c.args.task c.args.text _ _ _ _ _ _ _ (met_by c.args.met.now) c.in-For.is
+    (λ e. e ∙ for_met (ground_by c.args.self.now) c.args.self.now.profile level (bindings_of trail) c.args.task c.args.text _ _ _ _ _ _ _ (met_by c.args.met.now) c.in-For.is
     c.letters.ensures c.size_of.ensures c.size_of-in-For.ensures)
-    (c.turns.ensures defined level s)
+    (c.turns.ensures level)
 
 pub bodies-turns-requires : goal.bodies-turns-requires
 bodies-turns-requires t c =
@@ -103,12 +103,12 @@ turn-body-requires t c =
     (omega (arith, m), tt)
 
 pub turn-returns : goal.turn-returns
-turn-returns t c defined level s =
+turn-returns t c level =
     let trail = c.args.trail.now in
     on_ok_weaker c.body.result
-    (λ e. e ∙ ap (met_in (ground_by c.args.self.now) c.args.parent (copies defined (level + 1) (view c.args.body.now) ((c.args.turn.name.now, c.args.turn.number) ∷ bindings_of trail)))
-    (c.in_ok-enter.ensures defined level))
-    (c.body.ensures defined (level + 1) s)
+    (λ e. e ∙ ap (met_in (ground_by c.args.self.now) c.args.parent (copies c.args.self.now.profile (level + 1) (view c.args.body.now) ((c.args.turn.name.now, c.args.turn.number) ∷ bindings_of trail)))
+    (c.in_ok-enter.ensures c.args.self.now.profile level))
+    (c.body.ensures (level + 1))
 
 pub turns-turn-requires : goal.turns-turn-requires
 turns-turn-requires t c =
@@ -116,25 +116,25 @@ turns-turn-requires t c =
     (omega (arith, m), tt)
 
 pub turns-loop-number-preserved : goal.turns-loop-number-preserved
-turns-loop-number-preserved t c defined level s =
+turns-loop-number-preserved t c level =
     let trail = c.args.trail.now in
-    let body : ℕ → Copies = λ n. copies defined (level + 1) (view c.args.body.now) ((c.args.turns.variable.now, n) ∷ bindings_of trail) in
-    c.loop-number.invariant defined level s
+    let body : ℕ → Copies = λ n. copies c.args.self.now.profile (level + 1) (view c.args.body.now) ((c.args.turns.variable.now, n) ∷ bindings_of trail) in
+    c.loop-number.invariant level
     ∙ turns_next (ground_by c.args.self.now) c.args.parent level (bindings_of trail) body c.loop-number.number c.args.turns.behind (met_by c.loop-number.met) c.loop-number-test.true
     ∙ ap (met_in (ground_by c.args.self.now) c.args.parent (turns level (bindings_of trail) body (c.loop-number.number + 1) (c.args.turns.behind - (c.loop-number.number + 1))))
-    (sym (c.in_ok-turn.ensures defined level s))
+    (sym (c.in_ok-turn.ensures level))
 
 pub turns-returns : goal.turns-returns
-turns-returns t c defined level s =
+turns-returns t c level =
     let trail = c.args.trail.now in
-    sym (c.loop-number.invariant defined level s
+    sym (c.loop-number.invariant level
     ∙ turns_none (ground_by c.args.self.now) c.args.parent level (bindings_of trail)
-    (λ n. copies defined (level + 1) (view c.args.body.now) ((c.args.turns.variable.now, n) ∷ bindings_of trail)) c.loop-number.number c.args.turns.behind (met_by c.loop-number.met)
+    (λ n. copies c.args.self.now.profile (level + 1) (view c.args.body.now) ((c.args.turns.variable.now, n) ∷ bindings_of trail)) c.loop-number.number c.args.turns.behind (met_by c.loop-number.met)
     c.loop-number-test.false)
 
 pub bodies-returns-in_ok-body-in-If : goal.bodies-returns-in_ok-body-in-If
-bodies-returns-in_ok-body-in-If t c defined level s =
+bodies-returns-in_ok-body-in-If t c level =
     on_ok_weaker c.body-in-If.result
-    (λ e. if_met (ground_by c.args.self.now) defined level (bindings_of c.args.trail.now) c.args.task c.args.text _ _ _ (met_by c.args.met.now) _ _ c.in-If.is
-    (c.in_ok-body-in-If.ensures defined (level + 1) s) e)
-    (c.body-in-If.ensures defined (level + 1) s)
+    (λ e. if_met (ground_by c.args.self.now) c.args.self.now.profile level (bindings_of c.args.trail.now) c.args.task c.args.text _ _ _ (met_by c.args.met.now) _ _ c.in-If.is
+    (c.in_ok-body-in-If.ensures (level + 1)) e)
+    (c.body-in-If.ensures (level + 1))

@@ -7,7 +7,7 @@ use Rattle.ot_overlap.specs.View.{ground_by}
 use Rattle.ot_overlap.proofs.walk.Walk.program.Goals as goal
 
 pub returns : goal.returns
-returns c defined s =
+returns c =
     on_ok_weaker c.body.result
-    (λ e. e ∙ ap (met_in (ground_by c.args.self.now) 0 (copies defined 1 (view c.args.body.now) [])) (c.in_ok-enter.ensures defined 0))
-    (c.body.ensures defined 1 s)
+    (λ e. e ∙ ap (met_in (ground_by c.args.self.now) 0 (copies c.args.self.now.profile 1 (view c.args.body.now) [])) (c.in_ok-enter.ensures c.args.self.now.profile 0))
+    (c.body.ensures 1)

@@ -48,26 +48,26 @@ bodies-body-requires-in-Group t c =
     (omega (arith, e, m), tt)
 
 pub bodies-returns-in-Skipped : goal.bodies-returns-in-Skipped
-bodies-returns-in-Skipped t c defined level s =
+bodies-returns-in-Skipped t c level =
     let trail = c.args.trail.now in
     seen_as c.body-in-Skipped.result _ _
-    (if_passes (counts_by c.args.self.now.which) defined level (bindings_of trail) (path_of trail) c.args.text _ _ _ _ _ c.in-If.is
-    (sym (ap step_by c.in-Skipped.is) ∙ c.in_ok-left-in-If.ensures defined (level + 1) s))
-    (c.body-in-Skipped.ensures defined (level + 1) s)
+    (if_passes (counts_by c.args.self.now.which) c.args.self.now.profile level (bindings_of trail) (path_of trail) c.args.text _ _ _ _ _ c.in-If.is
+    (sym (ap step_by c.in-Skipped.is) ∙ c.in_ok-left-in-If.ensures (level + 1)))
+    (c.body-in-Skipped.ensures (level + 1))
 
 pub bodies-returns-in-Met : goal.bodies-returns-in-Met
-bodies-returns-in-Met t c defined level s =
+bodies-returns-in-Met t c level =
     let trail = c.args.trail.now in
-    if_ends (counts_by c.args.self.now.which) defined level (bindings_of trail) (path_of trail) c.args.text _ _ _ _ _ _ c.in-If.is
-    (sym (ap step_by c.in-Met.is) ∙ c.in_ok-left-in-If.ensures defined (level + 1) s)
+    if_ends (counts_by c.args.self.now.which) c.args.self.now.profile level (bindings_of trail) (path_of trail) c.args.text _ _ _ _ _ _ c.in-If.is
+    (sym (ap step_by c.in-Met.is) ∙ c.in_ok-left-in-If.ensures (level + 1))
 
 pub bodies-returns-in-For : goal.bodies-returns-in-For
-bodies-returns-in-For t c defined level s =
+bodies-returns-in-For t c level =
     let trail = c.args.trail.now in
     seen_as c.turns.result _ _
-    (for_is (counts_by c.args.self.now.which) defined level (bindings_of trail) (path_of trail) c.args.text _ _ _ _ _ _ _ _ c.in-For.is
+    (for_is (counts_by c.args.self.now.which) c.args.self.now.profile level (bindings_of trail) (path_of trail) c.args.text _ _ _ _ _ _ _ _ c.in-For.is
     c.letters.ensures c.size_of.ensures c.size_of-in-For.ensures)
-    (c.turns.ensures defined level s)
+    (c.turns.ensures level)
 
 pub body-items-requires : goal.body-items-requires
 body-items-requires t c =
@@ -77,12 +77,12 @@ body-items-requires t c =
     (omega (arith, e, m), tt)
 
 pub body-returns-in-Array : goal.body-returns-in-Array
-body-returns-in-Array t c defined level s =
-    rw (array_seen _ _ _ c.in-Array.is c.deref.ensures.value, a_list defined level c.deref.result.now (bindings_of c.args.trail.now)) (c.items.ensures defined level s)
+body-returns-in-Array t c level =
+    rw (array_seen _ _ _ c.in-Array.is c.deref.ensures.value, a_list c.args.self.now.profile level c.deref.result.now (bindings_of c.args.trail.now)) (c.items.ensures level)
 
 pub body-returns-in_default : goal.body-returns-in_default
-body-returns-in_default t c defined level s =
-    rw (no_list defined level c.args.body.now (bindings_of c.args.trail.now) c.in_default.not-Array) (c.visit.ensures defined level s)
+body-returns-in_default t c level =
+    rw (no_list c.args.self.now.profile level c.args.body.now (bindings_of c.args.trail.now) c.in_default.not-Array) (c.visit.ensures level)
 
 pub items-statement-requires : goal.items-statement-requires
 items-statement-requires t c =
@@ -91,24 +91,24 @@ items-statement-requires t c =
     (omega (arith, e, m), tt)
 
 pub items-returns-in-Met : goal.items-returns-in-Met
-items-returns-in-Met t c defined level s =
+items-returns-in-Met t c level =
     let trail = c.args.trail.now in
-    items_end (counts_by c.args.self.now.which) defined level (bindings_of trail) (path_of trail) c.args.items.now _ _ _ _ _
-    c.loop-index-test.true c.index-items-index.is (sym (ap step_by c.in-Met.is) ∙ c.in_ok-fewer.ensures defined level s)
-    ∙ sym (c.loop-index.invariant defined level s)
+    items_end (counts_by c.args.self.now.which) c.args.self.now.profile level (bindings_of trail) (path_of trail) c.args.items.now _ _ _ _ _
+    c.loop-index-test.true c.index-items-index.is (sym (ap step_by c.in-Met.is) ∙ c.in_ok-fewer.ensures level)
+    ∙ sym (c.loop-index.invariant level)
 
 pub items-loop-index-preserved : goal.items-loop-index-preserved
-items-loop-index-preserved t c defined level s =
+items-loop-index-preserved t c level =
     let trail = c.args.trail.now in
-    c.loop-index.invariant defined level s
-    ∙ items_pass (counts_by c.args.self.now.which) defined level (bindings_of trail) (path_of trail) c.args.items.now _ _ _ _
-    c.loop-index-test.true c.index-items-index.is (sym (ap step_by c.in-Skipped.is) ∙ c.in_ok-fewer.ensures defined level s)
+    c.loop-index.invariant level
+    ∙ items_pass (counts_by c.args.self.now.which) c.args.self.now.profile level (bindings_of trail) (path_of trail) c.args.items.now _ _ _ _
+    c.loop-index-test.true c.index-items-index.is (sym (ap step_by c.in-Skipped.is) ∙ c.in_ok-fewer.ensures level)
 
 pub items-returns : goal.items-returns
-items-returns t c defined level s =
+items-returns t c level =
     let trail = c.args.trail.now in
-    sym (c.loop-index.invariant defined level s
-    ∙ items_none (counts_by c.args.self.now.which) defined level (bindings_of trail) (path_of trail) c.args.items.now _ _ c.loop-index-test.false)
+    sym (c.loop-index.invariant level
+    ∙ items_none (counts_by c.args.self.now.which) c.args.self.now.profile level (bindings_of trail) (path_of trail) c.args.items.now _ _ c.loop-index-test.false)
 
 pub statement-bodies-requires : goal.statement-bodies-requires
 statement-bodies-requires t c =
@@ -117,18 +117,18 @@ statement-bodies-requires t c =
     (omega (arith, e, m), tt)
 
 pub statement-returns-in-Skipped : goal.statement-returns-in-Skipped
-statement-returns-in-Skipped t c defined level s =
+statement-returns-in-Skipped t c level =
     let trail = c.args.trail.now in
     seen_as c.bodies.result _ _
-    (statement_passes (counts_by c.args.self.now.which) defined level (bindings_of trail) (path_of trail) (view c.args.statement.now) c.text_of-text.result _ _
-    (c.text_of-text.ensures.is defined s) (sym (ap step_by c.in-Skipped.is) ∙ c.in_ok-left.ensures defined level s))
-    (c.bodies.ensures defined level s)
+    (statement_passes (counts_by c.args.self.now.which) c.args.self.now.profile level (bindings_of trail) (path_of trail) (view c.args.statement.now) c.text_of-text.result _ _
+    (c.text_of-text.ensures.is) (sym (ap step_by c.in-Skipped.is) ∙ c.in_ok-left.ensures level))
+    (c.bodies.ensures level)
 
 pub statement-returns-in-Met : goal.statement-returns-in-Met
-statement-returns-in-Met t c defined level s =
+statement-returns-in-Met t c level =
     let trail = c.args.trail.now in
-    statement_ends (counts_by c.args.self.now.which) defined level (bindings_of trail) (path_of trail) (view c.args.statement.now) c.text_of-text.result _ _ _
-    (c.text_of-text.ensures.is defined s) (sym (ap step_by c.in-Met.is) ∙ c.in_ok-left.ensures defined level s)
+    statement_ends (counts_by c.args.self.now.which) c.args.self.now.profile level (bindings_of trail) (path_of trail) (view c.args.statement.now) c.text_of-text.result _ _ _
+    (c.text_of-text.ensures.is) (sym (ap step_by c.in-Met.is) ∙ c.in_ok-left.ensures level)
 
 pub turn-body-requires : goal.turn-body-requires
 turn-body-requires t c =
@@ -136,16 +136,16 @@ turn-body-requires t c =
     (omega (arith, m), tt)
 
 pub turn-returns-in-Skipped : goal.turn-returns-in-Skipped
-turn-returns-in-Skipped t c defined level s =
+turn-returns-in-Skipped t c level =
     let trail = c.args.trail.now in
     seen_as c.body.result _ _
-    (one_passes (counts_by c.args.self.now.which) (spot (path_of trail) (record { level = level; variables = bindings_of trail; text = Turn })) _ _ _ (sym (ap step_by c.in-Skipped.is) ∙ c.in_ok-left.ensures defined level s))
-    (c.body.ensures defined (level + 1) s)
+    (one_passes (counts_by c.args.self.now.which) (spot (path_of trail) (record { level = level; variables = bindings_of trail; text = Turn })) _ _ _ (sym (ap step_by c.in-Skipped.is) ∙ c.in_ok-left.ensures level))
+    (c.body.ensures (level + 1))
 
 pub turn-returns-in-Met : goal.turn-returns-in-Met
-turn-returns-in-Met t c defined level s =
+turn-returns-in-Met t c level =
     let trail = c.args.trail.now in
-    one_ends (counts_by c.args.self.now.which) (spot (path_of trail) (record { level = level; variables = bindings_of trail; text = Turn })) _ _ _ _ (sym (ap step_by c.in-Met.is) ∙ c.in_ok-left.ensures defined level s)
+    one_ends (counts_by c.args.self.now.which) (spot (path_of trail) (record { level = level; variables = bindings_of trail; text = Turn })) _ _ _ _ (sym (ap step_by c.in-Met.is) ∙ c.in_ok-left.ensures level)
 
 pub turns-turn-requires : goal.turns-turn-requires
 turns-turn-requires t c =
@@ -153,24 +153,24 @@ turns-turn-requires t c =
     (omega (arith, m), tt)
 
 pub turns-returns-in-Met : goal.turns-returns-in-Met
-turns-returns-in-Met t c defined level s =
+turns-returns-in-Met t c level =
     let trail = c.args.trail.now in
     turns_end (counts_by c.args.self.now.which) (path_of trail) level (bindings_of trail)
-    (λ n. copies defined (level + 1) (view c.args.body.now) ((c.args.turns.variable.now, n) ∷ bindings_of trail)) _ _ _ _ _
-    c.loop-number-test.true (sym (ap step_by c.in-Met.is) ∙ c.in_ok-fewer.ensures defined level s)
-    ∙ sym (c.loop-number.invariant defined level s)
+    (λ n. copies c.args.self.now.profile (level + 1) (view c.args.body.now) ((c.args.turns.variable.now, n) ∷ bindings_of trail)) _ _ _ _ _
+    c.loop-number-test.true (sym (ap step_by c.in-Met.is) ∙ c.in_ok-fewer.ensures level)
+    ∙ sym (c.loop-number.invariant level)
 
 pub turns-loop-number-preserved : goal.turns-loop-number-preserved
-turns-loop-number-preserved t c defined level s =
+turns-loop-number-preserved t c level =
     let trail = c.args.trail.now in
-    c.loop-number.invariant defined level s
+    c.loop-number.invariant level
     ∙ turns_pass (counts_by c.args.self.now.which) (path_of trail) level (bindings_of trail)
-    (λ n. copies defined (level + 1) (view c.args.body.now) ((c.args.turns.variable.now, n) ∷ bindings_of trail)) _ _ _ _
-    c.loop-number-test.true (sym (ap step_by c.in-Skipped.is) ∙ c.in_ok-fewer.ensures defined level s)
+    (λ n. copies c.args.self.now.profile (level + 1) (view c.args.body.now) ((c.args.turns.variable.now, n) ∷ bindings_of trail)) _ _ _ _
+    c.loop-number-test.true (sym (ap step_by c.in-Skipped.is) ∙ c.in_ok-fewer.ensures level)
 
 pub turns-returns : goal.turns-returns
-turns-returns t c defined level s =
+turns-returns t c level =
     let trail = c.args.trail.now in
-    sym (c.loop-number.invariant defined level s
+    sym (c.loop-number.invariant level
     ∙ turns_none (counts_by c.args.self.now.which) (path_of trail) level (bindings_of trail)
-    (λ n. copies defined (level + 1) (view c.args.body.now) ((c.args.turns.variable.now, n) ∷ bindings_of trail)) _ _ _ c.loop-number-test.false)
+    (λ n. copies c.args.self.now.profile (level + 1) (view c.args.body.now) ((c.args.turns.variable.now, n) ∷ bindings_of trail)) _ _ _ c.loop-number-test.false)

@@ -7,11 +7,11 @@ use Rattle.ot_place.proofs.BodyLemmas.{seen_as, one_passes, one_ends}
 use Rattle.ot_place.proofs.walk.Walk.program.Goals as goal
 
 pub returns-in-Skipped : goal.returns-in-Skipped
-returns-in-Skipped c defined s =
+returns-in-Skipped c =
     seen_as c.body.result _ _
-    (one_passes (counts_by c.args.self.now.which) (spot (1 ∷ []) (record { level = 0; variables = []; text = ProgramText (view c.args.shows.now) (view c.args.body.now) })) _ _ _ (sym (ap step_by c.in-Skipped.is) ∙ c.in_ok-left.ensures defined 0 s))
-    (c.body.ensures defined 1 s)
+    (one_passes (counts_by c.args.self.now.which) (spot (1 ∷ []) (record { level = 0; variables = []; text = ProgramText (view c.args.shows.now) (view c.args.body.now) })) _ _ _ (sym (ap step_by c.in-Skipped.is) ∙ c.in_ok-left.ensures 0))
+    (c.body.ensures 1)
 
 pub returns-in-Met : goal.returns-in-Met
-returns-in-Met c defined s =
-    one_ends (counts_by c.args.self.now.which) (spot (1 ∷ []) (record { level = 0; variables = []; text = ProgramText (view c.args.shows.now) (view c.args.body.now) })) _ _ _ _ (sym (ap step_by c.in-Met.is) ∙ c.in_ok-left.ensures defined 0 s)
+returns-in-Met c =
+    one_ends (counts_by c.args.self.now.which) (spot (1 ∷ []) (record { level = 0; variables = []; text = ProgramText (view c.args.shows.now) (view c.args.body.now) })) _ _ _ _ (sym (ap step_by c.in-Met.is) ∙ c.in_ok-left.ensures 0)
