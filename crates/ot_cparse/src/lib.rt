@@ -6,6 +6,7 @@ mod construct;
 mod declaration;
 mod declarator;
 mod directive;
+mod enumeration;
 mod expression;
 mod fault;
 mod initial;

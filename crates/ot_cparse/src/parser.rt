@@ -55,6 +55,8 @@ pub(crate) struct Parser {
     pub scope: Scope,
     pub unit: Unit,
     pub pending: Vec<Pending>,
+    /// By enumerator: the type of its enumeration.
+    pub enumerations: Vec<u32>,
     /// Whether what is read stands in a function.
     pub is_inside: bool,
 }
@@ -79,6 +81,7 @@ impl Parser {
                 functions: Vec::new(alloc),
             },
             pending: Vec::new(alloc),
+            enumerations: Vec::new(alloc),
             is_inside: false,
         };
         parser.put_types()?;

@@ -1,10 +1,9 @@
-//! Structs, unions and enumerations (ISO C11, sections 6.7.2.1 and 6.7.2.2).
+//! Structs and unions (ISO C11, section 6.7.2.1).
 use crate::fault::{ParseError, Why};
-use crate::parser::{MAX_DEPTH, Parser, UNSIGNED, number};
-use crate::scope::Meaning;
+use crate::parser::{MAX_DEPTH, Parser, number};
 use crate::specifier::{Specifiers, Words};
 use ot_ctoken::{Kind, Mark, word};
-use ot_ctree::{Enumerator, Expr, Member, Record, Type};
+use ot_ctree::{Member, Record, Type};
 
 impl Parser {
     /// The type of a tag, which is new where there is none.
@@ -142,43 +141,5 @@ impl Parser {
             }
         }
         self.want(Mark::Semicolon)
-    }
-
-    /// An enumeration, from its word on: its type is unsigned.
-    fn enumeration(&mut self) -> Result<u32, ParseError> {
-        self.step();
-        if let Kind::Name(_) = self.kind() {
-            self.step();
-        }
-        if !self.take(Mark::OpenBlock) {
-            return Ok(UNSIGNED);
-        }
-        let mut last = None;
-        let mut more = 0;
-        for _ in 0..self.tokens.len() {
-            if self.take(Mark::CloseBlock) {
-                return Ok(UNSIGNED);
-            }
-            let name = self.name()?;
-            if self.take(Mark::Assign) {
-                let value = self.choice(MAX_DEPTH)?;
-                last = Some(self.enumerator(Some(value), 0)?);
-                more = 0;
-            } else {
-                let value = last.map(|number: u32| Expr::Enumerator(self.here(), number));
-                let _ = self.enumerator(value, more)?;
-            }
-            more = more.saturating_add(1);
-            let made = number(self.unit.enumerators.len()).saturating_sub(1);
-            self.scope.declare(name, Meaning::Enumerator(made))?;
-            let _ = self.take(Mark::Comma);
-        }
-        Err(self.fault(Why::Expected(Mark::CloseBlock)))
-    }
-
-    fn enumerator(&mut self, value: Option<Expr>, more: u32) -> Result<u32, ParseError> {
-        let made = number(self.unit.enumerators.len());
-        self.unit.enumerators.push(Enumerator { value, more })?;
-        Ok(made)
     }
 }

@@ -21,7 +21,7 @@ enum Before {
 #[derive(Drop)]
 pub(crate) struct Scope {
     names: BTreeMap<u32, Meaning>,
-    /// Structs and unions by their tags.
+    /// The types of structs, unions and enumerations by their tags.
     tags: BTreeMap<u32, u32>,
     /// What has to be put back when blocks end, and for each block how much of it was there before.
     before: Vec<Before>,
@@ -53,9 +53,9 @@ impl Scope {
         Ok(())
     }
 
-    /// A tag is this record's up to the end of the block.
-    pub(crate) fn tag(&mut self, tag: u32, record: u32) -> Result<(), AllocError> {
-        let old = self.tags.insert(tag, record)?;
+    /// A tag is this type's up to the end of the block.
+    pub(crate) fn tag(&mut self, tag: u32, kind: u32) -> Result<(), AllocError> {
+        let old = self.tags.insert(tag, kind)?;
         self.before.push(Before::Tag(tag, old))?;
         Ok(())
     }

@@ -162,7 +162,7 @@ impl Parser {
         self.step();
         let tag = self.name()?;
         words.whole = Some(if is_enumeration {
-            UNSIGNED
+            self.enumerated(tag)
         } else {
             self.tagged(tag, is_union)?
         });

@@ -15,6 +15,7 @@ pub fn unit_of(alloc: Global, tokens: Vec<Token>) -> Result<Unit, ParseError> {
         }
         parser.top()?;
     }
+    parser.sign_enumerations()?;
     let Parser {
         alloc: _,
         tokens: _,
@@ -22,6 +23,7 @@ pub fn unit_of(alloc: Global, tokens: Vec<Token>) -> Result<Unit, ParseError> {
         scope: _,
         unit,
         pending: _,
+        enumerations: _,
         is_inside: _,
     } = parser;
     Ok(unit)

@@ -1,10 +1,11 @@
 //! The tests of `#if` (ISO C11, section 6.10.1), on 64 bits. A name that is no macro is 0.
 use crate::mark::Mark;
 use crate::names::Names;
-use crate::number::{letter_of, number_of};
+use crate::number::{is_unsigned, letter_of, number_of};
 use crate::raw::{Raw, RawKind};
 use crate::spelling::spelling;
 use crate::token::Kind;
+use crate::value::{Value, joined, signed};
 
 /// A test, and how its tokens are spelled.
 #[derive(Clone, Copy)]
@@ -34,51 +35,12 @@ fn binds(mark: Mark) -> u32 {
     }
 }
 
-fn joined(mark: Mark, one: i64, two: i64) -> Option<i64> {
-    match mark {
-        Mark::Either => Some(i64::from(one != 0 || two != 0)),
-        Mark::Both => Some(i64::from(one != 0 && two != 0)),
-        Mark::Or => Some(one | two),
-        Mark::Xor => Some(one ^ two),
-        Mark::And => Some(one & two),
-        Mark::Plus => Some(one.wrapping_add(two)),
-        Mark::Minus => Some(one.wrapping_sub(two)),
-        Mark::Star => Some(one.wrapping_mul(two)),
-        Mark::Slash => one.checked_div(two),
-        Mark::Percent => one.checked_rem(two),
-        Mark::ShiftLeft => shifted(one, two, true),
-        Mark::ShiftRight => shifted(one, two, false),
-        _ => compared(mark, one, two),
-    }
-}
-
-fn shifted(one: i64, two: i64, is_left: bool) -> Option<i64> {
-    let by = u32::try_from(two).ok()?;
-    if is_left {
-        one.checked_shl(by)
-    } else {
-        one.checked_shr(by)
-    }
-}
-
-fn compared(mark: Mark, one: i64, two: i64) -> Option<i64> {
-    match mark {
-        Mark::Equal => Some(i64::from(one == two)),
-        Mark::NotEqual => Some(i64::from(one != two)),
-        Mark::Less => Some(i64::from(one < two)),
-        Mark::Greater => Some(i64::from(one > two)),
-        Mark::LessOrEqual => Some(i64::from(one <= two)),
-        Mark::GreaterOrEqual => Some(i64::from(one >= two)),
-        _ => None,
-    }
-}
-
 impl Test<'_> {
     /// Whether the test holds, where it is one that is read, to its end.
     pub(crate) fn holds(&self) -> Option<bool> {
         let (value, end) = self.choice(0, MAX_DEPTH)?;
         if end == self.raws.len() {
-            Some(value != 0)
+            Some(value.holds())
         } else {
             None
         }
@@ -91,9 +53,9 @@ impl Test<'_> {
         }
     }
 
-    /// The value that begins there, and where it ends.
+    /// The value that begins there, and where it ends. The two between which a question chooses meet in a type.
     #[cycle(choice)]
-    fn choice(&self, at: usize, depth: u32) -> Option<(i64, usize)> {
+    fn choice(&self, at: usize, depth: u32) -> Option<(Value, usize)> {
         if depth == 0 {
             return None;
         }
@@ -106,12 +68,17 @@ impl Test<'_> {
             return None;
         }
         let (other, end) = self.choice(end.checked_add(1)?, depth - 1)?;
-        Some((if test != 0 { one } else { other }, end))
+        let chosen = if test.holds() {
+            one.beside(other)
+        } else {
+            other.beside(one)
+        };
+        Some((chosen, end))
     }
 
     /// One whose marks bind at least so tightly.
     #[cycle(choice)]
-    fn value(&self, at: usize, least: u32, depth: u32) -> Option<(i64, usize)> {
+    fn value(&self, at: usize, least: u32, depth: u32) -> Option<(Value, usize)> {
         if depth == 0 {
             return None;
         }
@@ -136,14 +103,14 @@ impl Test<'_> {
     }
 
     #[cycle(choice)]
-    fn operand(&self, at: usize, depth: u32) -> Option<(i64, usize)> {
+    fn operand(&self, at: usize, depth: u32) -> Option<(Value, usize)> {
         if depth == 0 {
             return None;
         }
         let raw = self.raws.get(at)?;
         let next = at.checked_add(1)?;
         match raw.kind {
-            RawKind::Name(_) => Some((0, next)),
+            RawKind::Name(_) => Some((Value::told(false), next)),
             RawKind::Number | RawKind::Letter => Some((self.number(raw)?, next)),
             RawKind::Mark(Mark::Open) => {
                 let (value, end) = self.choice(next, depth - 1)?;
@@ -161,25 +128,20 @@ impl Test<'_> {
         }
     }
 
-    fn number(&self, raw: &Raw) -> Option<i64> {
+    fn number(&self, raw: &Raw) -> Option<Value> {
         let text = spelling(raw, self.names, self.spelled);
-        let kind = match raw.kind {
-            RawKind::Letter => letter_of(text)?,
-            _ => number_of(text)?,
+        let is_letter = matches!(raw.kind, RawKind::Letter);
+        let kind = if is_letter {
+            letter_of(text)?
+        } else {
+            number_of(text)?
         };
         match kind {
-            Kind::Number(value, _) => Some(i64::from_ne_bytes(value.to_ne_bytes())),
+            Kind::Number(bits, _) => Some(Value {
+                bits,
+                is_unsigned: !is_letter && is_unsigned(text, bits),
+            }),
             _ => None,
         }
-    }
-}
-
-fn signed(mark: Mark, value: i64) -> Option<i64> {
-    match mark {
-        Mark::Plus => Some(value),
-        Mark::Minus => Some(0i64.wrapping_sub(value)),
-        Mark::Not => Some(i64::from(value == 0)),
-        Mark::Complement => Some(!value),
-        _ => None,
     }
 }

@@ -16,6 +16,7 @@ mod raw;
 mod reader;
 mod spelling;
 mod token;
+mod value;
 pub mod word;
 
 pub use fault::{Fault, ReadError, Why};

@@ -97,6 +97,11 @@ fn type_of(value: u64, is_decimal: bool, suffix: Suffix) -> Option<Integer> {
     }
 }
 
+/// Whether a number is unsigned where all types have 64 bits, as in tests of `#if` (ISO C11, section 6.10.1).
+pub(crate) fn is_unsigned(text: &[u8], value: u64) -> bool {
+    value >= 1 << 63 || text.iter().any(|b| matches!(*b, b'u' | b'U'))
+}
+
 /// The value of a character, which stands between quotes: one letter, or a pair that begins with a backslash.
 pub(crate) fn letter_of(text: &[u8]) -> Option<Kind> {
     let value = match text {
