@@ -36,7 +36,7 @@ impl<'a> Maker<'a> {
             }
         };
         self.pass(depth, callee, arguments)?;
-        let given = self.calls(at, callee, wanted, base);
+        let given = self.calls(at, callee, wanted, base, arguments);
         self.arguments.truncate(base);
         given
     }
@@ -111,9 +111,16 @@ impl<'a> Maker<'a> {
         callee: Callee,
         wanted: Option<Sort>,
         base: usize,
+        arguments: &[Expr],
     ) -> Result<Val, Fault> {
         match callee {
-            Callee::Outside(name, gives) => self.outside(at, name, gives, wanted, base),
+            Callee::Outside(name, gives) => match self.known.get(name as usize) {
+                Some(Some(known)) => self.of_library(at, *known, wanted, base, arguments),
+                _ => {
+                    self.leaves_untouched(name)?;
+                    self.unknown_of(gives.unwrap_or(Sort::INT))
+                }
+            },
             Callee::Own(function) => self.calls_own(at, function, base),
             Callee::By(value) => {
                 let gives = value.sort.given(self.unit).unwrap_or(Sort::INT);

@@ -1,6 +1,6 @@
 //! Clauses.
 use crate::fault::{Fault, Why};
-use crate::maker::{ALONE, Aim, FINAL, Held, Maker, WORD};
+use crate::maker::{ALONE, Aim, FINAL, Held, LONG, Maker, WORD};
 use crate::value::DEEPEST;
 use ot_clayout::{Class, Sort};
 use ot_code::{Depends, Folded, Form, Item, Operation};
@@ -8,8 +8,8 @@ use ot_csharing::{condition_of, value_of};
 use ot_ctree::{Clause, Dependence, Directive, Expr, Integer, Iterator, Reducing, Role};
 use ot_model::Fold;
 
-/// How many items an iterator makes at most.
-const MOST_TURNS: u64 = 64;
+/// How many numbers an iterator has at most.
+const MOST_TURNS: u64 = 128;
 
 /// A cell, or some, by which a task takes part in a reduction: the place among what it takes along.
 #[derive(Clone, Copy)]
@@ -190,7 +190,7 @@ impl<'a> Maker<'a> {
         }
     }
 
-    /// An iterator whose range is constant: its items are written out.
+    /// The items of an iterator are written out.
     fn iterated(
         &mut self,
         at: u32,
@@ -201,7 +201,7 @@ impl<'a> Maker<'a> {
         let start = self.layouts.constant(self.unit, &iterator.start);
         let end = self.layouts.constant(self.unit, &iterator.end);
         let (Some(start), Some(end), true) = (start, end, iterator.step.is_none()) else {
-            return Err(Fault::Refused(at, Why::Iterator));
+            return self.iterated_when_met(at, mode, iterator, items);
         };
         let (Some(start), Some(end)) = (start.count(), end.count()) else {
             return Err(Fault::Refused(at, Why::Iterator));
@@ -216,6 +216,91 @@ impl<'a> Maker<'a> {
             self.dependence(mode, items)?;
         }
         self.restore(base);
+        Ok(())
+    }
+
+    /// Where the range is known only when it is met, items are written out for as many numbers as it may have. Those that it hasn't then
+    /// name no cell.
+    fn iterated_when_met(
+        &mut self,
+        at: u32,
+        mode: Depends,
+        iterator: &Iterator,
+        items: &[Expr],
+    ) -> Result<(), Fault> {
+        let sort = self.sort_of(iterator.variable);
+        let start = self.converted(DEEPEST, &iterator.start, sort)?.slot;
+        let end = self.converted(DEEPEST, &iterator.end, sort)?.slot;
+        let step = self.step_of(at, iterator)?;
+        let number = self.copy(start)?;
+        let base = self.was.len();
+        self.hold_for_now(iterator.variable, Held::Slot(number))?;
+        for _turn in 0..MOST_TURNS {
+            let first = self.items.len();
+            for _item in items {
+                self.names_no_cell(mode)?;
+            }
+            let next = self.frame.next;
+            let out = self.is_behind(at, number, end)?;
+            self.places_from(first, items)?;
+            self.emit(Form::Operate(number, Operation::Add, LONG, number, step))?;
+            self.lands(out)?;
+            self.frame.next = next;
+        }
+        self.restore(base);
+        let out = self.is_behind(at, number, end)?;
+        self.has_no_room(at)?;
+        self.lands(out)
+    }
+
+    /// The jump that is taken where a number isn't less than the end.
+    fn is_behind(&mut self, at: u32, number: u32, end: u32) -> Result<u32, Fault> {
+        let test = self.operate(Operation::Less, LONG, number, end)?;
+        self.repeat(at, test)
+    }
+
+    /// The step of an iterator, which has to be a constant above 0.
+    fn step_of(&mut self, at: u32, iterator: &Iterator) -> Result<u32, Fault> {
+        let Some(step) = &iterator.step else {
+            return self.number(1);
+        };
+        match self.layouts.constant(self.unit, step) {
+            Some(step) => match step.count() {
+                Some(step) if step > 0 => self.number(step),
+                _ => Err(Fault::Refused(at, Why::Iterator)),
+            },
+            None => Err(Fault::Refused(at, Why::Iterator)),
+        }
+    }
+
+    /// An item that begins outside of its object, until a place is put into its slot.
+    fn names_no_cell(&mut self, mode: Depends) -> Result<(), Fault> {
+        let slot = self.fresh()?;
+        self.emit(Form::Address(slot, self.flags, u32::MAX))?;
+        self.items.push(Item { mode, slot })?;
+        Ok(())
+    }
+
+    /// Where the items begin now, in the slots of those from this one on.
+    fn places_from(&mut self, first: usize, items: &[Expr]) -> Result<(), Fault> {
+        for (number, item) in items.iter().enumerate() {
+            if self.is_empty(item) {
+                continue;
+            }
+            let place = self.item_place(64, item)?;
+            if let Some(one) = self.items.get(first.saturating_add(number)).copied() {
+                self.emit(Form::Copy(one.slot, place.slot))?;
+            }
+        }
+        Ok(())
+    }
+
+    /// The run ends here, since it would need too much.
+    fn has_no_room(&mut self, at: u32) -> Result<(), Fault> {
+        let count = self.number(u64::MAX)?;
+        let slot = self.fresh()?;
+        let name = self.name_at(at);
+        self.emit(Form::Allocate(slot, name, count, 1, false))?;
         Ok(())
     }
 

@@ -117,7 +117,8 @@ fn words(why: Why) -> &'static str {
         Why::Schedule => "`schedule` and its kin beside `nowait` aren't executed yet",
         Why::Unsaid(_) => "`default(none)`, and a variable is in no clause",
         Why::Clause => "this form of a clause isn't executed yet",
-        Why::Iterator => "an iterator whose range isn't constant, or is long, isn't executed yet",
+        Why::Iterator =>
+            "several iterators of a clause, one with more than 128 numbers, or with a step that is no constant above 0, aren't executed yet",
         Why::Loop => "this loop isn't of the form that its construct wants",
         Why::Jump => "a jump that leaves a construct",
         Why::Label => "a label that isn't in the block of its `switch` isn't executed yet",

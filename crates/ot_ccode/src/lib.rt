@@ -16,6 +16,7 @@ mod size;
 mod statement;
 mod task;
 mod team;
+mod text;
 mod turns;
 mod value;
 mod whole;

@@ -5,7 +5,7 @@ use crate::names::Known;
 use crate::team::Whose;
 use ot_clayout::{Base, Extent, Sort};
 use ot_code::{Form, Kind, Operation, Width};
-use ot_ctree::Integer;
+use ot_ctree::{Expr, Integer};
 
 const INT: Kind = Kind {
     width: Width::Bits32,
@@ -13,33 +13,15 @@ const INT: Kind = Kind {
 };
 
 impl<'a> Maker<'a> {
-    fn argument(&self, at: u32, base: usize, number: usize) -> Result<Val, Fault> {
+    pub(crate) fn argument(&self, at: u32, base: usize, number: usize) -> Result<Val, Fault> {
         match self.arguments.get(base.saturating_add(number)) {
             Some(value) => Ok(*value),
             None => Err(Fault::Refused(at, Why::Arguments)),
         }
     }
 
-    /// A call of a function without a body, by the number of its name.
-    pub(crate) fn outside(
-        &mut self,
-        at: u32,
-        name: u32,
-        gives: Option<Sort>,
-        wanted: Option<Sort>,
-        base: usize,
-    ) -> Result<Val, Fault> {
-        match self.known.get(name as usize) {
-            Some(Some(known)) => self.of_library(at, *known, wanted, base),
-            _ => {
-                self.leaves_untouched(name)?;
-                self.unknown_of(gives.unwrap_or(Sort::INT))
-            }
-        }
-    }
-
     /// It is told once of each name that it is called as if it touched nothing.
-    fn leaves_untouched(&mut self, name: u32) -> Result<(), Fault> {
+    pub(crate) fn leaves_untouched(&mut self, name: u32) -> Result<(), Fault> {
         if let Some(known) = self.is_untouched.get_mut(name as usize)
             && !*known
         {
@@ -49,12 +31,14 @@ impl<'a> Maker<'a> {
         Ok(())
     }
 
-    fn of_library(
+    /// A call of a function of the library.
+    pub(crate) fn of_library(
         &mut self,
         at: u32,
         known: Known,
         wanted: Option<Sort>,
         base: usize,
+        arguments: &[Expr],
     ) -> Result<Val, Fault> {
         match known {
             Known::Int | Known::Main => self.unknown_of(Sort::INT),
@@ -84,7 +68,13 @@ impl<'a> Maker<'a> {
             Known::Absolute => self.absolute(at, INT, Integer::Int, base),
             Known::AbsoluteLong => self.absolute(at, LONG, Integer::Long, base),
             Known::Writes(first) => self.writes(at, first, base),
-            Known::Reads => self.reads(at, base),
+            Known::Reads => {
+                self.reads_texts(at, base, 0, arguments)?;
+                self.unknown_of(Sort::INT)
+            }
+            Known::PutsText => self.puts_text_at(at, base, arguments),
+            Known::PutsMost(number) => self.puts_most(at, base, arguments, number as usize),
+            Known::PutsBytes => self.puts_bytes(at, base),
             Known::InFinal => self.in_final(at),
             Known::ThreadNumber => self.of_thread(at, false),
             Known::ThreadCount => self.of_thread(at, true),
@@ -112,7 +102,7 @@ impl<'a> Maker<'a> {
     }
 
     /// The room of what a pointer leads to, or of a byte.
-    fn leads_to(&self, pointer: Sort) -> Extent {
+    pub(crate) fn leads_to(&self, pointer: Sort) -> Extent {
         let Some(target) = pointer.target(self.unit) else {
             return Extent::scalar(1);
         };
@@ -138,7 +128,7 @@ impl<'a> Maker<'a> {
     }
 
     /// How many cells so many bytes are.
-    fn cells_in(&mut self, bytes: u32, extent: Extent) -> Result<u32, Fault> {
+    pub(crate) fn cells_in(&mut self, bytes: u32, extent: Extent) -> Result<u32, Fault> {
         let count = self.elements(bytes, extent)?;
         if extent.cells == 1 {
             return Ok(count);
@@ -185,7 +175,7 @@ impl<'a> Maker<'a> {
     }
 
     /// Cells at a pointer, at this site.
-    fn at_pointer(&mut self, at: u32, pointer: Val) -> Aim {
+    pub(crate) fn at_pointer(&mut self, at: u32, pointer: Val) -> Aim {
         Aim {
             slot: pointer.slot,
             sort: Sort::INT,
@@ -199,6 +189,7 @@ impl<'a> Maker<'a> {
         let pointer = self.argument(at, base, 0)?;
         let byte = self.argument(at, base, 1)?;
         let bytes = self.argument(at, base, 2)?;
+        self.notes_letters(pointer.sort);
         let extent = self.leads_to(pointer.sort);
         let count = self.cells_in(bytes.slot, extent)?;
         let filled = if extent.bytes == 1 {
@@ -219,6 +210,7 @@ impl<'a> Maker<'a> {
         let to = self.argument(at, base, 0)?;
         let from = self.argument(at, base, 1)?;
         let bytes = self.argument(at, base, 2)?;
+        self.notes_letters(to.sort);
         let into = self.leads_to(to.sort);
         let extent = if into.bytes == 1 {
             self.leads_to(from.sort)
@@ -264,22 +256,13 @@ impl<'a> Maker<'a> {
             if let Some(pointer) = self.arguments.get(place).copied()
                 && pointer.sort.target(self.unit).is_some()
             {
+                self.notes_letters(pointer.sort);
                 let out = self.emit(Form::Branch(at, pointer.slot, 0))?;
                 let unknown = self.unknown()?;
                 let aim = self.at_pointer(at, pointer);
                 self.store_scalar(aim, unknown)?;
                 self.lands(out)?;
             }
-        }
-        self.unknown_of(Sort::INT)
-    }
-
-    /// The first cell to which an argument points is read.
-    fn reads(&mut self, at: u32, base: usize) -> Result<Val, Fault> {
-        let pointer = self.argument(at, base, 0)?;
-        if !pointer.own && pointer.sort != Sort::ANY_POINTER {
-            let slot = self.fresh()?;
-            self.emit(Form::Load(at, slot, pointer.slot))?;
         }
         self.unknown_of(Sort::INT)
     }

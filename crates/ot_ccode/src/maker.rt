@@ -204,6 +204,9 @@ pub(crate) struct Maker<'a> {
     pub(crate) is_untouched: Vec<bool>,
     pub(crate) untouched: Vec<u32>,
     pub(crate) is_random: bool,
+    /// Whether a string is touched that a pointer leads to, and whether letters are written.
+    pub(crate) follows_letters: bool,
+    pub(crate) writes_letters: bool,
 }
 
 /// One less deep, at this token.

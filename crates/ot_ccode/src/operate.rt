@@ -301,6 +301,8 @@ impl<'a> Maker<'a> {
     /// To a place a value of its type.
     pub(crate) fn store(&mut self, aim: Aim, value: Val) -> Result<(), Fault> {
         if let Class::Record(_) = self.class(aim.sort) {
+            // (which may have letters)
+            self.writes_letters = true;
             let extent = self.extent(aim.site, aim.sort)?;
             return self.copy_cells(aim, value, extent.cells);
         }
@@ -308,6 +310,9 @@ impl<'a> Maker<'a> {
     }
 
     pub(crate) fn store_scalar(&mut self, aim: Aim, slot: u32) -> Result<(), Fault> {
+        if aim.way == Way::Cell && self.is_letter(aim.sort) {
+            self.writes_letters = true;
+        }
         match aim.way {
             Way::Slot => self.emit(Form::Copy(aim.slot, slot))?,
             Way::Cell => self.emit(Form::Store(aim.site, aim.slot, slot))?,

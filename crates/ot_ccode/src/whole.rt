@@ -26,11 +26,16 @@ pub struct Translated {
     pub is_alone: bool,
     /// Whether random numbers of its own are drawn.
     pub is_random: bool,
+    /// Whether letters are written, and of a string that a pointer leads to only the first one is touched.
+    pub follows_letters: bool,
     /// Whether a team of two threads is executed where a team may have more.
     pub has_team: bool,
     /// The forms that can't be executed because the threads of a team came to different barriers there.
     pub apart: Vec<u32>,
 }
+
+/// How many words a command line has at most, and how many letters its first one.
+const MOST_WORDS: u32 = 256;
 
 /// Whether a variable has an object that begins with the program.
 fn is_global(variable: &Variable) -> bool {
@@ -96,6 +101,8 @@ impl<'a> Maker<'a> {
             is_untouched,
             untouched: Vec::new(alloc),
             is_random: false,
+            follows_letters: false,
+            writes_letters: false,
         })
     }
 
@@ -221,9 +228,22 @@ impl<'a> Maker<'a> {
             None => 0,
         };
         self.site = at;
+        if !in_team && parameters > 1 {
+            self.words(at, first.saturating_add(1))?;
+        }
         self.emit(Form::Call(at, entry, first))?;
         self.emit(Form::Stop)?;
         Ok((globals, self.frame.most))
+    }
+
+    /// `argv`: the first word is some string, and of the others nothing is known.
+    fn words(&mut self, at: u32, to: u32) -> Result<(), Fault> {
+        let name = self.name_at(at);
+        self.emit(Form::Begin(to, MOST_WORDS, name, false))?;
+        let word = self.fresh()?;
+        self.emit(Form::Begin(word, MOST_WORDS, name, false))?;
+        self.emit(Form::StoreOwn(at, to, word))?;
+        Ok(())
     }
 
     fn functions(&mut self) -> Result<(), Fault> {
@@ -363,6 +383,7 @@ pub fn translate(alloc: Global, unit: &Unit, known: &[Option<Known>]) -> Result<
         entry,
         is_alone,
         is_random: maker.is_random,
+        follows_letters: maker.follows_letters && maker.writes_letters,
         has_team: maker.has_team,
         apart: maker.apart,
     })

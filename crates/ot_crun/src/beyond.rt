@@ -8,7 +8,6 @@ use std::alloc::{AllocError, Global};
 /// The first thing of a text that isn't executed yet: its byte, and why.
 pub(crate) fn beyond(
     alloc: Global,
-    text: &[u8],
     tokens: &[Token],
     unit: &Unit,
 ) -> Result<Option<(usize, &'static str)>, AllocError> {
@@ -19,10 +18,6 @@ pub(crate) fn beyond(
     if let Some(at) = apart_cast(alloc, tokens, unit)? {
         let words = "a pointer that is cast to a type of another size isn't executed yet";
         return Ok(Some((byte_of(tokens, at), words)));
-    }
-    if let Some(byte) = text_in(text, tokens, unit) {
-        let words = "what `%s` prints isn't executed yet where there are strings in memory";
-        return Ok(Some((byte, words)));
     }
     Ok(None)
 }
@@ -70,43 +65,4 @@ fn union_in(tokens: &[Token], unit: &Unit) -> Option<u32> {
         }
     }
     Some(0)
-}
-
-fn is_letter(unit: &Unit, kind: u32) -> bool {
-    matches!(
-        unit.types.get(kind as usize),
-        Some(Type::Integer(Integer::Char | Integer::UnsignedChar))
-    )
-}
-
-/// Whether a variable has letters, or points to some.
-fn has_letters(unit: &Unit, kind: u32) -> bool {
-    match unit.types.get(kind as usize) {
-        Some(Type::Array(of, _) | Type::Pointer(of)) => is_letter(unit, *of),
-        _ => false,
-    }
-}
-
-/// Where a string has `%s`, in a text that has letters in memory.
-fn text_in(text: &[u8], tokens: &[Token], unit: &Unit) -> Option<usize> {
-    if !unit
-        .variables
-        .iter()
-        .any(|variable| has_letters(unit, variable.kind))
-    {
-        return None;
-    }
-    for token in tokens {
-        if let Kind::Text(len) = token.kind {
-            let rest = &text[token.at.min(text.len())..];
-            let end = (len as usize)
-                .saturating_mul(4)
-                .saturating_add(2)
-                .min(rest.len());
-            if rest[..end].windows(2).any(|two| two == b"%s".as_slice()) {
-                return Some(token.at);
-            }
-        }
-    }
-    None
 }

@@ -19,6 +19,8 @@ pub(crate) struct Reading {
     pub untouched: Vec<u32>,
     /// Whether teams are executed that may have more than two threads.
     pub has_team: bool,
+    /// Whether letters are written, and of a string that a pointer leads to only the first one is touched.
+    pub follows_letters: bool,
     /// The forms at which the threads of a team come to different barriers.
     pub apart: Vec<u32>,
 }
@@ -107,7 +109,7 @@ fn tree_of(
 ) -> Result<Read, AllocError> {
     let given = tokens.as_slice().to_vec(alloc)?;
     match unit_of(alloc, given) {
-        Ok(unit) => code_of(alloc, text, tokens, names, unit),
+        Ok(unit) => code_of(alloc, tokens, names, unit),
         Err(ParseError::Memory) => Err(AllocError),
         Err(ParseError::Fault(fault)) => {
             let byte = byte_of(&tokens, fault.at);
@@ -131,12 +133,11 @@ fn spelled(token: Token, text: &[u8]) -> &str {
 
 fn code_of(
     alloc: Global,
-    text: &[u8],
     tokens: Vec<Token>,
     names: Names,
     unit: Unit,
 ) -> Result<Read, AllocError> {
-    if let Some((byte, words)) = beyond(alloc, text, &tokens, &unit)? {
+    if let Some((byte, words)) = beyond(alloc, &tokens, &unit)? {
         return Ok(Read::Outside(byte, String::from_str(alloc, words)?));
     }
     let known = known_of(alloc, &names)?;
@@ -152,6 +153,7 @@ fn code_of(
                 unit,
                 untouched: translated.untouched,
                 has_team: translated.has_team,
+                follows_letters: translated.follows_letters,
                 apart: translated.apart,
             };
             Ok(Read::Whole(reading, placed))

@@ -118,11 +118,14 @@ impl Source<'_> {
         Ok(turns)
     }
 
-    /// The calls through which the place came: the innermost first.
+    /// The calls through which the place came: the innermost first, and each place once.
     fn calls(&self, alloc: Global, context: u32) -> Result<Vec<Remark>, AllocError> {
         let mut calls = Vec::new(alloc);
+        let mut sites: Vec<u32> = Vec::new(alloc);
         for one in self.contexts(alloc, context)? {
-            if one.entered == Entered::Call && one.outer != 0 && calls.len() < CALLS {
+            let is_call = one.entered == Entered::Call && one.outer != 0;
+            if is_call && calls.len() < CALLS && !sites.contains(&one.site) {
+                sites.push(one.site)?;
                 calls.push(Remark {
                     place: Some(self.place(one.site)),
                     turns: Vec::new(alloc),
@@ -311,7 +314,11 @@ pub(crate) fn wrong(
     }
 }
 
-/// What is told, with a note for each function without a body that was called, and one where teams are executed.
+const FIRST_LETTERS: &str =
+    "judged as if of a string that a pointer leads to only the first letter were touched";
+
+/// What is told, with a note for each function without a body that was called, one where teams are executed, and one where strings are
+/// touched that may be longer.
 pub(crate) fn with_assumed(
     alloc: Global,
     reading: &Reading,
@@ -328,6 +335,10 @@ pub(crate) fn with_assumed(
     }
     if reading.has_team {
         let words = String::from_str(alloc, "judged with two threads in each team")?;
+        put_note(alloc, &mut judged.found, words)?;
+    }
+    if reading.follows_letters {
+        let words = String::from_str(alloc, FIRST_LETTERS)?;
         put_note(alloc, &mut judged.found, words)?;
     }
     Ok(judged)

@@ -1,0 +1,17 @@
+/* By its step the iterator names the even elements, and those are read. */
+#include <stdio.h>
+static void all(int n)
+{
+    int v[n];
+    #pragma omp parallel
+    #pragma omp single
+    {
+        for (int i = 0; i < n; i++)
+            #pragma omp task depend(out: v[i])
+            v[i] = i;
+        #pragma omp task depend(iterator(it = 0:n:2), in: v[it])
+        for (int i = 0; i < n; i += 2)
+            printf("%d\n", v[i]);
+    }
+}
+int main(void) { all(9); return 0; }
