@@ -260,6 +260,7 @@ impl Parser {
                 self.settle()?;
                 return Ok(items);
             }
+            self.links = 0;
             let item = self.unary(MAX_DEPTH)?;
             items.push(item)?;
             if !self.take(Mark::Comma) && !self.is_mark(Mark::Close) {

@@ -140,6 +140,7 @@ impl Parser {
         if !self.take(Mark::Assign) {
             return Ok(None);
         }
+        self.links = 0;
         let initial = self.initial(MAX_DEPTH)?;
         self.settle()?;
         Ok(Some(initial))

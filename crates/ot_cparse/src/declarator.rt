@@ -210,7 +210,10 @@ impl Parser {
         if self.is_mark(Mark::CloseIndex) || is_star {
             return Ok(());
         }
+        let links = self.links;
+        self.links = 0;
         let length = self.assign(MAX_DEPTH)?;
+        self.links = links;
         if !self.is_mark(Mark::CloseIndex) {
             return Err(self.fault(Why::Expected(Mark::CloseIndex)));
         }

@@ -44,7 +44,10 @@ impl Parser {
             }
             let name = self.name()?;
             if self.take(Mark::Assign) {
+                let links = self.links;
+                self.links = 0;
                 let value = self.choice(MAX_DEPTH)?;
+                self.links = links;
                 last = Some(self.enumerator(kind, Some(value), 0)?);
                 more = 0;
             } else {

@@ -9,6 +9,7 @@ use std::alloc::AllocError;
 impl Parser {
     /// An expression, and the lengths of types that it names.
     pub(crate) fn whole(&mut self) -> Result<Expr, ParseError> {
+        self.links = 0;
         let value = self.expression(MAX_DEPTH)?;
         self.settle()?;
         Ok(value)
@@ -30,6 +31,7 @@ impl Parser {
             if !self.take(Mark::Comma) {
                 break;
             }
+            self.link()?;
             let next = self.assign(depth - 1)?;
             value = self.comma(at, value, next)?;
         }
@@ -116,6 +118,7 @@ impl Parser {
             }
             let at = self.here();
             self.step();
+            self.link()?;
             let right = self.operation(tightly.saturating_add(1), depth - 1)?;
             value = self.joined(at, by, value, right)?;
         }

@@ -32,8 +32,10 @@ impl Parser {
             if self.take(Mark::CloseBlock) {
                 return Ok(entries);
             }
+            let links = self.links;
             let path = self.path(depth - 1)?;
             let value = self.initial(depth - 1)?;
+            self.links = links;
             entries.push(Entry { path, value })?;
             if !self.take(Mark::Comma) && !self.is_mark(Mark::CloseBlock) {
                 break;

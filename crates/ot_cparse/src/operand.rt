@@ -14,8 +14,11 @@ impl Parser {
             return Err(self.fault(Why::Nesting));
         }
         let mut value = self.primary(depth - 1)?;
-        for _ in 0..self.tokens.len() {
+        for part in 0..self.tokens.len() {
             let at = self.here();
+            if part > 0 {
+                self.link()?;
+            }
             match self.kind() {
                 Kind::Mark(Mark::OpenIndex) => {
                     self.step();
@@ -121,7 +124,9 @@ impl Parser {
                 let kind = self.type_name()?;
                 given.push(Expr::Kind(at, kind))?;
             } else {
+                let links = self.links;
                 let value = self.assign(depth - 1)?;
+                self.links = links;
                 given.push(value)?;
             }
             if !self.take(Mark::Comma) && !self.is_mark(Mark::Close) {

@@ -8,6 +8,9 @@ use std::alloc::{AllocError, Global};
 /// How deep what is read nests: each pair of brackets is some seven.
 pub(crate) const MAX_DEPTH: u32 = 1400;
 
+/// How many operators, and parts behind operands, a value has at most on one way through its tree: they make it deeper, as brackets do.
+const MAX_LINKS: u32 = 10_000;
+
 /// Types that each unit has, by their numbers.
 pub(crate) const VOID: u32 = 0;
 
@@ -59,6 +62,8 @@ pub(crate) struct Parser {
     pub enumerations: Vec<u32>,
     /// Whether what is read stands in a function.
     pub is_inside: bool,
+    /// How many links the value has that is being read.
+    pub links: u32,
 }
 
 /// A number that counts what has been made.
@@ -83,6 +88,7 @@ impl Parser {
             pending: Vec::new(alloc),
             enumerations: Vec::new(alloc),
             is_inside: false,
+            links: 0,
         };
         parser.put_types()?;
         parser.put_names(&KNOWN)?;
@@ -117,6 +123,15 @@ impl Parser {
         for (name, kind) in known {
             self.scope.declare(*name, Meaning::Type(*kind))?;
         }
+        Ok(())
+    }
+
+    /// The value that is being read gets deeper.
+    pub(crate) fn link(&mut self) -> Result<(), ParseError> {
+        if self.links >= MAX_LINKS {
+            return Err(self.fault(Why::Nesting));
+        }
+        self.links = self.links.saturating_add(1);
         Ok(())
     }
 

@@ -25,6 +25,7 @@ pub fn unit_of(alloc: Global, tokens: Vec<Token>) -> Result<Unit, ParseError> {
         pending: _,
         enumerations: _,
         is_inside: _,
+        links: _,
     } = parser;
     Ok(unit)
 }
