@@ -17,7 +17,7 @@ use Rattle.ot_owner.proofs.OutLemmas.{permutation_rest}
 use Rattle.ot_model.specs.declared.stmt.Mode.TheVariants.{Reads, Folds}
 use Rattle.ot_owner.specs.Lending.{use_of, uses_of, MayChange}
 use Rattle.ot_owner.specs.Worth.{taken_back, all_back}
-use Rattle.ot_owner.specs.Owning.{Loan, IsFreeFor, Summed, is_of, place_in, names, IsNamed, IsSummed, IsSummedBy, folded_in, folded, without}
+use Rattle.ot_owner.specs.Owning.{Loan, IsFreeFor, Summed, is_of, place_in, names, IsNamed, IsSummed, IsSummedBy, folds_in, begun_in, begun_for, folded_in, folded, without}
 use Rattle.ot_owner.specs.declared.lent.LentCell.{LentCell}
 use Rattle.ot_owner.proofs.NameLemmas.{place-named}
 use Rattle.book_tests.specs.TwoGroups.{nth, IsFoldOf, IsOver, AreTwo}
@@ -53,6 +53,16 @@ two-taken w o l gs two = by (is_fold l.mode)
 pub two-back : (w : ℕ) (o : Operation) (lent : List LentCell) (gs : List Summed) → AreTwo o gs → AreTwo o (all_back w lent gs)
 two-back w o [] gs two = two
 two-back w o (l ∷ lent) gs two = two-back w o lent (taken_back w l gs) (two-taken w o l gs two)
+
+pub two-begun : (w : ℕ) (us : List Use) (o : Operation) (gs : List Summed) → AreTwo o gs → AreTwo o (begun_for w us gs)
+two-begun w us o [] two = absurd two
+two-begun w us o (g ∷ []) two = absurd two
+two-begun w us o (outer ∷ inner ∷ []) two = (begun 1 0 outer (folds_in outer.uses us) two.0, begun 2 1 inner (folds_in inner.uses us) two.1)
+  where
+    begun : (n i : ℕ) (g : Summed) (b : Bool) → IsOver n o i g → IsOver n o i (if b then begun_in w g else g)
+    begun n i g true is = over-same n o i g (begun_in w g) refl refl refl is
+    begun n i g false is = is
+two-begun w us o (g ∷ h ∷ k ∷ gs) two = absurd two
 
 -- ---- they are opened
 

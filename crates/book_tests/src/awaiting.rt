@@ -3,6 +3,7 @@ use super::table::{Asked, assert_rows};
 use ot_depend::Siblings;
 use ot_model::{Decl, Shape, Stmt};
 use std::alloc::{AllocError, Global};
+use std::sync::Arc;
 use test_reading::read;
 
 /// Tasks over `a` and `b` of 9 cells each, and before them a mark for each but the last: `x` where it
@@ -107,7 +108,7 @@ fn add(
     decl: &Decl,
     is_finished: bool,
 ) -> Result<(), AllocError> {
-    let child = siblings.add(alloc, decl.copy(alloc)?, &[])?;
+    let child = siblings.add(alloc, Arc::new(alloc, decl.copy(alloc)?)?, &[])?;
     if is_finished && siblings.ready(child) {
         siblings.finish(child);
     }

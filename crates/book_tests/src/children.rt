@@ -6,6 +6,7 @@ use super::table::{Asked, assert_rows};
 use ot_depend::Siblings;
 use ot_model::{Cell, Decl, Mode, Use};
 use std::alloc::{AllocError, Global};
+use std::sync::Arc;
 
 /// Adds a child that uses the first cell of the first array, in these groups.
 fn add(
@@ -22,7 +23,7 @@ fn add(
         mode,
     };
     let decl = Decl::new(vec![in alloc; only]?);
-    siblings.add(alloc, decl, groups)
+    siblings.add(alloc, Arc::new(alloc, decl)?, groups)
 }
 
 /// Two readers, a writer and a reader of one cell, numbered in that order, and some in the groups 7

@@ -3,6 +3,7 @@ use super::table::{Asked, assert_rows};
 use ot_depend::Siblings;
 use ot_model::{Decl, Shape, Stmt};
 use std::alloc::{AllocError, Global};
+use std::sync::Arc;
 use test_reading::read;
 
 /// A task over `a` and `b` of 9 cells each, and what is read of it: its cells in order, each with one
@@ -86,8 +87,8 @@ fn said_of_two(alloc: Global, body: &[Stmt]) -> Result<String, AllocError> {
 /// Whether the second of two children is ready.
 fn is_ready_behind(alloc: Global, earlier: &Decl, later: &Decl) -> Result<bool, AllocError> {
     let mut siblings = Siblings::new(alloc);
-    let _ = siblings.add(alloc, earlier.copy(alloc)?, &[])?;
-    let second = siblings.add(alloc, later.copy(alloc)?, &[])?;
+    let _ = siblings.add(alloc, Arc::new(alloc, earlier.copy(alloc)?)?, &[])?;
+    let second = siblings.add(alloc, Arc::new(alloc, later.copy(alloc)?)?, &[])?;
     Ok(siblings.ready(second))
 }
 

@@ -8,6 +8,7 @@ use super::table::{Asked, assert_rows};
 use ot_model::{Cell, Cells, Decl, Look, Mode, Use};
 use ot_owner::{Lent, Owners};
 use std::alloc::{AllocError, Global};
+use std::sync::Arc;
 
 /// One array of the numbers 1, 2, 3.
 pub(crate) fn one_two_three(alloc: Global) -> Result<Cells, AllocError>
@@ -54,7 +55,7 @@ fn lend(
     if !owners.free_for(&decl) {
         return Err(AllocError);
     }
-    let slip = owners.prepare(alloc, decl, worker)?;
+    let slip = owners.prepare(alloc, Arc::new(alloc, decl)?, worker)?;
     Ok(owners.lease(cells, slip))
 }
 

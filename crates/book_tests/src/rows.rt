@@ -13,6 +13,7 @@ use ot_model::{Cells, Decl, Fold, Look, Mode};
 use ot_owner::{Lent, Owners, Room, Slip};
 use std::alloc::{AllocError, Global};
 use std::marker::Model;
+use std::sync::Arc;
 
 /// Room for a group that names one cell, asked for once more where memory was refused.
 fn room_again(alloc: Global, owners: &mut Owners, index: u32) -> Result<Room, AllocError>
@@ -59,7 +60,8 @@ fn prepare_again(
     ensures last { IfOk result (λ slip. IsLast owners.new slip) }
     ensures owned { owners.new.owned ≡ owners.old.owned }
 {
-    let same = decl.copy(alloc)?;
+    let decl = Arc::new(alloc, decl)?;
+    let same = Arc::try_clone(&decl)?;
     match owners.prepare(alloc, decl, worker) {
         Ok(slip) => Ok(slip),
         Err(_) => owners.prepare(alloc, same, worker),

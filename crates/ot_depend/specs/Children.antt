@@ -1,10 +1,11 @@
 -- The children that the code's records stand for.
 use Rattle.std.specs.Prelude.{◌≡◌, ℕ, false, List, Some, map, slice_get}
+use Rattle.std.specs.Arc.{arc_value}
 use Rattle.ot_depend.specs.Kept.{Kid, HasRoom, Admits}
 use Rattle.ot_depend.specs.declared.child.Child.{Child}
 
 abbrev pub kid_of : Child → Kid
-kid_of c = record { it = record { uses = c.decl; groups = c.groups.items; finished = c.finished }; waiting = c.waiting; waiters = c.waiters.items }
+kid_of c = record { it = record { uses = arc_value c.decl; groups = c.groups.items; finished = c.finished }; waiting = c.waiting; waiters = c.waiters.items }
 
 abbrev pub kids_of : List Child → List Kid
 kids_of children = map kid_of children

@@ -8,11 +8,12 @@ ghost use Rattle.ot_depend.specs.Children.{kid_of, kids_of, HasRoomAt, AdmitsAt}
 use crate::numbers::{make_room, put_last};
 use ot_model::Decl;
 use std::alloc::AllocError;
+use std::sync::Arc;
 
 /// One child of the body.
 #[derive(Debug, Drop)]
 pub(crate) struct Child {
-    pub(crate) decl: Decl,
+    pub(crate) decl: Arc<Decl>,
     /// The groups that were open where it was created.
     pub(crate) groups: Vec<u32>,
     pub(crate) finished: bool,

@@ -9,6 +9,7 @@ use crate::groups::Groups;
 use ot_model::{Decl, Use};
 use std::alloc::{AllocError, Global};
 use std::mem;
+use std::sync::Arc;
 
 /// The children, and what is kept so that none has to be passed over.
 #[derive(Debug, Drop)]
@@ -26,6 +27,7 @@ pub(crate) struct Kept {
 }
 
 impl Kept {
+    ghost use Rattle.std.specs.Arc.{arc_value};
     ghost use Rattle.ot_depend.specs.View.{kids_in, siblings_in, IsKept, IsPlanned};
     ghost use Rattle.ot_model.specs.Cells.{updated};
     ghost use Rattle.ot_depend.specs.Kept.{woken, waiters_of, ended};
@@ -66,11 +68,11 @@ impl Kept {
     }
 
     /// Adds the child that was planned, and tells its number. It takes no memory.
-    pub(crate) fn add(&mut self, alloc: Global, decl: Decl, groups: Vec<u32>) -> usize
+    pub(crate) fn add(&mut self, alloc: Global, decl: Arc<Decl>, groups: Vec<u32>) -> usize
         requires kept { IsKept self.old }
-        requires planned { IsPlanned self.old decl groups.items }
+        requires planned { IsPlanned self.old (arc_value decl) groups.items }
         ensures number { result ≡ length (siblings_in self.old) }
-        ensures added { siblings_in self.new ≡ siblings_in self.old ++ created decl groups.items ∷ [] }
+        ensures added { siblings_in self.new ≡ siblings_in self.old ++ created (arc_value decl) groups.items ∷ [] }
         ensures kept { IsKept self.new }
     {
         let child = self.children.len();

@@ -4,6 +4,7 @@ use crate::kept::Kept;
 use ot_model::Decl;
 use std::alloc::{AllocError, Global};
 use std::marker::Model;
+use std::sync::Arc;
 
 /// The children of one body, numbered from 0 in order of their creation: what each declares, the
 /// groups that were open where it was created, and whether it has finished.
@@ -26,6 +27,7 @@ impl Model for Siblings {
 }
 
 impl Siblings {
+    ghost use Rattle.std.specs.Arc.{arc_value};
     ghost use Rattle.ot_model.specs.declared.stmt.Use.{Use};
     ghost use Rattle.ot_depend.specs.Siblings.{waiting_for, IsReady, IsUnfinished, FinishedAreReady, created, with_finished, is_ready, is_unfinished, is_unfinished_in, waits_for, AreFree, LetsTheSame, WaitForLess};
 
@@ -40,9 +42,14 @@ impl Siblings {
 
     /// Adds a child that is created with this declaration while these groups are open. The answer
     /// is its number, counted from 0. Where memory is refused, the children are as before.
-    pub fn add(&mut self, alloc: Global, decl: Decl, groups: &[u32]) -> Result<usize, AllocError>
+    pub fn add(
+        &mut self,
+        alloc: Global,
+        decl: Arc<Decl>,
+        groups: &[u32],
+    ) -> Result<usize, AllocError>
         ensures number { IfOk result (λ child. child ≡ length self.old) }
-        ensures added { OnOk result (self.new ≡ self.old ++ created decl groups.now ∷ []) }
+        ensures added { OnOk result (self.new ≡ self.old ++ created (arc_value decl) groups.now ∷ []) }
         ensures refused { OnErr result (self.new ≡ self.old) }
     {
         let groups = groups.to_vec(alloc)?;

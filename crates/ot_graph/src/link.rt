@@ -7,6 +7,7 @@ ghost use Rattle.ot_graph.specs.Children.{decls_of};
 use crate::child::Child;
 use ot_depend::Siblings;
 use std::alloc::{AllocError, Global};
+use std::sync::Arc;
 
 /// Of two children of one body, by their places in the order of creation, from 0: the later waits for the
 /// earlier by itself (OpenMP API 5.2, section 15.9.5).
@@ -36,7 +37,7 @@ fn enrolled(alloc: Global, children: &[Child<'_>]) -> Result<Siblings, AllocErro
 {
     let mut siblings = Siblings::new(alloc);
     for child in children {
-        let decl = child.decl.copy(alloc)?;
+        let decl = Arc::new(alloc, child.decl.copy(alloc)?)?;
         siblings.add(alloc, decl, &[])?;
     }
     Ok(siblings)

@@ -12,6 +12,7 @@ mod rights;
 pub mod room;
 mod rows;
 pub mod slip;
+mod spare;
 
 pub use lent::{Lent, LentCell};
 pub use owners::Owners;

@@ -5,18 +5,21 @@ use crate::rights::Rights;
 use crate::room::Room;
 use crate::rows::Group;
 use crate::slip::Slip;
+use crate::spare::Spare;
 use ot_model::{Cell, Cells, Decl, Fold, Look};
 use std::alloc::{AllocError, Global};
 use std::marker::Model;
+use std::sync::Arc;
 
 /// Who reads, writes or folds into which cell at this moment: the rights that are out, and for each open
 /// group a row of private copies for each worker that folds in it. No two rights conflict at a cell, as uses
 /// of one cell do unless both read or both fold by one operation, and no cell is in two open groups. Only
-/// `room` and `prepare` take memory.
+/// `room` and `prepare` take memory, and the memory of one lease that ended is kept for the next.
 #[derive(Debug, Drop)]
 pub struct Owners {
     rights: Rights,
     groups: Vec<Group>,
+    spare: Spare,
 }
 
 impl Model for Owners {
@@ -38,6 +41,7 @@ impl Model for Owners {
 }
 
 impl Owners {
+    ghost use Rattle.std.specs.Arc.{arc_value};
     ghost use Rattle.std.specs.Prelude.{◌≡◌, ◌≢◌, ◌↔◌, ◌≤◌, ◌++◌, ◌∷◌, [], ℕ, List, None, Some, IsTrue, IsSome, IfOk, All, Any, Contains, IsPermutation, option_map, replicate};
     ghost use Rattle.ot_model.specs.Cells.{cell_of, lengths};
     ghost use Rattle.ot_model.specs.declared.expr.Cell.{Cell};
@@ -56,6 +60,7 @@ impl Owners {
         Owners {
             rights: Rights::new(alloc),
             groups: Vec::new(alloc),
+            spare: Spare::new(alloc),
         }
     }
 
@@ -101,14 +106,19 @@ impl Owners {
 
     /// All memory of a lease of these uses to a worker, 1 to 16, and of its rows. What is out and open
     /// stays, whatever the answer.
-    pub fn prepare(&mut self, alloc: Global, decl: Decl, worker: u32) -> Result<Slip, AllocError>
+    pub fn prepare(
+        &mut self,
+        alloc: Global,
+        decl: Arc<Decl>,
+        worker: u32,
+    ) -> Result<Slip, AllocError>
         requires { (1 ≤ worker) × (worker ≤ 16) }
-        ensures slip { IfOk result (λ slip. slip ≡ record { uses = decl; worker = worker }) }
+        ensures slip { IfOk result (λ slip. slip ≡ record { uses = arc_value decl; worker = worker }) }
         ensures last { IfOk result (λ slip. IsLast self.new slip) }
         ensures owned { self.new.owned ≡ self.old.owned }
         ensures rooms { IsOpenable self.old → IsOpenable self.new }
     {
-        let slip = Slip::of(alloc, decl, worker)?;
+        let slip = Slip::of(alloc, decl, worker, &mut self.spare)?;
         make_rows(&mut self.groups, slip.folds(), worker as usize)?;
         self.rights.make()?;
         Ok(slip)
@@ -178,8 +188,8 @@ impl Owners {
         ensures slips { (s : Prepared) → IsLast self.old s → IsLast self.new s }
         ensures rooms { IsOpenable self.old → IsOpenable self.new }
     {
-        self.rights.end(lent.keyed(), worker);
-        lent.discard();
+        let right = self.rights.end(lent.keyed(), worker);
+        self.spare.keep(right.into_firsts(), lent.into_cells());
     }
 
     /// Closes an open group, whose cells are there, and of which none is out: each stored number is combined

@@ -45,6 +45,7 @@ pub(crate) struct Rights {
 
 impl Rights {
     ghost use Rattle.ot_owner.specs.Kept.{loans_in, loan_at, spare_in};
+    ghost use Rattle.ot_owner.specs.Lending.{lease_of};
 
     /// No right is out. It takes no memory.
     pub(crate) fn new(alloc: Global) -> Rights
@@ -84,15 +85,17 @@ impl Rights {
         self.loans.insert_reserved(loan)
     }
 
-    /// Ends one right to these cells that is out to the worker: their own one, where it is out.
-    pub(crate) fn end(&mut self, lent: &Keyed, worker: u32)
+    /// Takes one right to these cells that is out to the worker from those that are out: their own one, where
+    /// it is out. It takes no memory.
+    pub(crate) fn end(&mut self, lent: &Keyed, worker: u32) -> Right
         requires { Contains (loans_in self.old) (loan_of worker lent.now.cells.items) }
+        ensures right { result ≡ lease_of lent.now.cells.items }
         ensures ended { IsPermutation (loans_in self.old) (loan_of worker lent.now.cells.items ∷ loans_in self.new) }
         ensures own { loan_at self.old lent.now.key ≡ Some (loan_of worker lent.now.cells.items) → loan_at self.new lent.now.key ≡ None }
         ensures spare { spare_in self.new ≡ spare_in self.old + 1 }
     {
         let key = key_of(&self.loans, lent, worker);
-        self.loans.remove(key);
+        self.loans.remove(key).right
     }
 }
 

@@ -3,11 +3,13 @@ ghost use Rattle.ot_model.specs.declared.stmt.Use.{Use};
 ghost use Rattle.ot_owner.specs.Owning.{folds_in, loan_of};
 
 use crate::lent::LentCell;
-use crate::right::{Right, RightRoom};
+use crate::right::RightRoom;
 use crate::rights::Loan;
+use crate::spare::Spare;
 use ot_model::{Cells, Decl, Look, Mode, Use};
 use std::alloc::{AllocError, Global};
 use std::marker::Model;
+use std::sync::Arc;
 
 /// All memory of a lease that is to come, of these uses and for this worker. No cell is read before the
 /// lease.
@@ -34,16 +36,23 @@ impl Model for Slip {
 }
 
 impl Slip {
+    ghost use Rattle.std.specs.Arc.{arc_value};
     ghost use Rattle.ot_model.specs.Cells.{cell_of, AreInOrder};
     ghost use Rattle.ot_owner.specs.Lending.{lent_from};
 
-    /// Room for a lease of these uses to this worker, which is at most 16.
-    pub(crate) fn of(alloc: Global, decl: Decl, worker: u32) -> Result<Slip, AllocError>
+    /// Room for a lease of these uses to this worker, which is at most 16. Where the memory of a lease that
+    /// ended is enough for it, it is used again.
+    pub(crate) fn of(
+        alloc: Global,
+        decl: Arc<Decl>,
+        worker: u32,
+        spare: &mut Spare,
+    ) -> Result<Slip, AllocError>
         requires { worker < 17 }
-        ensures { IfOk result (λ slip. slip ≡ record { uses = decl; worker = worker }) }
+        ensures { IfOk result (λ slip. slip ≡ record { uses = arc_value decl; worker = worker }) }
     {
-        let room = Right::room(alloc, decl)?;
-        let lent = Vec::with_capacity(alloc, room.uses().len())?;
+        let (firsts, lent) = spare.take(alloc, decl.uses().len())?;
+        let room = RightRoom::new(decl, firsts);
         let folds = folding(alloc, room.uses())?;
         Ok(Slip {
             room,
@@ -81,6 +90,7 @@ impl Slip {
     pub(crate) fn fill(self, cells: &Cells) -> (Vec<LentCell>, Loan)
         requires { All (λ u. IsSome (cell_of cells.now u.cell)) self.uses }
         ensures lent { result.0.items ≡ lent_from cells.now self.uses }
+        ensures ordered { AreInOrder self.uses }
         ensures loan { result.1 ≡ loan_of self.worker (lent_from cells.now self.uses) }
     {
         let Slip {

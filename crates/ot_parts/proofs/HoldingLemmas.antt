@@ -9,14 +9,10 @@ use Rattle.ot_model.specs.declared.fold.Fold.{Fold as Operation}
 use Rattle.ot_model.specs.declared.stmt.Mode.{Mode}
 use Rattle.ot_model.specs.declared.stmt.Mode.TheVariants.{Reads, Writes, Folds}
 use Rattle.ot_model.specs.declared.stmt.Use.{Use}
-use Rattle.ot_parts.specs.Modes.{Declared, folds_to, held_as, mode_held, held, noted, stronger, with_mode, added, strongest}
+use Rattle.ot_parts.specs.Modes.{Declared, as_held, folds_to, held_as, held, noted, stronger, with_mode, added, strongest}
 use Rattle.ot_parts.proofs.FoldLemmas.{same_self}
 
 -- ---- use by use
-
--- a use as it is held
-abbrev pub as_held : Declared → Use → Use
-as_held own u = record { cell = u.cell; mode = mode_held own u }
 
 pub held-in_order : (own : Declared) (us : List Use) → AreInOrder us → AreInOrder (map (as_held own) us)
 held-in_order own [] order = tt
@@ -31,6 +27,10 @@ held-mode_in own (u ∷ us) c = by (same_cell c u.cell) refl (held-mode_in own u
         → (if b then Some (held_as own u.cell u.mode) else mode_in (map (as_held own) us) c) ≡ option_map (held_as own c) (if b then Some u.mode else mode_in us c)
     by true is rest = ap (λ d. Some (held_as own d u.mode)) (sym ((cell-decides c u.cell).0 is))
     by false is rest = rest
+
+-- where each is held as it is
+pub held-so : (own : Declared) (us : List Use) → map (as_held own) us ≡ us → (c : Cell) → mode_in us c ≡ option_map (held_as own c) (mode_in us c)
+held-so own us is = λ c. ap (λ l. mode_in l c) (sym is) ∙ held-mode_in own us c
 
 -- ---- mode by mode
 

@@ -2,6 +2,7 @@
 use Rattle.std.proofs.Common.{rules, ◌≡◌}
 use Rattle.std.specs.Prelude.{List, Option, Some, Vec}
 use Rattle.std.specs.Global.{Global}
+use Rattle.std.specs.Arc.{arc_value}
 use Rattle.std.specs.declared.sync.Arc.{Arc}
 use Rattle.ot_model.specs.Tree.{If, Task, Wait, Group}
 use Rattle.ot_model.specs.declared.expr.Cell.{Cell}
@@ -15,7 +16,7 @@ use Rattle.ot_parts.specs.declared.part.Part.TheVariants as v
 pub if-part : (r : Asked) (a b : Arc (Vec Part Global) Global) → (part_of (v.If r a b)).control ≡ Some (If r.test (body_in a) (body_in b))
 if-part r a b = search (rules, the_lemmas)
 
-pub task-part : (r : Plain) (d : List Use) (b : Arc (Vec Part Global) Global) → (part_of (v.Task r d b)).control ≡ Some (Task d (body_in b))
+pub task-part : (r : Plain) (d : Arc (List Use) Global) (b : Arc (Vec Part Global) Global) → (part_of (v.Task r d b)).control ≡ Some (Task (arc_value d) (body_in b))
 task-part r d b = search (rules, the_lemmas)
 
 pub wait-part : (r : Plain) (w : Option (List Use)) → (part_of (v.Wait r w)).control ≡ Some (Wait w)

@@ -33,6 +33,10 @@ held_as own c (Folds o) = if folds_to own o c then Folds o else Writes
 abbrev pub mode_held : Declared → Use → Mode
 mode_held own u = held_as own u.cell u.mode
 
+-- a use as it is held
+abbrev pub as_held : Declared → Use → Use
+as_held own u = record { cell = u.cell; mode = mode_held own u }
+
 -- the mode in which a cell is held for two touches: folds by two operations are a write
 abbrev pub stronger : Mode → Mode → Mode
 stronger Reads two = two

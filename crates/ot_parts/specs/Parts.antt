@@ -74,7 +74,7 @@ joined (m ∷ ms) = append (whole m) (joined ms)
 abbrev pub part_step : Part-F Meaning → Meaning
 part_step (Part-F.End r) = record { run = r.assigns; control = None }
 part_step (Part-F.If r a b) = record { run = r.assigns; control = Some (If r.test (joined a.value.items) (joined b.value.items)) }
-part_step (Part-F.Task r d b) = record { run = r.assigns; control = Some (Task d (joined b.value.items)) }
+part_step (Part-F.Task r d b) = record { run = r.assigns; control = Some (Task d.value (joined b.value.items)) }
 part_step (Part-F.Wait r w) = record { run = r.assigns; control = Some (Wait w) }
 part_step (Part-F.Group r o cs b) = record { run = r.assigns; control = Some (Group o cs.items (joined b.value.items)) }
 

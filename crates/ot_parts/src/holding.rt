@@ -1,15 +1,45 @@
-ghost use Rattle.std.specs.Prelude.{◌≡◌, IfOk, Some, option_map};
+ghost use Rattle.std.specs.Prelude.{◌≡◌, IfOk, IsTrue, Some, map, option_map};
+ghost use Rattle.std.specs.Arc.{arc_value};
 ghost use Rattle.ot_model.specs.Cells.{AreInOrder, mode_in};
 ghost use Rattle.ot_model.specs.declared.expr.Cell.{Cell};
 ghost use Rattle.ot_model.specs.declared.stmt.Mode.TheVariants.{Folds};
-ghost use Rattle.ot_parts.specs.Modes.{folds_by, folds_to, held_as, mode_held};
+ghost use Rattle.ot_parts.specs.Modes.{as_held, folds_by, folds_to, held_as, mode_held};
 
+use crate::share::share;
 use ot_model::{Cell, Decl, Fold, Mode, Use};
 use std::alloc::{AllocError, Global};
+use std::sync::Arc;
 
 /// These uses as a piece of a body that declares this holds them: a fold that the body doesn't declare so is
-/// a write.
-pub(crate) fn hold(alloc: Global, uses: &Decl, own: Option<&Decl>) -> Result<Decl, AllocError>
+/// a write. They are shared where there is none.
+pub(crate) fn hold(
+    alloc: Global,
+    uses: &Arc<Decl>,
+    own: Option<&Decl>,
+) -> Result<Arc<Decl>, AllocError>
+    ensures ordered { IfOk result (λ d. AreInOrder (arc_value d)) }
+    ensures exact { IfOk result (λ d. (c : Cell) → mode_in (arc_value d) c ≡ option_map (held_as (option_map (λ o. o.now) own.entry) c) (mode_in (arc_value uses.now) c)) }
+{
+    if are_held_so(own, uses.uses()) {
+        return Arc::try_clone(uses);
+    }
+    share(alloc, held(alloc, uses, own)?)
+}
+
+/// Whether a piece of a body that declares this holds each use in the mode that it has.
+fn are_held_so(own: Option<&Decl>, uses: &[Use]) -> bool
+    ensures { IsTrue result → map (as_held (option_map (λ o. o.now) own.entry)) uses.now ≡ uses.now }
+{
+    for used in uses {
+        if mode_held(own, *used) != used.mode {
+            return false;
+        }
+    }
+    true
+}
+
+/// These uses, each in the mode in which a piece of a body that declares this holds it.
+fn held(alloc: Global, uses: &Decl, own: Option<&Decl>) -> Result<Decl, AllocError>
     ensures ordered { IfOk result (λ d. AreInOrder d) }
     ensures exact { IfOk result (λ d. (c : Cell) → mode_in d c ≡ option_map (held_as (option_map (λ o. o.now) own.entry) c) (mode_in uses.now c)) }
 {

@@ -1,4 +1,5 @@
 ghost use Rattle.std.specs.Prelude.{◌≡◌, IfOk, option_map, IfSome};
+ghost use Rattle.std.specs.Arc.{arc_value};
 ghost use Rattle.ot_model.specs.View.{expr_of};
 ghost use Rattle.ot_parts.specs.Parts.{part_of, condition_at, condition_of};
 
@@ -6,17 +7,20 @@ use crate::assign::Assign;
 use crate::assigns::Assigns;
 use crate::holding::hold;
 use crate::part::Part;
+use crate::share::share;
 use crate::touched::touched;
 use ot_model::{Decl, Expr};
 use std::alloc::{AllocError, Global};
+use std::sync::Arc;
 
 /// What comes first in what is left of a body: the sets and folds, which are shared, a copy of the condition
-/// of an `if` behind them, and the cells that these touch in the modes in which a piece holds them.
+/// of an `if` behind them, and the cells that these touch in the modes in which a piece holds them, shared too
+/// where these are the modes in which they are touched.
 #[derive(Debug, Drop)]
 pub struct Leading {
     pub assigns: Assigns,
     pub condition: Option<Expr>,
-    pub held: Decl,
+    pub held: Arc<Decl>,
 }
 
 impl Leading {
@@ -32,8 +36,8 @@ impl Leading {
     ) -> Result<Leading, AllocError>
         ensures assigns { IfOk result (λ l. l.assigns ≡ (part_of part.now).run) }
         ensures condition { IfOk result (λ l. option_map expr_of l.condition ≡ condition_of (part_of part.now).control) }
-        ensures held { IfOk result (λ l. AreHeldBy (option_map (λ o. o.now) own.entry) (part_of part.now).run (condition_of (part_of part.now).control) l.held) }
-        ensures ordered { IfOk result (λ l. AreInOrder l.held) }
+        ensures held { IfOk result (λ l. AreHeldBy (option_map (λ o. o.now) own.entry) (part_of part.now).run (condition_of (part_of part.now).control) (arc_value l.held)) }
+        ensures ordered { IfOk result (λ l. AreInOrder (arc_value l.held)) }
     {
         Ok(Leading {
             assigns: part.assigns().share()?,
@@ -53,10 +57,10 @@ impl Leading {
         requires test { IfSome condition (λ e. PicksFit (expr_of e)) }
         ensures assigns { IfOk result (λ l. l.assigns ≡ assigns_of run.items) }
         ensures condition { IfOk result (λ l. option_map expr_of l.condition ≡ option_map expr_of condition) }
-        ensures held { IfOk result (λ l. AreHeldBy (option_map (λ o. o.now) own.entry) (assigns_of run.items) (option_map expr_of condition) l.held) }
-        ensures ordered { IfOk result (λ l. AreInOrder l.held) }
+        ensures held { IfOk result (λ l. AreHeldBy (option_map (λ o. o.now) own.entry) (assigns_of run.items) (option_map expr_of condition) (arc_value l.held)) }
+        ensures ordered { IfOk result (λ l. AreInOrder (arc_value l.held)) }
     {
-        let uses = touched(alloc, &run, condition.as_ref())?;
+        let uses = share(alloc, touched(alloc, &run, condition.as_ref())?)?;
         Ok(Leading {
             assigns: Assigns::new(alloc, run, uses.uses())?,
             condition,

@@ -16,6 +16,7 @@ mod part;
 mod rest;
 mod run;
 mod same;
+mod share;
 mod step;
 mod steps;
 mod touched;

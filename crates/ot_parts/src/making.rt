@@ -10,6 +10,7 @@ ghost use Rattle.ot_parts.specs.Modes.{AssignsFit};
 use crate::assign::Assign;
 use crate::part::Part;
 use crate::run::{Run, Tested};
+use crate::share::share;
 use ot_model::{Cell, Decl, Fold, Stmt};
 use std::alloc::{AllocError, Global};
 use std::mem;
@@ -97,7 +98,7 @@ fn task_part(alloc: Global, run: Run, decl: &Decl, body: &Vec<Stmt>) -> Result<P
     ensures run { IfOk result (λ p. (part_of p).run ≡ run.assigns) }
     ensures control { IfOk result (λ p. (part_of p).control ≡ Some (Task decl.now (stmts_of body.now.items))) }
 {
-    let decl = decl.copy(alloc)?;
+    let decl = share(alloc, decl.copy(alloc)?)?;
     let body = parts_of(alloc, body)?;
     Ok(Part::Task(run, decl, body))
 }

@@ -11,12 +11,13 @@ pub enum Part {
     End(Run),
     /// An `if`, whose condition stands with the run.
     If(Tested, Arc<Vec<Part>>, Arc<Vec<Part>>),
-    Task(Run, Decl, Arc<Vec<Part>>),
+    Task(Run, Arc<Decl>, Arc<Vec<Part>>),
     Wait(Run, Option<Decl>),
     Group(Run, Fold, Vec<Cell>, Arc<Vec<Part>>),
 }
 
 impl Part {
+    ghost use Rattle.std.specs.Arc.{arc_value};
     ghost use Rattle.std.specs.Prelude.{◌≡◌, is_some, option_map, IfOk};
     ghost use Rattle.ot_model.specs.View.{expr_of};
     ghost use Rattle.ot_parts.specs.Left.{comes, shows};
@@ -47,8 +48,8 @@ impl Part {
     }
 
     /// The cells that its sets and folds and its condition touch.
-    pub fn uses(&self) -> &Decl
-        ensures { AreTouched (part_of self.now).run (condition_of (part_of self.now).control) result.now }
+    pub fn uses(&self) -> &Arc<Decl>
+        ensures { AreTouched (part_of self.now).run (condition_of (part_of self.now).control) (arc_value result.now) }
     {
         match self {
             Part::If(run, _, _) => run.uses(),

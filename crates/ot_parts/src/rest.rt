@@ -71,8 +71,8 @@ impl Rest {
         requires named { (lens : List ℕ) × NamedIn lens self.now }
         ensures assigns { IfOk result (λ l. l.assigns ≡ leading self.now) }
         ensures condition { IfOk result (λ l. option_map expr_of l.condition ≡ test_of (behind self.now)) }
-        ensures held { IfOk result (λ l. AreHeldBy (option_map (λ o. o.now) own.entry) (leading self.now) (test_of (behind self.now)) l.held) }
-        ensures ordered { IfOk result (λ l. AreInOrder l.held) }
+        ensures held { IfOk result (λ l. AreHeldBy (option_map (λ o. o.now) own.entry) (leading self.now) (test_of (behind self.now)) (arc_value l.held)) }
+        ensures ordered { IfOk result (λ l. AreInOrder (arc_value l.held)) }
     {
         match self.alone() {
             Some(part) => Leading::of_part(alloc, part, own),
@@ -100,8 +100,8 @@ impl Rest {
         requires named { (lens : List ℕ) × NamedIn lens self.now }
         ensures assigns { IfOk result (λ l. l.assigns ≡ leading self.now) }
         ensures condition { IfOk result (λ l. option_map expr_of l.condition ≡ test_of (behind self.now)) }
-        ensures held { IfOk result (λ l. AreHeldBy (option_map (λ o. o.now) own.entry) (leading self.now) (test_of (behind self.now)) l.held) }
-        ensures ordered { IfOk result (λ l. AreInOrder l.held) }
+        ensures held { IfOk result (λ l. AreHeldBy (option_map (λ o. o.now) own.entry) (leading self.now) (test_of (behind self.now)) (arc_value l.held)) }
+        ensures ordered { IfOk result (λ l. AreInOrder (arc_value l.held)) }
     {
         let (run, condition) = self.gathered(alloc)?;
         Leading::of_run(alloc, run, condition, own)

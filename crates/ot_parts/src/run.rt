@@ -1,20 +1,23 @@
 ghost use Rattle.std.specs.Prelude.{◌≡◌, IfOk, None, Some};
+ghost use Rattle.std.specs.Arc.{arc_value};
 ghost use Rattle.ot_parts.specs.Assigns.{assigns_of, AreTouched};
 ghost use Rattle.ot_parts.specs.Modes.{AssignsFit, PicksFit};
 
 use crate::assign::Assign;
 use crate::assigns::Assigns;
+use crate::share::share;
 use crate::touched::touched;
 use ot_model::{Decl, Expr};
 use std::alloc::{AllocError, Global};
 use std::marker::Model;
+use std::sync::Arc;
 
 /// Sets and folds that come one behind the other, with the cells that they touch, each in the strongest mode
 /// in which they touch it.
 #[derive(Debug, Drop)]
 pub struct Run {
     assigns: Assigns,
-    uses: Decl,
+    uses: Arc<Decl>,
 }
 
 impl Model for Run {
@@ -26,12 +29,13 @@ impl Model for Run {
 
     ghost coded = { Prim.hlevel (codes, body_code) };
 
+    ghost use Rattle.std.specs.Arc.{arc_value};
     ghost use Rattle.std.specs.Prelude.{None};
     ghost use Rattle.ot_parts.specs.Assigns.{AreTouched};
 
-    ghost view = { λ r. record { assigns = r.assigns; uses = r.uses } };
+    ghost view = { λ r. record { assigns = r.assigns; uses = arc_value r.uses } };
 
-    ghost invariant = { λ r. AreTouched r.assigns None r.uses };
+    ghost invariant = { λ r. AreTouched r.assigns None (arc_value r.uses) };
 }
 
 /// Sets and folds, and the condition of an `if` that comes behind them, with the cells that these touch.
@@ -39,7 +43,7 @@ impl Model for Run {
 pub struct Tested {
     assigns: Assigns,
     test: Expr,
-    uses: Decl,
+    uses: Arc<Decl>,
 }
 
 impl Model for Tested {
@@ -51,13 +55,14 @@ impl Model for Tested {
 
     ghost coded = { Prim.hlevel (codes, body_code, value_code) };
 
+    ghost use Rattle.std.specs.Arc.{arc_value};
     ghost use Rattle.std.specs.Prelude.{Some};
     ghost use Rattle.ot_model.specs.View.{expr_of};
     ghost use Rattle.ot_parts.specs.Assigns.{AreTouched};
 
-    ghost view = { λ r. record { assigns = r.assigns; test = expr_of r.test; uses = r.uses } };
+    ghost view = { λ r. record { assigns = r.assigns; test = expr_of r.test; uses = arc_value r.uses } };
 
-    ghost invariant = { λ r. AreTouched r.assigns (Some (expr_of r.test)) r.uses };
+    ghost invariant = { λ r. AreTouched r.assigns (Some (expr_of r.test)) (arc_value r.uses) };
 }
 
 impl Run {
@@ -66,7 +71,7 @@ impl Run {
         requires { AssignsFit (assigns_of assigns.items) }
         ensures { IfOk result (λ run. run.assigns ≡ assigns_of assigns.items) }
     {
-        let uses = touched(alloc, &assigns, None)?;
+        let uses = share(alloc, touched(alloc, &assigns, None)?)?;
         let assigns = Assigns::new(alloc, assigns, uses.uses())?;
         Ok(Run { assigns, uses })
     }
@@ -79,8 +84,8 @@ impl Run {
     }
 
     /// The cells that it touches.
-    pub fn uses(&self) -> &Decl
-        ensures is { result.now ≡ self.now.uses }
+    pub fn uses(&self) -> &Arc<Decl>
+        ensures is { arc_value result.now ≡ self.now.uses }
         ensures touched { AreTouched self.now.assigns None self.now.uses }
     {
         &self.uses
@@ -97,7 +102,7 @@ impl Tested {
         ensures assigns { IfOk result (λ run. run.assigns ≡ assigns_of assigns.items) }
         ensures test { IfOk result (λ run. run.test ≡ expr_of test) }
     {
-        let uses = touched(alloc, &assigns, Some(&test))?;
+        let uses = share(alloc, touched(alloc, &assigns, Some(&test))?)?;
         let assigns = Assigns::new(alloc, assigns, uses.uses())?;
         Ok(Tested {
             assigns,
@@ -121,8 +126,8 @@ impl Tested {
     }
 
     /// The cells that these touch.
-    pub fn uses(&self) -> &Decl
-        ensures is { result.now ≡ self.now.uses }
+    pub fn uses(&self) -> &Arc<Decl>
+        ensures is { arc_value result.now ≡ self.now.uses }
         ensures touched { AreTouched self.now.assigns (Some self.now.test) self.now.uses }
     {
         &self.uses

@@ -1,5 +1,6 @@
 -- Where a task stands, as the code says it: its list of groups ends with the innermost.
-use Rattle.std.specs.Prelude.{List, Some, None, map, reverse}
+use Rattle.std.specs.Prelude.{List, Some, None, map, option_map, reverse}
+use Rattle.std.specs.Arc.{arc_value}
 use Rattle.ot_depend.specs.Siblings.{Sibling, AreFree}
 use Rattle.ot_task.specs.Regions.{Region, Waiting, Open}
 use Rattle.ot_task.specs.declared.waiting.Waiting.{Waiting as Wait}
@@ -33,7 +34,7 @@ abbrev pub region_of : Inside → Region
 region_of t = record {
   parent = t.parent;
   child = t.child;
-  own = t.decl;
+  own = option_map arc_value t.decl;
   rest = (standing_of t.place).rest;
   groups = (standing_of t.place).groups;
   children = t.children;

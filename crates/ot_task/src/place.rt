@@ -139,8 +139,8 @@ impl Place {
         requires named { (lens : List ℕ) × NamedIn lens (passed_end (standing_of self.now)).rest }
         ensures assigns { IfOk result (λ l. l.assigns ≡ leading (passed_end (standing_of self.now)).rest) }
         ensures condition { IfOk result (λ l. option_map expr_of l.condition ≡ test_of (behind (passed_end (standing_of self.now)).rest)) }
-        ensures held { IfOk result (λ l. AreHeldBy (option_map (λ o. o.now) own.entry) (leading (passed_end (standing_of self.now)).rest) (test_of (behind (passed_end (standing_of self.now)).rest)) l.held) }
-        ensures ordered { IfOk result (λ l. AreInOrder l.held) }
+        ensures held { IfOk result (λ l. AreHeldBy (option_map (λ o. o.now) own.entry) (leading (passed_end (standing_of self.now)).rest) (test_of (behind (passed_end (standing_of self.now)).rest)) (arc_value l.held)) }
+        ensures ordered { IfOk result (λ l. AreInOrder (arc_value l.held)) }
     {
         self.awake().leading(alloc, own)
     }

@@ -16,7 +16,7 @@ use std::sync::Arc;
 pub struct Task {
     parent: usize,
     child: usize,
-    decl: Option<Decl>,
+    decl: Option<Arc<Decl>>,
     place: Place,
     children: Siblings,
     waiting: Waiting,
@@ -71,9 +71,15 @@ impl Task {
         }
     }
 
-    /// A child at the beginning of its body. It takes no memory.
-    fn new(alloc: Global, parent: usize, child: usize, decl: Decl, body: Arc<Vec<Part>>) -> Task
-        ensures { result ≡ new_region parent child decl (parts_of (arc_value body).items) }
+    /// A child at the beginning of its body, which shares its declaration. It takes no memory.
+    fn new(
+        alloc: Global,
+        parent: usize,
+        child: usize,
+        decl: Arc<Decl>,
+        body: Arc<Vec<Part>>,
+    ) -> Task
+        ensures { result ≡ new_region parent child (arc_value decl) (parts_of (arc_value body).items) }
     {
         Task {
             parent,
@@ -148,10 +154,20 @@ impl Task {
         requires named { (lens : List ℕ) × NamedIn lens (awake self.now).rest }
         ensures assigns { IfOk result (λ l. l.assigns ≡ leading (awake self.now).rest) }
         ensures condition { IfOk result (λ l. option_map expr_of l.condition ≡ test_of (behind (awake self.now).rest)) }
-        ensures held { IfOk result (λ l. AreHeldBy self.now.own (leading (awake self.now).rest) (test_of (behind (awake self.now).rest)) l.held) }
-        ensures ordered { IfOk result (λ l. AreInOrder l.held) }
+        ensures held { IfOk result (λ l. AreHeldBy self.now.own (leading (awake self.now).rest) (test_of (behind (awake self.now).rest)) (arc_value l.held)) }
+        ensures ordered { IfOk result (λ l. AreInOrder (arc_value l.held)) }
     {
-        self.place.leading(alloc, self.decl.as_ref())
+        self.place.leading(alloc, self.own())
+    }
+
+    /// What it declares, if it isn't the root.
+    fn own(&self) -> Option<&Decl>
+        ensures { option_map (λ o. o.now) result ≡ self.now.own }
+    {
+        match &self.decl {
+            Some(decl) => Some(decl),
+            None => None,
+        }
     }
 
     /// The number of the innermost open group, where its end is reached: as it goes on it passes that end.
@@ -237,9 +253,9 @@ impl Task {
 
     /// Notes a child that is created where it stands. The answer is its number, counted from 0. Where
     /// memory is refused, nothing changes.
-    fn note_child(&mut self, alloc: Global, decl: Decl) -> Result<usize, AllocError>
+    fn note_child(&mut self, alloc: Global, decl: Arc<Decl>) -> Result<usize, AllocError>
         ensures number { IfOk result (λ child. child ≡ length self.old.children) }
-        ensures noted { OnOk result (self.new ≡ with_child decl self.old) }
+        ensures noted { OnOk result (self.new ≡ with_child (arc_value decl) self.old) }
         ensures refused { OnErr result (self.new ≡ self.old) }
     {
         let groups = self.place.group_numbers(alloc)?;
@@ -297,8 +313,9 @@ impl Task {
         };
         match part {
             Part::Task(_, decl, body) => {
-                let noted = Decl::new(decl.uses().to_vec(alloc)?);
-                let decl = decl.copy(alloc)?;
+                let _ = decl.uses();
+                let noted = Arc::try_clone(decl)?;
+                let decl = Arc::try_clone(decl)?;
                 let body = Arc::try_clone(body)?;
                 self.create(alloc, number, noted, decl, body)
             }
@@ -329,13 +346,13 @@ impl Task {
         &mut self,
         alloc: Global,
         number: usize,
-        noted: Decl,
-        decl: Decl,
+        noted: Arc<Decl>,
+        decl: Arc<Decl>,
         body: Arc<Vec<Part>>,
     ) -> Result<Option<Task>, AllocError>
-        requires { noted ≡ decl }
-        ensures created { OnOk result (self.new ≡ with_child decl (with_rest (past_control self.old.rest) self.old)) }
-        ensures child { IfOk result (λ child. child ≡ Some (child_of number self.old (decl, parts_of (arc_value body).items))) }
+        requires { arc_value noted ≡ arc_value decl }
+        ensures created { OnOk result (self.new ≡ with_child (arc_value decl) (with_rest (past_control self.old.rest) self.old)) }
+        ensures child { IfOk result (λ child. child ≡ Some (child_of number self.old (arc_value decl, parts_of (arc_value body).items))) }
         ensures refused { OnErr result (self.new ≡ self.old) }
     {
         let child = self.note_child(alloc, noted)?;

@@ -1,21 +1,18 @@
-use Rattle.std.proofs.Common.{◌≡◌, ◌∙◌, map, take, ap, sym, subst, arith}
+use Rattle.std.proofs.Common.{rules, ◌≡◌, ◌∙◌, map, ap, subst}
 use Rattle.std.specs.Prelude.{option_map}
-use Rattle.std.proofs.lemmas.List.{take_all}
-use Rattle.ot_model.specs.Cells.{AreInOrder, mode_in}
-use Rattle.ot_parts.specs.Modes.{Declared}
-use Rattle.ot_parts.proofs.HoldingLemmas.{as_held, held-in_order, held-mode_in}
+use Rattle.std.specs.Arc.{arc_value}
+use Rattle.std.proofs.lemmas.Result.{IfOk-weaker}
+use Rattle.ot_model.specs.Cells.{mode_in}
+use Rattle.ot_model.specs.declared.expr.Cell.{Cell}
+use Rattle.ot_parts.specs.Modes.{Declared, as_held, held_as}
+use Rattle.ot_parts.proofs.HoldingLemmas.{held-so}
 use Rattle.ot_parts.proofs.holding.hold.Goals as goal
 
-pub new-requires : goal.new-requires
-new-requires c =
+pub returns-then-are_held_so-clause-exact : goal.returns-then-are_held_so-clause-exact
+returns-then-are_held_so-clause-exact c =
     let own : Declared = option_map (λ o. o.now) c.args.own in
-    let all : take c.loop-used.used-index c.uses-uses.result.now ≡ c.uses-uses.result.now = take_all c.loop-used.used-index c.uses-uses.result.now (omega (arith, c.loop-used-test.false)) in
-    let is : c.loop-used.held.items ≡ map (as_held own) c.args.uses.now = c.loop-used.invariant ∙ ap (map (as_held own)) (all ∙ c.uses-uses.ensures.uses) in
-    subst AreInOrder (sym is) (held-in_order own c.args.uses.now c.uses-uses.ensures.ordered)
-
-pub returns-clause-exact : goal.returns-clause-exact
-returns-clause-exact c = λ cell.
-    let own : Declared = option_map (λ o. o.now) c.args.own in
-    let all : take c.loop-used.used-index c.uses-uses.result.now ≡ c.uses-uses.result.now = take_all c.loop-used.used-index c.uses-uses.result.now (omega (arith, c.loop-used-test.false)) in
-    let is : c.loop-used.held.items ≡ map (as_held own) c.args.uses.now = c.loop-used.invariant ∙ ap (map (as_held own)) (all ∙ c.uses-uses.ensures.uses) in
-    ap (λ us. mode_in us cell) (c.new.ensures ∙ is) ∙ held-mode_in own c.args.uses.now cell
+    let us = arc_value c.args.uses.now in
+    let is : c.uses.result.now ≡ us = c.uses.ensures.uses ∙ c.deref.ensures in
+    let so : map (as_held own) us ≡ us = subst (λ l. map (as_held own) l ≡ l) is (c.are_held_so.ensures (search rules)) in
+    IfOk-weaker c.try_clone.result (λ d. arc_value d ≡ us) (λ d. (x : Cell) → mode_in (arc_value d) x ≡ option_map (held_as own x) (mode_in us x))
+    (λ d same. λ x. ap (λ l. mode_in l x) same ∙ held-so own us so x) c.try_clone.ensures

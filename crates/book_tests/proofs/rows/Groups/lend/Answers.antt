@@ -5,9 +5,9 @@ use Rattle.ot_model.specs.declared.fold.Fold.{Fold as Operation}
 use Rattle.ot_model.specs.declared.stmt.Mode.TheVariants.{Folds}
 use Rattle.ot_model.specs.declared.stmt.Use.{Use}
 use Rattle.ot_owner.specs.Keeping.{Prepared}
-use Rattle.ot_owner.specs.Owning.{Owned, IsFreeFor, Summed, IsSummedBy}
-use Rattle.book_tests.specs.TwoGroups.{nth}
-use Rattle.book_tests.proofs.TwoLemmas.{all-one, there, same-operation, two-summed}
+use Rattle.ot_owner.specs.Owning.{Owned, IsFreeFor, Summed, IsSummedBy, begun_for}
+use Rattle.book_tests.specs.TwoGroups.{nth, AreTwo}
+use Rattle.book_tests.proofs.TwoLemmas.{all-one, there, same-operation, two-summed, two-begun}
 use Rattle.book_tests.proofs.rows.Groups.lend.Goals as goal
 
 pub lease-requires-clause-free : goal.lease-requires-clause-free
@@ -34,3 +34,10 @@ lease-requires-clause-summed c =
     (subst (λ (o : Owned). All (Q o.groups) (u ∷ [])) (sym c.in_ok-slip.ensures.owned)
     (all-one (Q c.self.inside.owners.owned.groups) u (λ o folds. subst (λ (o : Operation). IsSummedBy c.self.inside.owners.owned.groups o (nth c.args.index))
     (same-operation op o folds) (two-summed op c.args.index c.self.inside.owners.owned.groups c.requires.named c.self.invariant.0))))
+
+pub invariant_of-self-2 : goal.invariant_of-self-2
+invariant_of-self-2 c =
+    let slip = c.in_ok-slip.slip in
+    let op = c.self.inside.op in
+    let groups = c.lease.ensures.groups ∙ ap (λ (o : Owned). begun_for slip.worker slip.uses o.groups) c.in_ok-slip.ensures.owned in
+    (subst (AreTwo op) (sym groups) (two-begun slip.worker slip.uses op c.self.inside.owners.owned.groups c.self.invariant.0), c.self.invariant.1)

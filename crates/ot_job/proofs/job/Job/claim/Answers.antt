@@ -1,4 +1,5 @@
 use Rattle.std.proofs.Common.{rules, ◌≡◌, ◌<◌, ◌∙◌, refl, ap, sym, subst, arith, length, List, option_map}
+use Rattle.std.specs.Arc.{arc_value}
 use Rattle.ot_job.proofs.Common.{IfOk-from_err, lengths, updated, expr_of, tasks_in-≤-size, lease_of, Owned, leading, awake, begun, Region, Run, Claims, live_of, Live, claimable_in, Taken, IsWell, Working}
 use Rattle.ot_job.specs.Dealings.{state_of}
 use Rattle.ot_job.proofs.ClaimedLemmas.{AreLent, picked-is, picked-named, may-lend, lends}
@@ -28,10 +29,10 @@ lent_to c = record (live_of c.self.inside) {
 }
 
 lent : (c : After-lend-lent)
-    → AreLent (live_of c.self.inside) c.get-picked.result.now c.args.pick c.in-Some.task c.args.worker c.in_ok-assigns.field-0.decl c.lend-lent.result (lent_to c)
+    → AreLent (live_of c.self.inside) c.get-picked.result.now c.args.pick c.in-Some.task c.args.worker (arc_value c.in_ok-assigns.field-0.decl) c.lend-lent.result (lent_to c)
 lent c =
     lends c.self.inside c.self.invariant c.args.pick c.in-Some.task (picked-here c.self.inside _ c.args.pick c.in-Some.task _ c.self.view_is c.pick.ensures c.in-Some.is) c.get-picked.result.now c.get-picked.ensures
-    c.args.worker c.in_ok-assigns.field-0.decl c.in_ok-assigns.ensures.held c.in_ok-assigns.ensures.ordered c.in_ok-slip.slip c.in_ok-slip.ensures.slip c.prepare-2.new.self c.prepare-2.ensures.owned
+    c.args.worker (arc_value c.in_ok-assigns.field-0.decl) c.in_ok-assigns.ensures.held c.in_ok-assigns.ensures.ordered c.in_ok-slip.slip c.in_ok-slip.ensures.slip c.prepare-2.new.self c.prepare-2.ensures.owned
     c.group_passed-passed.result c.group_passed-passed.ensures c.lend-lent.new.cells c.lend-lent.new.owners.owned c.lend-lent.result c.lend-lent.ensures
 
 begun-now : (c : After-begin) → c.begin.new.self ≡ updated c.self.inside.tasks c.in-Some.task (begun c.args.worker (lease_of c.lend-lent.result))
@@ -48,7 +49,7 @@ prepare-requires c =
 pub lend-lent-requires : goal.lend-lent-requires
 lend-lent-requires c =
     let p = found (goal.at.lend-lent-requires c).In-Some in
-    may-lend c.self.inside c.self.invariant c.args.pick c.in-Some.task p c.get-picked.result.now c.get-picked.ensures c.args.worker c.in_ok-assigns.field-0.decl c.in_ok-assigns.ensures.held c.in_ok-assigns.ensures.ordered
+    may-lend c.self.inside c.self.invariant c.args.pick c.in-Some.task p c.get-picked.result.now c.get-picked.ensures c.args.worker (arc_value c.in_ok-assigns.field-0.decl) c.in_ok-assigns.ensures.held c.in_ok-assigns.ensures.ordered
     c.in_ok-slip.slip c.in_ok-slip.ensures.slip c.prepare-2.new.self c.prepare-2.ensures.owned c.group_passed-passed.result c.group_passed-passed.ensures c.in_ok-slip.ensures.last
     (c.in_ok-assigns.ensures.there c.self.inside.cells (picked-named c.self.inside c.self.invariant c.args.pick c.in-Some.task p c.get-picked.result.now c.get-picked.ensures))
 

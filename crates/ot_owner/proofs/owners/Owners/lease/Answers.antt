@@ -1,9 +1,10 @@
 use Rattle.std.proofs.Common.{◌≡◌, ◌∙◌, ap, sym, subst}
 use Rattle.std.specs.Prelude.{All, ◌<◌}
-use Rattle.ot_model.specs.Cells.{cell_of}
+use Rattle.ot_model.specs.Cells.{AreInOrder, cell_of}
 use Rattle.ot_model.specs.declared.fold.Fold.{Fold as Operation}
 use Rattle.ot_model.specs.declared.stmt.Mode.TheVariants.{Folds}
 use Rattle.ot_owner.specs.Keeping.{IsSound}
+use Rattle.ot_owner.specs.Lending.{uses_of}
 use Rattle.ot_owner.specs.Owning.{Loan, Owned, IsFreeFor, IsSummedBy, begun_for}
 use Rattle.ot_owner.specs.Kept.{loans_in, summeds_of}
 use Rattle.ot_owner.specs.Worth.{worth_over}
@@ -36,3 +37,7 @@ returns-clause-worth c = λ cell.
     let was : before ≡ gs = ap (λ k. k.owned.groups) c.self.view_is in
     same_small (worth_over (summeds_of c.begin_rows.new.groups.items) cell) (worth_over gs cell) (cell_of c.args.cells.now cell) (c.numbers.ensures cell)
     (λ n small. ap (λ hs. worth_over hs cell n) c.begin_rows.ensures.begun ∙ begun-worth c.worker.result c.folds.result.now before cell n small c.self.invariant.regular ∙ ap (λ hs. worth_over hs cell n) was)
+
+pub new-requires : goal.new-requires
+new-requires c =
+    subst AreInOrder (sym (ap uses_of c.fill-lent.ensures.lent ∙ uses_of-lent_from c.args.cells.now c.args.slip.uses)) c.fill-lent.ensures.ordered

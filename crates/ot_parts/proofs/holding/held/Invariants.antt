@@ -1,7 +1,7 @@
 use Rattle.std.proofs.Common.{◌≡◌, map, take}
 use Rattle.std.specs.Prelude.{option_map}
-use Rattle.ot_parts.proofs.HoldingLemmas.{as_held}
-use Rattle.ot_parts.proofs.holding.hold.Given as goal
+use Rattle.ot_parts.specs.Modes.{as_held}
+use Rattle.ot_parts.proofs.holding.held.Given as goal
 
 -- those that were passed, as they are held
 abbrev pub invariant-loop-used : goal.invariant-loop-used
