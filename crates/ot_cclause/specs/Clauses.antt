@@ -72,15 +72,15 @@ abbrev pub are_single : Option Span → ℕ → Bool
 are_single None n = n == 1
 are_single (Some over) n = true
 
-abbrev pub depends_by : ℕ → Head → Role → List ℕ → Option Span → Entry → Run → Headed
-depends_by at h role word over item cells =
-    if own_count item.array cells h.own == 0 then (section h.around at over item >>= λ d. Ok (with_clause h (form word (d ∷ []))))
+abbrev pub depends_by : Head → Role → List ℕ → Option Span → Entry → Run → Headed
+depends_by h role word over item cells =
+    if own_count item.array cells h.own == 0 then (section h.around over item >>= λ d. Ok (with_clause h (form word (d ∷ []))))
     else if is_in role && is_run cells (own_count item.array cells h.own) && are_single over (own_count item.array cells h.own) then Ok (record h { own = name_all item.array cells h.own })
-    else Err (at, why.Combined)
+    else Err (item.left, why.Combined)
 
 -- Under `in`, `out` or `inout`. Where the task folds into the cells by pointers, `red` says all that `in` does: each is an item.
-abbrev pub depends : ℕ → Head → Role → List ℕ → Option Span → Entry → Headed
-depends at h role word over item = depends_by at h role word over item (cells_named h.around over item)
+abbrev pub depends : Head → Role → List ℕ → Option Span → Entry → Headed
+depends h role word over item = depends_by h role word over item (cells_named h.around over item)
 
 abbrev pub number_of : Name → ℕ
 number_of (n.Other i) = i
@@ -108,17 +108,17 @@ abbrev pub own_of : Option Pointee → List Own
 own_of None = []
 own_of (Some cell) = record { cell = cell; named = false } ∷ []
 
-abbrev pub joined_by : ℕ → Head → Operation → Entry → Option (Option Pointee × Option ℕ) → Headed
-joined_by at h op item None = Err (at, why.NoGroup)
-joined_by at h op item (Some found) =
+abbrev pub joined_by : Head → Operation → Entry → Option (Option Pointee × Option ℕ) → Headed
+joined_by h op item None = Err (item.left, why.NoGroup)
+joined_by h op item (Some found) =
     if is_item h.around found item
-    then (part_or_cell h.around at item.array found.0 found.1 item.part >>= λ d.
+    then (part_or_cell h.around item.left item.array found.0 found.1 item.part >>= λ d.
     Ok (record { clauses = h.clauses ++ form (codes "red") (string (operation_word op) ∷ d ∷ []) ∷ []; around = with_opening h.around (opening item.array op true found.0); own = h.own ++ own_of found.0; taking = h.taking ++ taking_of found.0 ∷ [] }))
-    else Err (at, why.NoGroup)
+    else Err (item.left, why.NoGroup)
 
 -- under `in_reduction`: the task has a copy of its own
-abbrev pub takes_part : ℕ → Operation → Head → Entry → Headed
-takes_part at op h item = joined_by at h op item (may_join (sense h.around item.array) op)
+abbrev pub takes_part : Operation → Head → Entry → Headed
+takes_part op h item = joined_by h op item (may_join (sense h.around item.array) op)
 
 -- no open group combines over these cells of an array
 abbrev pub apart_by : Around → ℕ → ℕ → Run → Sense → Result (Unit {0}) Refusal
@@ -144,9 +144,9 @@ pointer_in (s.Cells k length) = None
 pointer_in (s.Combined o k length) = None
 pointer_in (s.Function i) = None
 
-abbrev pub combined_over : Around → ℕ → Entry → Option Pointee → Sectioned
-combined_over a at item None = section a at None item >>= λ d. apart a at (number_of item.array) (cells_named a None item) >>= λ u. Ok d
-combined_over a at item (Some cell) = apart a at cell.array (Some (cell.place, 1)) >>= λ u. pointed a at cell item.part
+abbrev pub combined_over : Around → Entry → Option Pointee → Sectioned
+combined_over a item None = section a None item >>= λ d. apart a item.left (number_of item.array) (cells_named a None item) >>= λ u. Ok d
+combined_over a item (Some cell) = apart a item.left cell.array (Some (cell.place, 1)) >>= λ u. pointed a item.left cell item.part
 
 -- of numbers that may be negative the language has no `min` and `max`
 abbrev pub ordered : ℕ → Operation → Sense → Result (Unit {0}) Refusal
@@ -165,10 +165,10 @@ with_part a None item = with_portion a (number_of item.array) item.part
 with_part a (Some cell) item = a
 
 -- under `task_reduction`: a section of the group
-abbrev pub combines : ℕ → Head → Operation → Entry → Headed
-combines at h op item =
-    combined_over h.around at item (pointer_in (sense h.around item.array)) >>= λ d.
-    ordered at op (sense h.around item.array) >>= λ u.
+abbrev pub combines : Head → Operation → Entry → Headed
+combines h op item =
+    combined_over h.around item (pointer_in (sense h.around item.array)) >>= λ d.
+    ordered item.left op (sense h.around item.array) >>= λ u.
     Ok (record h { clauses = h.clauses ++ d ∷ []; around = with_part (with_opening h.around (opening item.array op false (pointer_in (sense h.around item.array)))) (pointer_in (sense h.around item.array)) item })
 
 -- under `shared`: what is so anyway
@@ -193,25 +193,25 @@ private at (s.Combined c k length) = Err (at, why.Private)
 private at (s.Pointer x p) = Err (at, why.Private)
 private at (s.Function i) = Err (at, why.Private)
 
-abbrev pub item_step : ℕ → Role → Option Span → Head → Entry → Headed
-item_step at r.In over h item = depends at h r.In (codes "in") over item
-item_step at r.Out over h item = depends at h r.Out (codes "out") over item
-item_step at r.Inout over h item = depends at h r.Inout (codes "inout") over item
-item_step at (r.Reduces op) over h item = Ok h
-item_step at (r.Combines op) over h item = combines at h op item
-item_step at r.Shared over h item = shared at (sense h.around item.array) >>= λ x. Ok h
-item_step at r.Firstprivate over h item = private at (sense h.around item.array) >>= λ x. Ok h
-item_step at r.Default over h item = Ok h
-item_step at r.DefaultNone over h item = Ok h
-item_step at r.NumThreads over h item = Ok h
-item_step at r.Priority over h item = Ok h
-item_step at r.Untied over h item = Ok h
-item_step at r.Mergeable over h item = Ok h
+abbrev pub item_step : Role → Option Span → Head → Entry → Headed
+item_step r.In over h item = depends h r.In (codes "in") over item
+item_step r.Out over h item = depends h r.Out (codes "out") over item
+item_step r.Inout over h item = depends h r.Inout (codes "inout") over item
+item_step (r.Reduces op) over h item = Ok h
+item_step (r.Combines op) over h item = combines h op item
+item_step r.Shared over h item = shared item.left (sense h.around item.array) >>= λ x. Ok h
+item_step r.Firstprivate over h item = private item.left (sense h.around item.array) >>= λ x. Ok h
+item_step r.Default over h item = Ok h
+item_step r.DefaultNone over h item = Ok h
+item_step r.NumThreads over h item = Ok h
+item_step r.Priority over h item = Ok h
+item_step r.Untied over h item = Ok h
+item_step r.Mergeable over h item = Ok h
 
 -- ---- clauses
 
-abbrev pub clause_step : ℕ → Head → Claim → Headed
-clause_step at h c = each (item_step at c.role c.over) h c.items
+abbrev pub clause_step : Head → Claim → Headed
+clause_step h c = each (item_step c.role c.over) h c.items
 
 -- by what a task takes part in reductions
 abbrev pub reduced_by : Role → Option Operation
@@ -229,23 +229,23 @@ reduced_by r.Priority = None
 reduced_by r.Untied = None
 reduced_by r.Mergeable = None
 
-abbrev pub joining_by : ℕ → Head → Claim → Option Operation → Headed
-joining_by at h c None = Ok h
-joining_by at h c (Some op) = each (takes_part at op) h c.items
+abbrev pub joining_by : Head → Claim → Option Operation → Headed
+joining_by h c None = Ok h
+joining_by h c (Some op) = each (takes_part op) h c.items
 
-abbrev pub joining_step : ℕ → Head → Claim → Headed
-joining_step at h c = joining_by at h c (reduced_by c.role)
+abbrev pub joining_step : Head → Claim → Headed
+joining_step h c = joining_by h c (reduced_by c.role)
 
 -- `in_reduction` makes no dependence, and `red` does: where each cell stands under `in` too, both say the same
 abbrev pub all_named : ℕ → Head → Headed
 all_named at h = if list_all (λ o. o.named) h.own then Ok h else Err (at, why.NoDependence)
 
-abbrev pub all_joining : ℕ → Around → List Claim → Headed
-all_joining at a cs = each (joining_step at) (record { clauses = []; around = a; own = []; taking = [] }) cs
+abbrev pub all_joining : Around → List Claim → Headed
+all_joining a cs = each joining_step (record { clauses = []; around = a; own = []; taking = [] }) cs
 
--- reductions first, since they say what the others name
+-- of a directive whose name stands there: reductions first, since they say what the others name
 abbrev pub heading : ℕ → Around → List Claim → Headed
-heading at a cs = all_joining at a cs >>= λ h. each (clause_step at) h cs >>= λ k. all_named at k
+heading at a cs = all_joining a cs >>= λ h. each clause_step h cs >>= λ k. all_named at k
 
 -- by what a clause of a group combines
 abbrev pub combined_by : Role → Operation
@@ -264,7 +264,7 @@ combined_by r.Untied = o.Plus
 combined_by r.Mergeable = o.Plus
 
 -- the operation of a group
-abbrev pub group_operation : ℕ → List Claim → Result Operation Refusal
-group_operation at [] = Ok o.Plus
-group_operation at (c ∷ []) = Ok (combined_by c.role)
-group_operation at (c ∷ d ∷ more) = Err (at, why.Operations)
+abbrev pub group_operation : List Claim → Result Operation Refusal
+group_operation [] = Ok o.Plus
+group_operation (c ∷ []) = Ok (combined_by c.role)
+group_operation (c ∷ d ∷ more) = Err (d.left, why.Operations)

@@ -16,16 +16,16 @@ use Rattle.ot_cclause.specs.Sections.{count_of, run_of, same_name}
 
 -- ---- the same text
 
--- whether two values are the same, part by part
+-- whether two values are the same, part by part, wherever they stand
 unfoldable pub same_value : E → E → Bool
-same_value (Literal i k) (Literal j l) = i == j && sameb types k l
-same_value (Variable x) (Variable y) = same_name x y
-same_value (CellAt x i) (CellAt y j) = same_name x y && same_value i j
+same_value (Literal l i k) (Literal m j h) = i == j && sameb types k h
+same_value (Variable l x) (Variable m y) = same_name x y
+same_value (CellAt l x i) (CellAt m y j) = same_name x y && same_value i j
 same_value (Unsigned e) (Unsigned f) = same_value e f
-same_value (Signed sign e) (Signed other f) = sameb unaries sign other && same_value e f
-same_value (Called call e f) (Called other g h) = sameb calls call other && same_value e g && same_value f h
-same_value (Apply sign e f) (Apply other g h) = sameb signs sign other && same_value e g && same_value f h
-same_value (Choose t e f) (Choose u g h) = same_value t u && same_value e g && same_value f h
+same_value (Signed l sign e) (Signed m other f) = sameb unaries sign other && same_value e f
+same_value (Called l call e f) (Called m other g h) = sameb calls call other && same_value e g && same_value f h
+same_value (Apply l sign e f) (Apply m other g h) = sameb signs sign other && same_value e g && same_value f h
+same_value (Choose l t e f) (Choose m u g h) = same_value t u && same_value e g && same_value f h
 same_value e f = false
 
 abbrev pub same_known : Option Typed → Option Typed → Bool

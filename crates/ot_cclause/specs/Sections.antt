@@ -42,7 +42,7 @@ row a x first count = listed (string (name_text a x) ∷ first ∷ count ∷ [])
 
 -- the first cell from a pointer on, and no other
 unfoldable pub is_only : Part → Bool
-is_only (Cells (Literal n j) (Literal m k)) = n == 0 && m == 1
+is_only (Cells (Literal h n j) (Literal l m k)) = n == 0 && m == 1
 is_only p = false
 
 -- the cell that a pointer points to
@@ -57,7 +57,7 @@ plain d = if is_difference d then form (codes "+") (d ∷ nat 0 ∷ []) else d
 abbrev pub part : Around → ℕ → Name → Option ℕ → Part → Sectioned
 part a at x length Whole = Ok (row a x (nat 0) (nat (count_of length)))
 part a at x None (Cells first count) = Err (at, why.NoArray)
-part a at x (Some n) (Cells first count) = size a at first >>= λ f. size a at count >>= λ c. Ok (row a x f.0 (plain c.0))
+part a at x (Some n) (Cells first count) = size a first >>= λ f. size a count >>= λ c. Ok (row a x f.0 (plain c.0))
 
 -- whether both are the same name, which means nothing by itself
 unfoldable pub same_name : Name → Name → Bool
@@ -66,7 +66,7 @@ same_name x y = false
 
 -- whether an item is one cell, at the place that an iterator counts
 unfoldable pub is_counted : Name → Part → Bool
-is_counted variable (Cells (Variable x) (Literal n k)) = n == 1 && same_name x variable
+is_counted variable (Cells (Variable h x) (Literal l n k)) = n == 1 && same_name x variable
 is_counted variable p = false
 
 -- the cells of an array that an iterator counts, each of which is an item: from a number up to another
@@ -74,7 +74,7 @@ abbrev pub counted : Around → ℕ → Span → Name → Option ℕ → Part �
 counted a at over x None p = Err (at, why.Iterator)
 counted a at over x (Some n) p =
     if is_counted over.variable p
-    then (size a at over.start >>= λ f. size a at over.end >>= λ e. Ok (row a x f.0 (form (codes "-") (e.0 ∷ f.0 ∷ []))))
+    then (size a over.start >>= λ f. size a over.end >>= λ e. Ok (row a x f.0 (form (codes "-") (e.0 ∷ f.0 ∷ []))))
     else Err (at, why.Iterator)
 
 abbrev pub part_over : Around → ℕ → Option Span → Name → Option ℕ → Part → Sectioned
@@ -91,9 +91,9 @@ section_by a at over item (s.Combined o k length) = Err (at, why.Combined)
 section_by a at over item (s.Pointer x p) = Err (at, why.Pointer)
 section_by a at over item (s.Function i) = Err (at, why.Function)
 
--- the section that an item names, over which no open group combines
-abbrev pub section : Around → ℕ → Option Span → Entry → Sectioned
-section a at over item = section_by a at over item (sense a item.array)
+-- the section that an item names, over which no open group combines; a fault is where its name stands, or in its places
+abbrev pub section : Around → Option Span → Entry → Sectioned
+section a over item = section_by a item.left over item (sense a item.array)
 
 -- ---- which cells an item names
 

@@ -53,24 +53,23 @@ fn are_single(over: &Option<Range>, count: usize) -> bool
 /// An item under `in`, `out` or `inout`. Where the task folds into its cells by pointers, `red` says all that `in` does.
 fn depends<'a>(
     alloc: Global,
-    start: usize,
     mut heading: Heading<'a>,
     role: Role,
     word: &str,
     over: &Option<Range>,
     item: &Item,
 ) -> Result<Heading<'a>, CFault>
-    ensures { Gives head_of result (meant.depends start (head_of heading.entry) role word.now (over_of over.now) (item_of item.now)) }
+    ensures { Gives head_of result (meant.depends (head_of heading.entry) role word.now (over_of over.now) (item_of item.now)) }
 {
     let cells = cells_named(&heading.scope, over, item);
     let count = heading.own.count(item.array, cells);
     if count == 0 {
-        let section = section(alloc, &heading.scope, start, over, item)?;
+        let section = section(alloc, &heading.scope, over, item)?;
         heading.clauses.push(json::form1(alloc, word, section)?)?;
         return Ok(heading);
     }
     if !is_in(role) || !is_run(cells, count) || !are_single(over, count) {
-        return Err(CFault::Outside(start, Reason::Combined));
+        return Err(CFault::Outside(item.left, Reason::Combined));
     }
     Ok(Heading {
         clauses: heading.clauses,
@@ -123,15 +122,14 @@ fn opening(array: Name, operation: Operation, own: bool, pointee: Option<Pointee
 fn part_or_cell(
     alloc: Global,
     scope: &Scope<'_>,
-    start: usize,
     found: (Option<Pointee>, Option<usize>),
     item: &Item,
 ) -> Result<Value, CFault>
-    ensures { Gives (λ v. view v) result (meant.part_or_cell scope.now start item.now.array found.0 found.1 (part_of item.now.place)) }
+    ensures { Gives (λ v. view v) result (meant.part_or_cell scope.now item.now.left item.now.array found.0 found.1 (part_of item.now.place)) }
 {
     match found.0 {
-        None => part(alloc, scope, start, item.array, found.1, &item.place),
-        Some(cell) => pointed(alloc, scope, start, cell, &item.place),
+        None => part(alloc, scope, item.left, item.array, found.1, &item.place),
+        Some(cell) => pointed(alloc, scope, item.left, cell, &item.place),
     }
 }
 
@@ -148,20 +146,19 @@ fn with_own(mut own: Vec<Own>, pointee: Option<Pointee>) -> Result<Vec<Own>, All
 /// An item under `in_reduction`: the task has a copy of its own.
 fn takes_part<'a>(
     alloc: Global,
-    start: usize,
     operation: Operation,
     mut joined: Joined<'a>,
     item: &Item,
 ) -> Result<Joined<'a>, CFault>
-    ensures { Gives joined_of result (meant.takes_part start operation (joined_of joined.entry) (item_of item.now)) }
+    ensures { Gives joined_of result (meant.takes_part operation (joined_of joined.entry) (item_of item.now)) }
 {
     let Some(found) = may_join(joined.scope.sense(item.array), operation) else {
-        return Err(CFault::Outside(start, Reason::NoGroup));
+        return Err(CFault::Outside(item.left, Reason::NoGroup));
     };
     if !is_item(&joined.scope, found, item) {
-        return Err(CFault::Outside(start, Reason::NoGroup));
+        return Err(CFault::Outside(item.left, Reason::NoGroup));
     }
-    let section = part_or_cell(alloc, &joined.scope, start, found, item)?;
+    let section = part_or_cell(alloc, &joined.scope, found, item)?;
     let word = json::text(alloc, operation_word(operation))?;
     joined
         .clauses
@@ -180,21 +177,21 @@ fn takes_part<'a>(
 /// No open group combines over these cells of an array.
 fn apart(
     scope: &Scope<'_>,
-    start: usize,
+    left: usize,
     array: usize,
     cells: Option<(u64, u64)>,
 ) -> Result<(), CFault>
-    ensures { Gives (λ x. x) result (meant.apart scope.now start array cells) }
+    ensures { Gives (λ x. x) result (meant.apart scope.now left array cells) }
 {
     match scope.sense(Name::Other(array)) {
         Sense::Cells(_, _) => {
             if scope.is_pointed(Name::Other(array), cells) {
-                Err(CFault::Outside(start, Reason::Combined))
+                Err(CFault::Outside(left, Reason::Combined))
             } else {
                 Ok(())
             }
         }
-        other => Err(CFault::Outside(start, no_cells(other))),
+        other => Err(CFault::Outside(left, no_cells(other))),
     }
 }
 
@@ -212,33 +209,32 @@ fn pointer_in(sense: Sense) -> Option<Pointee>
 fn combined_over(
     alloc: Global,
     scope: &Scope<'_>,
-    start: usize,
     item: &Item,
     pointer: Option<Pointee>,
 ) -> Result<Value, CFault>
-    ensures { Gives (λ v. view v) result (meant.combined_over scope.now start (item_of item.now) pointer) }
+    ensures { Gives (λ v. view v) result (meant.combined_over scope.now (item_of item.now) pointer) }
 {
     match pointer {
         None => {
-            let section = section(alloc, scope, start, &None, item)?;
+            let section = section(alloc, scope, &None, item)?;
             let cells = cells_named(scope, &None, item);
-            apart(scope, start, number_of(item.array), cells)?;
+            apart(scope, item.left, number_of(item.array), cells)?;
             Ok(section)
         }
         Some(cell) => {
-            apart(scope, start, cell.array, Some((cell.place, 1)))?;
-            pointed(alloc, scope, start, cell, &item.place)
+            apart(scope, item.left, cell.array, Some((cell.place, 1)))?;
+            pointed(alloc, scope, item.left, cell, &item.place)
         }
     }
 }
 
 /// Of numbers that may be negative the language has no `min` and `max`.
-fn ordered(start: usize, operation: Operation, sense: Sense) -> Result<(), CFault>
-    ensures { Gives (λ x. x) result (meant.ordered start operation sense) }
+fn ordered(left: usize, operation: Operation, sense: Sense) -> Result<(), CFault>
+    ensures { Gives (λ x. x) result (meant.ordered left operation sense) }
 {
     match sense {
         Sense::Cells(kind, _) if is_extreme(operation) && is_signed(kind) => {
-            Err(CFault::Outside(start, Reason::Signed))
+            Err(CFault::Outside(left, Reason::Signed))
         }
         _ => Ok(()),
     }
@@ -262,16 +258,15 @@ fn with_part<'a>(
 /// An item under `task_reduction`: a section of the group.
 fn combines<'a>(
     alloc: Global,
-    start: usize,
     mut heading: Heading<'a>,
     operation: Operation,
     item: &'a Item,
 ) -> Result<Heading<'a>, CFault>
-    ensures { Gives head_of result (meant.combines start (head_of heading.entry) operation (item_of item.now)) }
+    ensures { Gives head_of result (meant.combines (head_of heading.entry) operation (item_of item.now)) }
 {
     let pointer = pointer_in(heading.scope.sense(item.array));
-    let section = combined_over(alloc, &heading.scope, start, item, pointer)?;
-    ordered(start, operation, heading.scope.sense(item.array))?;
+    let section = combined_over(alloc, &heading.scope, item, pointer)?;
+    ordered(item.left, operation, heading.scope.sense(item.array))?;
     heading.clauses.push(section)?;
     let opening = opening(item.array, operation, false, pointer);
     let scope = heading.scope.with_opening(alloc, opening)?;
@@ -285,48 +280,47 @@ fn combines<'a>(
 }
 
 /// An item under `shared`, which says what is so anyway: arrays are shared.
-fn shared(start: usize, sense: Sense) -> Result<(), CFault>
-    ensures { Gives (λ x. x) result (meant.shared start sense) }
+fn shared(left: usize, sense: Sense) -> Result<(), CFault>
+    ensures { Gives (λ x. x) result (meant.shared left sense) }
 {
     match sense {
         Sense::Cells(_, _) => Ok(()),
-        other => Err(CFault::Outside(start, no_cells(other))),
+        other => Err(CFault::Outside(left, no_cells(other))),
     }
 }
 
 /// An item under `firstprivate`, which says what is so anyway: each task has a copy of a loop's variable.
-fn private(start: usize, sense: Sense) -> Result<(), CFault>
-    ensures { Gives (λ x. x) result (meant.private start sense) }
+fn private(left: usize, sense: Sense) -> Result<(), CFault>
+    ensures { Gives (λ x. x) result (meant.private left sense) }
 {
     match sense {
         Sense::Turn(_) => Ok(()),
-        _ => Err(CFault::Outside(start, Reason::Private)),
+        _ => Err(CFault::Outside(left, Reason::Private)),
     }
 }
 
 /// An item of a clause, behind others.
 fn item_step<'a>(
     alloc: Global,
-    start: usize,
     heading: Heading<'a>,
     role: Role,
     over: &Option<Range>,
     item: &'a Item,
 ) -> Result<Heading<'a>, CFault>
-    ensures { Gives head_of result (meant.item_step start role (over_of over.now) (head_of heading.entry) (item_of item.now)) }
+    ensures { Gives head_of result (meant.item_step role (over_of over.now) (head_of heading.entry) (item_of item.now)) }
 {
     match role {
-        Role::In => depends(alloc, start, heading, role, "in", over, item),
-        Role::Out => depends(alloc, start, heading, role, "out", over, item),
-        Role::Inout => depends(alloc, start, heading, role, "inout", over, item),
+        Role::In => depends(alloc, heading, role, "in", over, item),
+        Role::Out => depends(alloc, heading, role, "out", over, item),
+        Role::Inout => depends(alloc, heading, role, "inout", over, item),
         Role::Reduces(_) => Ok(heading),
-        Role::Combines(operation) => combines(alloc, start, heading, operation, item),
+        Role::Combines(operation) => combines(alloc, heading, operation, item),
         Role::Shared => {
-            shared(start, heading.scope.sense(item.array))?;
+            shared(item.left, heading.scope.sense(item.array))?;
             Ok(heading)
         }
         Role::Firstprivate => {
-            private(start, heading.scope.sense(item.array))?;
+            private(item.left, heading.scope.sense(item.array))?;
             Ok(heading)
         }
         Role::Default | Role::DefaultNone | Role::NumThreads => Ok(heading),
@@ -337,17 +331,16 @@ fn item_step<'a>(
 /// Items of a clause, behind others.
 fn items<'a>(
     alloc: Global,
-    start: usize,
     heading: Heading<'a>,
     role: Role,
     over: &Option<Range>,
     items: &'a [Item],
 ) -> Result<Heading<'a>, CFault>
-    ensures { Gives head_of result (each (meant.item_step start role (over_of over.now)) (head_of heading.entry) (items_of items.now)) }
+    ensures { Gives head_of result (each (meant.item_step role (over_of over.now)) (head_of heading.entry) (items_of items.now)) }
 {
     let mut heading = heading;
     for item in items {
-        heading = item_step(alloc, start, heading, role, over, item)?;
+        heading = item_step(alloc, heading, role, over, item)?;
     }
     Ok(heading)
 }
@@ -355,20 +348,12 @@ fn items<'a>(
 /// A clause, behind others.
 fn clause_step<'a>(
     alloc: Global,
-    start: usize,
     heading: Heading<'a>,
     clause: &'a Clause,
 ) -> Result<Heading<'a>, CFault>
-    ensures { Gives head_of result (meant.clause_step start (head_of heading.entry) (clause_of clause.now)) }
+    ensures { Gives head_of result (meant.clause_step (head_of heading.entry) (clause_of clause.now)) }
 {
-    items(
-        alloc,
-        start,
-        heading,
-        clause.role,
-        &clause.over,
-        &clause.items,
-    )
+    items(alloc, heading, clause.role, &clause.over, &clause.items)
 }
 
 /// By what a task takes part in reductions.
@@ -386,16 +371,15 @@ fn reduced_by(role: Role) -> Option<Operation>
 /// Items under `in_reduction`, behind others.
 fn joining<'a>(
     alloc: Global,
-    start: usize,
     operation: Operation,
     joined: Joined<'a>,
     items: &[Item],
 ) -> Result<Joined<'a>, CFault>
-    ensures { Gives joined_of result (each (meant.takes_part start operation) (joined_of joined.entry) (items_of items.now)) }
+    ensures { Gives joined_of result (each (meant.takes_part operation) (joined_of joined.entry) (items_of items.now)) }
 {
     let mut joined = joined;
     for item in items {
-        joined = takes_part(alloc, start, operation, joined, item)?;
+        joined = takes_part(alloc, operation, joined, item)?;
     }
     Ok(joined)
 }
@@ -403,14 +387,13 @@ fn joining<'a>(
 /// What a clause says of reductions, behind others.
 fn joining_step<'a>(
     alloc: Global,
-    start: usize,
     joined: Joined<'a>,
     clause: &Clause,
 ) -> Result<Joined<'a>, CFault>
-    ensures { Gives joined_of result (meant.joining_step start (joined_of joined.entry) (clause_of clause.now)) }
+    ensures { Gives joined_of result (meant.joining_step (joined_of joined.entry) (clause_of clause.now)) }
 {
     match reduced_by(clause.role) {
-        Some(operation) => joining(alloc, start, operation, joined, &clause.items),
+        Some(operation) => joining(alloc, operation, joined, &clause.items),
         None => Ok(joined),
     }
 }
@@ -418,11 +401,10 @@ fn joining_step<'a>(
 /// What clauses say of reductions.
 fn all_joining<'a>(
     alloc: Global,
-    start: usize,
     scope: Scope<'a>,
     clauses: &[Clause],
 ) -> Result<Joined<'a>, CFault>
-    ensures { Gives joined_of result (meant.all_joining start scope.entry (clauses_of clauses.now)) }
+    ensures { Gives joined_of result (meant.all_joining scope.entry (clauses_of clauses.now)) }
 {
     let mut joined = Joined {
         clauses: Vec::new(alloc),
@@ -431,7 +413,7 @@ fn all_joining<'a>(
         taking: Vec::new(alloc),
     };
     for clause in clauses {
-        joined = joining_step(alloc, start, joined, clause)?;
+        joined = joining_step(alloc, joined, clause)?;
     }
     Ok(joined)
 }
@@ -439,15 +421,14 @@ fn all_joining<'a>(
 /// What clauses say apart from that, behind it.
 fn others<'a>(
     alloc: Global,
-    start: usize,
     heading: Heading<'a>,
     clauses: &'a [Clause],
 ) -> Result<Heading<'a>, CFault>
-    ensures { Gives head_of result (each (meant.clause_step start) (head_of heading.entry) (clauses_of clauses.now)) }
+    ensures { Gives head_of result (each meant.clause_step (head_of heading.entry) (clauses_of clauses.now)) }
 {
     let mut heading = heading;
     for clause in clauses {
-        heading = clause_step(alloc, start, heading, clause)?;
+        heading = clause_step(alloc, heading, clause)?;
     }
     Ok(heading)
 }
@@ -464,22 +445,22 @@ fn heading_of<'a>(alloc: Global, joined: Joined<'a>) -> Result<Heading<'a>, Allo
     })
 }
 
-/// Clauses of a directive that begins at this byte, in this scope.
+/// Clauses of a directive whose name stands where so many words are left, in this scope.
 pub fn headed<'a>(
     alloc: Global,
-    start: usize,
+    left: usize,
     scope: Scope<'a>,
     clauses: &'a [Clause],
 ) -> Result<Heading<'a>, CFault>
-    ensures { Gives head_of result (meant.heading start scope.entry (clauses_of clauses.now)) }
+    ensures { Gives head_of result (meant.heading left scope.entry (clauses_of clauses.now)) }
 {
-    let joined = all_joining(alloc, start, scope, clauses)?;
+    let joined = all_joining(alloc, scope, clauses)?;
     let heading = heading_of(alloc, joined)?;
-    let heading = others(alloc, start, heading, clauses)?;
+    let heading = others(alloc, heading, clauses)?;
     if heading.own.are_named() {
         Ok(heading)
     } else {
-        Err(CFault::Outside(start, Reason::NoDependence))
+        Err(CFault::Outside(left, Reason::NoDependence))
     }
 }
 
@@ -497,12 +478,12 @@ fn combined_by(role: Role) -> Operation
 }
 
 /// The operation of a group.
-pub fn group_operation(start: usize, clauses: &[Clause]) -> Result<Operation, CFault>
-    ensures { Gives (λ o. o) result (meant.group_operation start (clauses_of clauses.now)) }
+pub fn group_operation(clauses: &[Clause]) -> Result<Operation, CFault>
+    ensures { Gives (λ o. o) result (meant.group_operation (clauses_of clauses.now)) }
 {
     match clauses {
         [] => Ok(Operation::Plus),
         [clause] => Ok(combined_by(clause.role)),
-        _ => Err(CFault::Outside(start, Reason::Operations)),
+        [_, clause, ..] => Err(CFault::Outside(clause.left, Reason::Operations)),
     }
 }

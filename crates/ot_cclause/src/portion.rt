@@ -9,24 +9,26 @@ use ot_cread::{Expr, Item, Place};
 use ot_cscope::{Pointee, Portion, Scope, constant, run};
 use ot_words::{IntegerType, Name};
 
-/// Whether two values are the same, part by part.
+/// Whether two values are the same, part by part, wherever they stand.
 #[tactic(auto, unfolding(crate::specs::Portions::same_value))]
 pub fn same_value(one: &Expr, two: &Expr) -> bool
     ensures { result ≡ meant.same_value (expr_of one.now) (expr_of two.now) }
 {
     match (one, two) {
-        (Expr::Number(n, kind), Expr::Number(m, other)) => *n == *m && *kind == *other,
-        (Expr::Variable(x), Expr::Variable(y)) => same_name(*x, *y),
-        (Expr::Cell(x, i), Expr::Cell(y, j)) => same_name(*x, *y) && same_value(i, j),
+        (Expr::Number(_, n, kind), Expr::Number(_, m, other)) => *n == *m && *kind == *other,
+        (Expr::Variable(_, x), Expr::Variable(_, y)) => same_name(*x, *y),
+        (Expr::Cell(_, x, i), Expr::Cell(_, y, j)) => same_name(*x, *y) && same_value(i, j),
         (Expr::Cast(a), Expr::Cast(b)) => same_value(a, b),
-        (Expr::Unary(sign, a), Expr::Unary(other, b)) => *sign == *other && same_value(a, b),
-        (Expr::Call(call, a, b), Expr::Call(other, c, d)) => {
+        (Expr::Unary(_, sign, a), Expr::Unary(_, other, b)) => {
+            *sign == *other && same_value(a, b)
+        }
+        (Expr::Call(_, call, a, b), Expr::Call(_, other, c, d)) => {
             *call == *other && same_value(a, c) && same_value(b, d)
         }
-        (Expr::Op(sign, a, b), Expr::Op(other, c, d)) => {
+        (Expr::Op(_, sign, a, b), Expr::Op(_, other, c, d)) => {
             *sign == *other && same_value(a, c) && same_value(b, d)
         }
-        (Expr::Choice(t, a, b), Expr::Choice(u, c, d)) => {
+        (Expr::Choice(_, t, a, b), Expr::Choice(_, u, c, d)) => {
             same_value(t, u) && same_value(a, c) && same_value(b, d)
         }
         _ => false,

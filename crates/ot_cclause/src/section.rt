@@ -42,7 +42,8 @@ fn is_only(place: &Place) -> bool
     ensures { result ≡ meant.is_only (part_of place.now) }
 {
     match place {
-        Place::Cells(Expr::Number(first, _), Expr::Number(count, _)) => *first == 0 && *count == 1,
+        Place::Cells(Expr::Number(_, first, _), Expr::Number(_, count, _)) => *first == 0
+            && *count == 1,
         _ => false,
     }
 }
@@ -51,14 +52,14 @@ fn is_only(place: &Place) -> bool
 pub(crate) fn pointed(
     alloc: Global,
     scope: &Scope<'_>,
-    start: usize,
+    left: usize,
     cell: Pointee,
     place: &Place,
 ) -> Result<Value, CFault>
-    ensures { Gives (λ v. view v) result (meant.pointed scope.now start cell (part_of place.now)) }
+    ensures { Gives (λ v. view v) result (meant.pointed scope.now left cell (part_of place.now)) }
 {
     if !is_only(place) {
-        return Err(CFault::Outside(start, Reason::Pointee));
+        return Err(CFault::Outside(left, Reason::Pointee));
     }
     let name = scope.named(alloc, Name::Other(cell.array))?;
     let first = Value::from(cell.place);
@@ -79,12 +80,12 @@ fn plain(alloc: Global, count: Value) -> Result<Value, AllocError>
 pub(crate) fn part(
     alloc: Global,
     scope: &Scope<'_>,
-    start: usize,
+    left: usize,
     array: Name,
     length: Option<usize>,
     place: &Place,
 ) -> Result<Value, CFault>
-    ensures { Gives (λ v. view v) result (meant.part scope.now start array length (part_of place.now)) }
+    ensures { Gives (λ v. view v) result (meant.part scope.now left array length (part_of place.now)) }
 {
     let name = scope.named(alloc, array)?;
     match place {
@@ -94,10 +95,10 @@ pub(crate) fn part(
         }
         Place::Cells(first, count) => {
             if length.is_none() {
-                return Err(CFault::Outside(start, Reason::NoArray));
+                return Err(CFault::Outside(left, Reason::NoArray));
             }
-            let (first, _) = size(alloc, scope, start, first)?;
-            let (count, _) = size(alloc, scope, start, count)?;
+            let (first, _) = size(alloc, scope, first)?;
+            let (count, _) = size(alloc, scope, count)?;
             let count = plain(alloc, count)?;
             Ok(json::three(alloc, name, first, count)?)
         }
@@ -121,7 +122,7 @@ fn is_counted(variable: Name, place: &Place) -> bool
     ensures { result ≡ meant.is_counted variable (part_of place.now) }
 {
     match place {
-        Place::Cells(Expr::Variable(name), Expr::Number(1, _)) => same_name(*name, variable),
+        Place::Cells(Expr::Variable(_, name), Expr::Number(_, 1, _)) => same_name(*name, variable),
         _ => false,
     }
 }
@@ -130,20 +131,20 @@ fn is_counted(variable: Name, place: &Place) -> bool
 fn counted(
     alloc: Global,
     scope: &Scope<'_>,
-    start: usize,
+    left: usize,
     over: &Range,
     array: Name,
     length: Option<usize>,
     place: &Place,
 ) -> Result<Value, CFault>
-    ensures { Gives (λ v. view v) result (meant.counted scope.now start (range_of over.now) array length (part_of place.now)) }
+    ensures { Gives (λ v. view v) result (meant.counted scope.now left (range_of over.now) array length (part_of place.now)) }
 {
     if length.is_none() || !is_counted(over.variable, place) {
-        return Err(CFault::Outside(start, Reason::Iterator));
+        return Err(CFault::Outside(left, Reason::Iterator));
     }
     let name = scope.named(alloc, array)?;
-    let (first, _) = size(alloc, scope, start, &over.start)?;
-    let (end, _) = size(alloc, scope, start, &over.end)?;
+    let (first, _) = size(alloc, scope, &over.start)?;
+    let (end, _) = size(alloc, scope, &over.end)?;
     let count = json::form2(alloc, "-", end, first.clone()?)?;
     Ok(json::three(alloc, name, first, count)?)
 }
@@ -152,18 +153,18 @@ fn counted(
 pub(crate) fn section(
     alloc: Global,
     scope: &Scope<'_>,
-    start: usize,
     over: &Option<Range>,
     item: &Item,
 ) -> Result<Value, CFault>
-    ensures { Gives (λ v. view v) result (meant.section scope.now start (over_of over.now) (item_of item.now)) }
+    ensures { Gives (λ v. view v) result (meant.section scope.now (over_of over.now) (item_of item.now)) }
 {
+    let left = item.left;
     match scope.sense(item.array) {
         Sense::Cells(_, length) => match over {
-            None => part(alloc, scope, start, item.array, length, &item.place),
-            Some(over) => counted(alloc, scope, start, over, item.array, length, &item.place),
+            None => part(alloc, scope, left, item.array, length, &item.place),
+            Some(over) => counted(alloc, scope, left, over, item.array, length, &item.place),
         },
-        other => Err(CFault::Outside(start, no_cells(other))),
+        other => Err(CFault::Outside(left, no_cells(other))),
     }
 }
 

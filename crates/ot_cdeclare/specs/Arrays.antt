@@ -9,7 +9,7 @@ use Rattle.ot_words.specs.declared.word.Name.{Name}
 use Rattle.ot_words.specs.declared.word.Name.TheVariants as n
 use Rattle.ot_program.specs.Meanings.{is_name}
 use Rattle.ot_cread.specs.declared.sign.Unary.TheVariants as u
-use Rattle.ot_cread.specs.Tree.{E, Signed}
+use Rattle.ot_cread.specs.Tree.{E, Signed, left_of}
 use Rattle.ot_cfile.specs.Program.{Start, Unset, One, Many, Cells, Declared as Declaration}
 use Rattle.ot_cscope.specs.declared.reason.Reason.TheVariants as why
 use Rattle.ot_cscope.specs.declared.scope.Meaning.{Meaning}
@@ -60,16 +60,16 @@ abbrev pub number_by : ℕ → Option Typed → Result ℕ Refusal
 number_by at None = Err (at, why.NoConstant)
 number_by at (Some x) = Ok x.0
 
-abbrev pub number : Around → ℕ → E → Result ℕ Refusal
-number a at e = number_by at (constant a e)
+abbrev pub number : Around → E → Result ℕ Refusal
+number a e = number_by (left_of e) (constant a e)
 
 abbrev pub counted : ℕ → ℕ → Result (Option ℕ) Refusal
 counted at n = if n == 0 || nat_lt 65536 n then Err (at, why.NoLength) else Ok (Some n)
 
 -- how many cells an array has, if it is one
-abbrev pub length : Around → ℕ → Option E → Result (Option ℕ) Refusal
-length a at None = Ok None
-length a at (Some e) = number a at e >>= λ n. counted at n
+abbrev pub length : Around → Option E → Result (Option ℕ) Refusal
+length a None = Ok None
+length a (Some e) = number a e >>= λ n. counted (left_of e) n
 
 -- a number that a type holds
 abbrev pub held : ℕ → IntegerType → Option Typed → Result ℕ Refusal
@@ -82,28 +82,28 @@ below at k None = Err (at, why.NoConstant)
 below at k (Some x) = if is_signed x.1 && holds_below k x.0 then Ok ((2 ^ 64 - x.0) % 2 ^ 64) else Err (at, why.NoConstant)
 
 -- what a cell of type k begins with
-unfoldable pub first : Around → ℕ → IntegerType → E → Result ℕ Refusal
-first a at k (Signed u.Minus e) = below at k (constant a e)
-first a at k e = held at k (constant a e)
+unfoldable pub first : Around → IntegerType → E → Result ℕ Refusal
+first a k (Signed l u.Minus e) = below l k (constant a e)
+first a k e = held (left_of e) k (constant a e)
 
-abbrev pub number_step : Around → ℕ → IntegerType → List ℕ → E → Result (List ℕ) Refusal
-number_step a at k cells e = first a at k e >>= λ n. Ok (cells ++ n ∷ [])
+abbrev pub number_step : Around → IntegerType → List ℕ → E → Result (List ℕ) Refusal
+number_step a k cells e = first a k e >>= λ n. Ok (cells ++ n ∷ [])
 
-abbrev pub numbers : Around → ℕ → IntegerType → List E → Result (List ℕ) Refusal
-numbers a at k es = each (number_step a at k) [] es
+abbrev pub numbers : Around → IntegerType → List E → Result (List ℕ) Refusal
+numbers a k es = each (number_step a k) [] es
 
 -- the first cells of an array, and zeros behind them (C17, section 6.7.9)
 abbrev pub filled : ℕ → List ℕ → ℕ → Result (List ℕ) Refusal
 filled at cells n = if nat_lt n (count_in cells) then Err (at, why.NoLength) else Ok (with_zeros cells (n - count_in cells))
 
--- the cells of a variable or an array of a type as it begins
+-- the cells of a variable or an array of a type as it begins, whose name stands there
 abbrev pub begun : Around → ℕ → IntegerType → Option ℕ → Start → Result (List ℕ) Refusal
 begun a at k None Unset = filled at [] 1
 begun a at k (Some n) Unset = filled at [] n
-begun a at k None (One e) = number_step a at k [] e
-begun a at k (Some n) (Many es) = numbers a at k es >>= λ cells. filled at cells n
+begun a at k None (One e) = number_step a k [] e
+begun a at k (Some n) (Many es) = numbers a k es >>= λ cells. filled at cells n
 begun a at k None (Many es) = Err (at, why.NoConstant)
-begun a at k (Some n) (One e) = Err (at, why.NoConstant)
+begun a at k (Some n) (One e) = Err (left_of e, why.NoConstant)
 
 -- ---- declarations
 
@@ -111,11 +111,11 @@ begun a at k (Some n) (One e) = Err (at, why.NoConstant)
 abbrev pub outside : List (String Global) → List Meaning → Bool → Around
 outside names meanings inside = record { names = names; meanings = meanings; turns = []; opened = []; portions = []; inside = inside }
 
-abbrev pub cells_in : Around → ℕ → IntegerType → Cells → Result (Option ℕ × List ℕ) Refusal
-cells_in a at k v = length a at v.length >>= λ n. begun a at k n v.initial >>= λ cells. Ok (n, cells)
+abbrev pub cells_in : Around → IntegerType → Cells → Result (Option ℕ × List ℕ) Refusal
+cells_in a k v = length a v.length >>= λ n. begun a v.left k n v.initial >>= λ cells. Ok (n, cells)
 
-abbrev pub cells_of : List (String Global) → List Meaning → ℕ → IntegerType → Cells → Result (Option ℕ × List ℕ) Refusal
-cells_of names meanings at k v = cells_in (outside names meanings false) at k v
+abbrev pub cells_of : List (String Global) → List Meaning → IntegerType → Cells → Result (Option ℕ × List ℕ) Refusal
+cells_of names meanings k v = cells_in (outside names meanings false) k v
 
 abbrev pub number_of : ℕ → Name → Result ℕ Refusal
 number_of at (n.Other i) = Ok i
@@ -139,14 +139,14 @@ name_of names at arrays i = name_by at arrays (slice_get names i)
 abbrev pub with_array : D → List ℕ → List ℕ → D
 with_array d name cells = record d { arrays = d.arrays ++ (record { name = name; cells = cells }) ∷ [] }
 
-abbrev pub variable_step : List (String Global) → ℕ → IntegerType → D → Cells → Result D Refusal
-variable_step names at k d v =
-    number_of at v.name >>= λ i.
-    name_of names at d.arrays i >>= λ name.
-    cells_of names d.meanings at k v >>= λ cells.
-    named at d i (m.Cells k cells.0) >>= λ e.
+abbrev pub variable_step : List (String Global) → IntegerType → D → Cells → Result D Refusal
+variable_step names k d v =
+    number_of v.left v.name >>= λ i.
+    name_of names v.left d.arrays i >>= λ name.
+    cells_of names d.meanings k v >>= λ cells.
+    named v.left d i (m.Cells k cells.0) >>= λ e.
     Ok (with_array e name cells.1)
 
 -- variables of a type, one after another
-abbrev pub declaration : List (String Global) → ℕ → D → Declaration → Result D Refusal
-declaration names at d given = each (variable_step names at given.kind) d given.variables
+abbrev pub declaration : List (String Global) → D → Declaration → Result D Refusal
+declaration names d given = each (variable_step names given.kind) d given.variables

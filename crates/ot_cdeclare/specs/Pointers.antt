@@ -3,8 +3,8 @@ use Rattle.std.specs.Prelude.{ℕ, ◌==◌, nat_lt, Bool, false, ◌&&◌, List
 use Rattle.std.specs.declared.alloc.Global.{Global}
 use Rattle.ot_words.specs.declared.word.IntegerType.{IntegerType}
 use Rattle.ot_words.specs.declared.word.Name.{Name}
-use Rattle.ot_cread.specs.Tree.{E}
-use Rattle.ot_cstatement.specs.Tree.{S, Block, Assign, If, For, Task, Wait, Group, Yield, Call, Print, Show, Point, Body, End, Next}
+use Rattle.ot_cread.specs.Tree.{left_of}
+use Rattle.ot_cstatement.specs.Tree.{Site, S, Block, Assign, If, For, Task, Wait, Group, Yield, Call, Print, Show, Point, Body, End, Next}
 use Rattle.ot_cscope.specs.declared.reason.Reason.TheVariants as why
 use Rattle.ot_cscope.specs.declared.scope.Meaning.{Meaning}
 use Rattle.ot_cscope.specs.declared.scope.Meaning.TheVariants as m
@@ -13,7 +13,6 @@ use Rattle.ot_cscope.specs.Constants.{Typed, constant}
 use Rattle.ot_cscope.specs.Kinds.{is_word}
 use Rattle.ot_cscope.specs.Results.{Refusal, ◌>>=◌}
 use Rattle.ot_cdeclare.specs.Arrays.{D, number_of, outside}
-use Rattle.ot_cdeclare.specs.Places.{byte_of}
 
 abbrev pub Names : Type 0
 Names = List (String Global)
@@ -38,11 +37,11 @@ count_by at (Some (m.Function i)) = Err (at, why.Pointee)
 count_by at None = Err (at, why.Pointee)
 
 -- the cell of an array at a place that is a constant
-abbrev pub pointee : Names → ℕ → D → Name → E → Result Pointee Refusal
-pointee names at d x i =
-    number_of at x >>= λ array.
-    count_by at (slice_get d.meanings array) >>= λ count.
-    place_in at count (constant (outside names d.meanings false) i) >>= λ place.
+abbrev pub pointee : Names → D → Site → Result Pointee Refusal
+pointee names d c =
+    number_of c.left c.array >>= λ array.
+    count_by c.left (slice_get d.meanings array) >>= λ count.
+    place_in (left_of c.index) count (constant (outside names d.meanings false) c.index) >>= λ place.
     Ok (record { array = array; place = place })
 
 abbrev pub is_same : ℕ → ℕ → Pointee → Bool
@@ -60,26 +59,26 @@ pointing_over at d p cell (Some (m.Function i)) = Err (at, why.Twice)
 abbrev pub pointing : ℕ → D → ℕ → Pointee → Result D Refusal
 pointing at d p cell = pointing_over at d p cell (slice_get d.meanings p)
 
--- `uint64_t *p = &x[i];`
-abbrev pub point : Names → ℕ → D → Name → Name → E → Result D Refusal
-point names at d p x i = pointee names at d x i >>= λ cell. number_of at p >>= λ n. pointing at d n cell
+-- `uint64_t *p = &x[i];`, where the name of the pointer stands there
+abbrev pub point : Names → ℕ → D → Name → Site → Result D Refusal
+point names at d p c = pointee names d c >>= λ cell. number_of at p >>= λ n. pointing at d n cell
 
 -- the pointers that statements declare
 unfoldable mutual
-  pub pointers_in : Names → List ℕ → D → S → Result D Refusal
-  pointers_in names starts d (Block left b) = pointers_from names starts d b
-  pointers_in names starts d (Assign left t sign e) = Ok d
-  pointers_in names starts d (If left e b c) = pointers_from names starts d b >>= λ o. pointers_from names starts o c
-  pointers_in names starts d (For left c b) = pointers_from names starts d b
-  pointers_in names starts d (Task left cs b) = pointers_from names starts d b
-  pointers_in names starts d (Wait left cs) = Ok d
-  pointers_in names starts d (Group left cs b) = pointers_from names starts d b
-  pointers_in names starts d (Yield left) = Ok d
-  pointers_in names starts d (Call left f es) = Ok d
-  pointers_in names starts d (Print left es) = Ok d
-  pointers_in names starts d (Show left x i n) = Ok d
-  pointers_in names starts d (Point left p x i) = point names (byte_of starts left) d p x i
+  pub pointers_in : Names → D → S → Result D Refusal
+  pointers_in names d (Block left b) = pointers_from names d b
+  pointers_in names d (Assign left t sign e) = Ok d
+  pointers_in names d (If left e b c) = pointers_from names d b >>= λ o. pointers_from names o c
+  pointers_in names d (For left c b) = pointers_from names d b
+  pointers_in names d (Task left cs b) = pointers_from names d b
+  pointers_in names d (Wait left cs) = Ok d
+  pointers_in names d (Group left cs b) = pointers_from names d b
+  pointers_in names d (Yield left) = Ok d
+  pointers_in names d (Call left f es) = Ok d
+  pointers_in names d (Print left es) = Ok d
+  pointers_in names d (Show left c n) = Ok d
+  pointers_in names d (Point left p c) = point names left d p c
 
-  pub pointers_from : Names → List ℕ → D → Body → Result D Refusal
-  pointers_from names starts d End = Ok d
-  pointers_from names starts d (Next s rest) = pointers_in names starts d s >>= λ o. pointers_from names starts o rest
+  pub pointers_from : Names → D → Body → Result D Refusal
+  pointers_from names d End = Ok d
+  pointers_from names d (Next s rest) = pointers_in names d s >>= λ o. pointers_from names o rest

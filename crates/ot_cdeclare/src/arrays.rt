@@ -11,7 +11,7 @@ ghost use Rattle.ot_cdeclare.specs.Each.{each};
 use indexmap::IndexSet;
 use ot_cfile::{Declaration, Initial, Variable};
 use ot_cnames::{is_taken, own_name};
-use ot_cread::{Expr, Unary};
+use ot_cread::{Expr, Unary, left_of};
 use ot_cscope::kind::{holds, holds_below, is_signed};
 use ot_cscope::{CFault, Meaning, Reason, Scope, constant};
 use ot_program::is_name;
@@ -53,92 +53,91 @@ pub struct Declared {
     pub arrays: Vec<CArray>,
 }
 
-/// A name that means nothing yet comes to mean this.
+/// A name that stands where so many words are left, and means nothing yet, comes to mean this.
 pub fn named(
-    start: usize,
+    left: usize,
     mut declared: Declared,
     name: usize,
     meaning: Meaning,
 ) -> Result<Declared, CFault>
-    ensures { Gives declared_of result (meant.named start (declared_of declared) name meaning) }
+    ensures { Gives declared_of result (meant.named left (declared_of declared) name meaning) }
 {
     match declared.meanings.get(name) {
-        None => return Err(CFault::Outside(start, Reason::NoName)),
+        None => return Err(CFault::Outside(left, Reason::NoName)),
         Some(Meaning::Nothing) => {}
-        Some(_) => return Err(CFault::Outside(start, Reason::Twice)),
+        Some(_) => return Err(CFault::Outside(left, Reason::Twice)),
     }
     declared.meanings[name] = meaning;
     Ok(declared)
 }
 
 /// The number that a value is wherever it is computed.
-fn number(scope: &Scope<'_>, start: usize, expr: &Expr) -> Result<u64, CFault>
-    ensures { Gives (λ n. n) result (meant.number scope.now start (expr_of expr.now)) }
+fn number(scope: &Scope<'_>, expr: &Expr) -> Result<u64, CFault>
+    ensures { Gives (λ n. n) result (meant.number scope.now (expr_of expr.now)) }
 {
     match constant(scope, expr) {
         Some((number, _)) => Ok(number),
-        None => Err(CFault::Outside(start, Reason::NoConstant)),
+        None => Err(CFault::Outside(left_of(expr), Reason::NoConstant)),
     }
 }
 
 /// How many cells an array has, if it is one.
-fn length(scope: &Scope<'_>, start: usize, length: &Option<Expr>) -> Result<Option<usize>, CFault>
-    ensures { Gives (λ n. n) result (meant.length scope.now start (index_of length.now)) }
+fn length(scope: &Scope<'_>, length: &Option<Expr>) -> Result<Option<usize>, CFault>
+    ensures { Gives (λ n. n) result (meant.length scope.now (index_of length.now)) }
 {
     let Some(length) = length else {
         return Ok(None);
     };
-    let count = number(scope, start, length)?;
+    let count = number(scope, length)?;
     if count == 0 || count > MAX_CELLS {
-        return Err(CFault::Outside(start, Reason::NoLength));
+        return Err(CFault::Outside(left_of(length), Reason::NoLength));
     }
     Ok(Some(count as usize))
 }
 
 /// A number that a type holds.
-fn held(start: usize, kind: IntegerType, known: Option<(u64, IntegerType)>) -> Result<u64, CFault>
-    ensures { Gives (λ n. n) result (meant.held start kind known) }
+fn held(left: usize, kind: IntegerType, known: Option<(u64, IntegerType)>) -> Result<u64, CFault>
+    ensures { Gives (λ n. n) result (meant.held left kind known) }
 {
     match known {
         Some((number, _)) if holds(kind, number) => Ok(number),
-        _ => Err(CFault::Outside(start, Reason::NoConstant)),
+        _ => Err(CFault::Outside(left, Reason::NoConstant)),
     }
 }
 
 /// The number that is so much below zero, modulo 2^64, where both its type and the cell's hold it.
-fn below(start: usize, kind: IntegerType, known: Option<(u64, IntegerType)>) -> Result<u64, CFault>
-    ensures { Gives (λ n. n) result (meant.below start kind known) }
+fn below(left: usize, kind: IntegerType, known: Option<(u64, IntegerType)>) -> Result<u64, CFault>
+    ensures { Gives (λ n. n) result (meant.below left kind known) }
 {
     match known {
         Some((number, by)) if is_signed(by) && holds_below(kind, number) => {
             Ok(0u64.wrapping_sub(number))
         }
-        _ => Err(CFault::Outside(start, Reason::NoConstant)),
+        _ => Err(CFault::Outside(left, Reason::NoConstant)),
     }
 }
 
 /// What a cell of a type begins with.
 #[tactic(auto, unfolding(crate::specs::Arrays::first))]
-fn first(scope: &Scope<'_>, start: usize, kind: IntegerType, expr: &Expr) -> Result<u64, CFault>
-    ensures { Gives (λ n. n) result (meant.first scope.now start kind (expr_of expr.now)) }
+fn first(scope: &Scope<'_>, kind: IntegerType, expr: &Expr) -> Result<u64, CFault>
+    ensures { Gives (λ n. n) result (meant.first scope.now kind (expr_of expr.now)) }
 {
     match expr {
-        Expr::Unary(Unary::Minus, expr) => below(start, kind, constant(scope, expr)),
-        _ => held(start, kind, constant(scope, expr)),
+        Expr::Unary(left, Unary::Minus, expr) => below(*left, kind, constant(scope, expr)),
+        _ => held(left_of(expr), kind, constant(scope, expr)),
     }
 }
 
 /// A cell behind others.
 fn number_step(
     scope: &Scope<'_>,
-    start: usize,
     kind: IntegerType,
     mut cells: Vec<u64>,
     expr: &Expr,
 ) -> Result<Vec<u64>, CFault>
-    ensures { Gives (λ v. v.items) result (meant.number_step scope.now start kind cells.items (expr_of expr.now)) }
+    ensures { Gives (λ v. v.items) result (meant.number_step scope.now kind cells.items (expr_of expr.now)) }
 {
-    let cell = first(scope, start, kind, expr)?;
+    let cell = first(scope, kind, expr)?;
     cells.push(cell)?;
     Ok(cells)
 }
@@ -146,26 +145,25 @@ fn number_step(
 fn numbers(
     alloc: Global,
     scope: &Scope<'_>,
-    start: usize,
     kind: IntegerType,
     exprs: &[Expr],
 ) -> Result<Vec<u64>, CFault>
-    ensures { Gives (λ v. v.items) result (meant.numbers scope.now start kind (exprs_of exprs.now)) }
+    ensures { Gives (λ v. v.items) result (meant.numbers scope.now kind (exprs_of exprs.now)) }
 {
     let mut cells = Vec::new(alloc);
     for expr in exprs {
-        cells = number_step(scope, start, kind, cells, expr)?;
+        cells = number_step(scope, kind, cells, expr)?;
     }
     Ok(cells)
 }
 
 /// The first cells of an array, and how many zeros stand behind them. None is made here, where no limit has been looked at. An array
 /// has fewer than 2^32 cells.
-fn filled(start: usize, cells: Vec<u64>, count: usize) -> Result<(Vec<u64>, u32), CFault>
-    ensures { Gives (λ x. with_zeros x.0.items x.1) result (meant.filled start cells.items count) }
+fn filled(left: usize, cells: Vec<u64>, count: usize) -> Result<(Vec<u64>, u32), CFault>
+    ensures { Gives (λ x. with_zeros x.0.items x.1) result (meant.filled left cells.items count) }
 {
     if cells.len() > count {
-        return Err(CFault::Outside(start, Reason::NoLength));
+        return Err(CFault::Outside(left, Reason::NoLength));
     }
     match u32::try_from(count - cells.len()) {
         Ok(zeros) => Ok((cells, zeros)),
@@ -176,14 +174,13 @@ fn filled(start: usize, cells: Vec<u64>, count: usize) -> Result<(Vec<u64>, u32)
 /// The only cell of a variable.
 fn only(
     scope: &Scope<'_>,
-    start: usize,
     kind: IntegerType,
     cells: Vec<u64>,
     expr: &Expr,
 ) -> Result<(Vec<u64>, u32), CFault>
-    ensures { Gives (λ x. with_zeros x.0.items x.1) result (meant.number_step scope.now start kind cells.items (expr_of expr.now)) }
+    ensures { Gives (λ x. with_zeros x.0.items x.1) result (meant.number_step scope.now kind cells.items (expr_of expr.now)) }
 {
-    let cells = number_step(scope, start, kind, cells, expr)?;
+    let cells = number_step(scope, kind, cells, expr)?;
     Ok((cells, 0))
 }
 
@@ -191,23 +188,24 @@ fn only(
 fn begun(
     alloc: Global,
     scope: &Scope<'_>,
-    start: usize,
+    left: usize,
     kind: IntegerType,
     length: Option<usize>,
     initial: &Initial,
 ) -> Result<(Vec<u64>, u32), CFault>
-    ensures { Gives (λ x. with_zeros x.0.items x.1) result (meant.begun scope.now start kind length (initial_of initial.now)) }
+    ensures { Gives (λ x. with_zeros x.0.items x.1) result (meant.begun scope.now left kind length (initial_of initial.now)) }
 {
     match (length, initial) {
-        (None, Initial::Nothing) => filled(start, Vec::new(alloc), 1),
-        (Some(count), Initial::Nothing) => filled(start, Vec::new(alloc), count),
-        (None, Initial::Value(expr)) => only(scope, start, kind, Vec::new(alloc), expr),
+        (None, Initial::Nothing) => filled(left, Vec::new(alloc), 1),
+        (Some(count), Initial::Nothing) => filled(left, Vec::new(alloc), count),
+        (None, Initial::Value(expr)) => only(scope, kind, Vec::new(alloc), expr),
         (Some(count), Initial::Values(exprs)) => {
-            let cells = numbers(alloc, scope, start, kind, exprs)?;
-            filled(start, cells, count)
+            let cells = numbers(alloc, scope, kind, exprs)?;
+            filled(left, cells, count)
         }
-        (None, Initial::Values(_)) | (Some(_), Initial::Value(_)) => {
-            Err(CFault::Outside(start, Reason::NoConstant))
+        (None, Initial::Values(_)) => Err(CFault::Outside(left, Reason::NoConstant)),
+        (Some(_), Initial::Value(expr)) => {
+            Err(CFault::Outside(left_of(expr), Reason::NoConstant))
         }
     }
 }
@@ -217,25 +215,25 @@ fn cells_of(
     alloc: Global,
     names: &IndexSet<String>,
     meanings: &[Meaning],
-    start: usize,
     kind: IntegerType,
     variable: &Variable,
 ) -> Result<(Option<usize>, (Vec<u64>, u32)), CFault>
-    ensures { Gives (λ x. (x.0, with_zeros x.1.0.items x.1.1)) result (meant.cells_of names.now.keys meanings.now start kind (variable_of variable.now)) }
+    ensures { Gives (λ x. (x.0, with_zeros x.1.0.items x.1.1)) result (meant.cells_of names.now.keys meanings.now kind (variable_of variable.now)) }
 {
     let scope = Scope::new(alloc, names, meanings, false);
-    let length = length(&scope, start, &variable.length)?;
-    let cells = begun(alloc, &scope, start, kind, length, &variable.initial)?;
+    let length = length(&scope, &variable.length)?;
+    let left = variable.left;
+    let cells = begun(alloc, &scope, left, kind, length, &variable.initial)?;
     Ok((length, cells))
 }
 
 /// The number of a name among those of the text.
-pub fn number_of(start: usize, name: Name) -> Result<usize, CFault>
-    ensures { Gives (λ n. n) result (meant.number_of start name) }
+pub fn number_of(left: usize, name: Name) -> Result<usize, CFault>
+    ensures { Gives (λ n. n) result (meant.number_of left name) }
 {
     match name {
         Name::Other(number) => Ok(number),
-        Name::Known(_) => Err(CFault::Outside(start, Reason::Reserved)),
+        Name::Known(_) => Err(CFault::Outside(left, Reason::Reserved)),
     }
 }
 
@@ -252,14 +250,14 @@ fn is_declared(arrays: &[CArray], name: &str) -> bool
 
 /// A name that the language has, and that no array has by another name in C, as `at` and `A_at` would. Few names are
 /// taken, so few are looked for.
-fn new_name(alloc: Global, start: usize, arrays: &[CArray], name: &str) -> Result<String, CFault>
-    ensures { Gives (λ s. string_bytes s) result (meant.new_name start (map array_of arrays.now) name.now) }
+fn new_name(alloc: Global, left: usize, arrays: &[CArray], name: &str) -> Result<String, CFault>
+    ensures { Gives (λ s. string_bytes s) result (meant.new_name left (map array_of arrays.now) name.now) }
 {
     if is_taken(name) && is_declared(arrays, name) {
-        return Err(CFault::Outside(start, Reason::Twice));
+        return Err(CFault::Outside(left, Reason::Twice));
     }
     if !is_name(name) {
-        return Err(CFault::Outside(start, Reason::NoName));
+        return Err(CFault::Outside(left, Reason::NoName));
     }
     Ok(String::from_str(alloc, name)?)
 }
@@ -268,15 +266,15 @@ fn new_name(alloc: Global, start: usize, arrays: &[CArray], name: &str) -> Resul
 fn name_of(
     alloc: Global,
     names: &IndexSet<String>,
-    start: usize,
+    left: usize,
     arrays: &[CArray],
     number: usize,
 ) -> Result<String, CFault>
-    ensures { Gives (λ s. string_bytes s) result (meant.name_of names.now.keys start (map array_of arrays.now) number) }
+    ensures { Gives (λ s. string_bytes s) result (meant.name_of names.now.keys left (map array_of arrays.now) number) }
 {
     match names.get_index(number) {
-        Some(name) => new_name(alloc, start, arrays, own_name(name.as_str())),
-        None => Err(CFault::Outside(start, Reason::NoName)),
+        Some(name) => new_name(alloc, left, arrays, own_name(name.as_str())),
+        None => Err(CFault::Outside(left, Reason::NoName)),
     }
 }
 
@@ -284,18 +282,18 @@ fn name_of(
 fn variable_step(
     alloc: Global,
     names: &IndexSet<String>,
-    start: usize,
     kind: IntegerType,
     declared: Declared,
     variable: &Variable,
 ) -> Result<Declared, CFault>
-    ensures { Gives declared_of result (meant.variable_step names.now.keys start kind (declared_of declared) (variable_of variable.now)) }
+    ensures { Gives declared_of result (meant.variable_step names.now.keys kind (declared_of declared) (variable_of variable.now)) }
 {
-    let number = number_of(start, variable.name)?;
-    let name = name_of(alloc, names, start, &declared.arrays, number)?;
-    let (length, begun) = cells_of(alloc, names, &declared.meanings, start, kind, variable)?;
+    let left = variable.left;
+    let number = number_of(left, variable.name)?;
+    let name = name_of(alloc, names, left, &declared.arrays, number)?;
+    let (length, begun) = cells_of(alloc, names, &declared.meanings, kind, variable)?;
     let (cells, zeros) = begun;
-    let mut declared = named(start, declared, number, Meaning::Cells(kind, length))?;
+    let mut declared = named(left, declared, number, Meaning::Cells(kind, length))?;
     declared.arrays.push(CArray { name, cells, zeros })?;
     Ok(declared)
 }
@@ -304,16 +302,15 @@ fn variable_step(
 fn variables(
     alloc: Global,
     names: &IndexSet<String>,
-    start: usize,
     kind: IntegerType,
     declared: Declared,
     variables: &[Variable],
 ) -> Result<Declared, CFault>
-    ensures { Gives declared_of result (each (meant.variable_step names.now.keys start kind) (declared_of declared) (variables_of variables.now)) }
+    ensures { Gives declared_of result (each (meant.variable_step names.now.keys kind) (declared_of declared) (variables_of variables.now)) }
 {
     let mut declared = declared;
     for variable in variables {
-        declared = variable_step(alloc, names, start, kind, declared, variable)?;
+        declared = variable_step(alloc, names, kind, declared, variable)?;
     }
     Ok(declared)
 }
@@ -322,12 +319,11 @@ fn variables(
 pub fn declaration(
     alloc: Global,
     names: &IndexSet<String>,
-    start: usize,
     declared: Declared,
     declaration: &Declaration,
 ) -> Result<Declared, CFault>
-    ensures { Gives declared_of result (meant.declaration names.now.keys start (declared_of declared) (declaration_of declaration.now)) }
+    ensures { Gives declared_of result (meant.declaration names.now.keys (declared_of declared) (declaration_of declaration.now)) }
 {
     let kind = declaration.kind;
-    variables(alloc, names, start, kind, declared, &declaration.variables)
+    variables(alloc, names, kind, declared, &declaration.variables)
 }

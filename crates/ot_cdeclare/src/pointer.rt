@@ -1,39 +1,37 @@
 //! Pointers to cells of arrays.
 ghost use Rattle.std.specs.Prelude.{◌≡◌, slice_get};
-ghost use Rattle.ot_cread.specs.Tree.{expr_of};
-ghost use Rattle.ot_cstatement.specs.Tree.{stmt_of, list_of, body_of};
+ghost use Rattle.ot_cstatement.specs.Tree.{site_of, stmt_of, list_of, body_of};
 ghost use Rattle.ot_cscope.specs.Results.{Gives};
 ghost use Rattle.ot_cdeclare.specs.Arrays.{declared_of};
 ghost use Rattle.ot_cdeclare.specs.Pointers as meant;
 
 use crate::arrays::{Declared, number_of};
-use crate::place::byte_of;
 use indexmap::IndexSet;
-use ot_cread::Expr;
+use ot_cread::left_of;
 use ot_cscope::kind::is_word;
 use ot_cscope::{CFault, Meaning, Pointee, Reason, Scope, constant};
-use ot_cstatement::Stmt;
-use ot_words::{IntegerType, Name, Words};
+use ot_cstatement::{Spot, Stmt};
+use ot_words::{IntegerType, Name};
 use std::alloc::Global;
 
 /// So many cells, where they are of the type to which pointers point.
-fn counted(start: usize, kind: IntegerType, count: usize) -> Result<usize, CFault>
-    ensures { Gives (λ n. n) result (meant.counted start kind count) }
+fn counted(left: usize, kind: IntegerType, count: usize) -> Result<usize, CFault>
+    ensures { Gives (λ n. n) result (meant.counted left kind count) }
 {
     if is_word(kind) {
         Ok(count)
     } else {
-        Err(CFault::Outside(start, Reason::OtherType))
+        Err(CFault::Outside(left, Reason::OtherType))
     }
 }
 
 /// How many cells an array has.
-fn count_by(start: usize, meaning: Option<Meaning>) -> Result<usize, CFault>
-    ensures { Gives (λ n. n) result (meant.count_by start meaning) }
+fn count_by(left: usize, meaning: Option<Meaning>) -> Result<usize, CFault>
+    ensures { Gives (λ n. n) result (meant.count_by left meaning) }
 {
     match meaning {
-        Some(Meaning::Cells(kind, Some(count))) => counted(start, kind, count),
-        _ => Err(CFault::Outside(start, Reason::Pointee)),
+        Some(Meaning::Cells(kind, Some(count))) => counted(left, kind, count),
+        _ => Err(CFault::Outside(left, Reason::Pointee)),
     }
 }
 
@@ -51,25 +49,23 @@ fn meaning_of(meanings: &[Meaning], number: usize) -> Option<Meaning>
 fn pointee(
     alloc: Global,
     names: &IndexSet<String>,
-    start: usize,
     declared: &Declared,
-    array: Name,
-    place: &Expr,
+    spot: &Spot,
 ) -> Result<Pointee, CFault>
-    ensures { Gives (λ p. p) result (meant.pointee names.now.keys start (declared_of declared.now) array (expr_of place.now)) }
+    ensures { Gives (λ p. p) result (meant.pointee names.now.keys (declared_of declared.now) (site_of spot.now)) }
 {
-    let array = number_of(start, array)?;
-    let count = count_by(start, meaning_of(&declared.meanings, array))?;
+    let array = number_of(spot.left, spot.array)?;
+    let count = count_by(spot.left, meaning_of(&declared.meanings, array))?;
     let scope = Scope::new(alloc, names, &declared.meanings, false);
-    match constant(&scope, place) {
+    match constant(&scope, &spot.index) {
         Some((place, _)) => {
             if place < count as u64 {
                 Ok(Pointee { array, place })
             } else {
-                Err(CFault::Outside(start, Reason::Pointee))
+                Err(CFault::Outside(left_of(&spot.index), Reason::Pointee))
             }
         }
-        None => Err(CFault::Outside(start, Reason::Pointee)),
+        None => Err(CFault::Outside(left_of(&spot.index), Reason::Pointee)),
     }
 }
 
@@ -82,43 +78,42 @@ fn is_same(array: usize, place: u64, cell: Pointee) -> bool
 
 /// A name that means nothing yet, or points there already, points to a cell.
 fn pointing(
-    start: usize,
+    left: usize,
     mut declared: Declared,
     name: usize,
     cell: Pointee,
 ) -> Result<Declared, CFault>
-    ensures { Gives declared_of result (meant.pointing start (declared_of declared) name cell) }
+    ensures { Gives declared_of result (meant.pointing left (declared_of declared) name cell) }
 {
     match declared.meanings.get(name) {
-        None => return Err(CFault::Outside(start, Reason::NoName)),
+        None => return Err(CFault::Outside(left, Reason::NoName)),
         Some(Meaning::Nothing) => {}
         Some(Meaning::Pointer(array, place)) => {
             if is_same(*array, *place, cell) {
                 return Ok(declared);
             }
-            return Err(CFault::Outside(start, Reason::Pointee));
+            return Err(CFault::Outside(left, Reason::Pointee));
         }
-        Some(_) => return Err(CFault::Outside(start, Reason::Twice)),
+        Some(_) => return Err(CFault::Outside(left, Reason::Twice)),
     }
     declared.meanings[name] = Meaning::Pointer(cell.array, cell.place);
     Ok(declared)
 }
 
-/// `uint64_t *p = &x[i];`
+/// `uint64_t *p = &x[i];`, where the name of the pointer stands where so many words are left.
 fn point(
     alloc: Global,
-    words: &Words,
-    start: usize,
+    names: &IndexSet<String>,
+    left: usize,
     declared: Declared,
     pointer: Name,
-    array: Name,
-    place: &Expr,
+    spot: &Spot,
 ) -> Result<Declared, CFault>
-    ensures { Gives declared_of result (meant.point words.now.names.keys start (declared_of declared) pointer array (expr_of place.now)) }
+    ensures { Gives declared_of result (meant.point names.now.keys left (declared_of declared) pointer (site_of spot.now)) }
 {
-    let cell = pointee(alloc, &words.names, start, &declared, array, place)?;
-    let number = number_of(start, pointer)?;
-    pointing(start, declared, number, cell)
+    let cell = pointee(alloc, names, &declared, spot)?;
+    let number = number_of(left, pointer)?;
+    pointing(left, declared, number, cell)
 }
 
 /// The pointers that a statement declares.
@@ -126,27 +121,24 @@ fn point(
 #[tactic(auto, unfolding(crate::specs::Pointers::pointers_in))]
 fn pointers_in(
     alloc: Global,
-    words: &Words,
+    names: &IndexSet<String>,
     declared: Declared,
     stmt: &Stmt,
 ) -> Result<Declared, CFault>
-    ensures { Gives declared_of result (meant.pointers_in words.now.names.keys words.now.starts.items (declared_of declared) (stmt_of stmt.now)) }
+    ensures { Gives declared_of result (meant.pointers_in names.now.keys (declared_of declared) (stmt_of stmt.now)) }
 {
     match stmt {
-        Stmt::Block(_, inner) | Stmt::For(_, _, inner) => pointers(alloc, words, declared, inner),
+        Stmt::Block(_, inner) | Stmt::For(_, _, inner) => pointers(alloc, names, declared, inner),
         Stmt::Task(_, _, inner) | Stmt::Group(_, _, inner) => {
-            pointers(alloc, words, declared, inner)
+            pointers(alloc, names, declared, inner)
         }
         Stmt::If(_, _, one, two) => {
-            let declared = pointers(alloc, words, declared, one)?;
-            pointers(alloc, words, declared, two)
+            let declared = pointers(alloc, names, declared, one)?;
+            pointers(alloc, names, declared, two)
         }
-        Stmt::Point(left, pointer, array, place) => {
-            let start = byte_of(&words.starts, *left);
-            point(alloc, words, start, declared, *pointer, *array, place)
-        }
+        Stmt::Point(left, pointer, spot) => { point(alloc, names, *left, declared, *pointer, spot) }
         Stmt::Assign(_, _, _, _) | Stmt::Wait(_, _) | Stmt::Yield(_) => Ok(declared),
-        Stmt::Call(_, _, _) | Stmt::Print(_, _) | Stmt::Show(_, _, _, _) => Ok(declared),
+        Stmt::Call(_, _, _) | Stmt::Print(_, _) | Stmt::Show(_, _, _) => Ok(declared),
     }
 }
 
@@ -154,15 +146,15 @@ fn pointers_in(
 #[cycle(pointers)]
 pub fn pointers(
     alloc: Global,
-    words: &Words,
+    names: &IndexSet<String>,
     declared: Declared,
     stmts: &[Stmt],
 ) -> Result<Declared, CFault>
-    ensures { Gives declared_of result (meant.pointers_from words.now.names.keys words.now.starts.items (declared_of declared) (body_of (list_of stmts.now))) }
+    ensures { Gives declared_of result (meant.pointers_from names.now.keys (declared_of declared) (body_of (list_of stmts.now))) }
 {
     let mut declared = declared;
     for stmt in stmts {
-        declared = pointers_in(alloc, words, declared, stmt)?;
+        declared = pointers_in(alloc, names, declared, stmt)?;
     }
     Ok(declared)
 }

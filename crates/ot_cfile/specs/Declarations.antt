@@ -47,9 +47,9 @@ initial_at ws = Ok (Unset, ws)
 unfoldable pub variable_at : List Word → Result (Cells × List Word) Fault
 variable_at ws = do
   name ← name_at ws
-  length ← index_at name.1
-  initial ← initial_at length.1
-  Ok (record { name = name.0; length = length.0; initial = initial.0 }, initial.1)
+  size ← index_at name.1
+  initial ← initial_at size.1
+  Ok (record { left = length ws; name = name.0; length = size.0; initial = initial.0 }, initial.1)
 
 -- a variable behind others, and whether another follows
 unfoldable pub variables_step : List Cells → List Word → Result (List Cells × Bool × List Word) Fault
@@ -64,4 +64,4 @@ declaration_at ws = do
   kind ← type_at (storage ws (static_end ws)).1
   variables ← variables_at kind.1
   rest ← semicolon_at variables.1
-  Ok (record { left = length ws; stays = (storage ws (static_end ws)).0; kind = kind.0; variables = variables.0 }, rest)
+  Ok (record { stays = (storage ws (static_end ws)).0; kind = kind.0; variables = variables.0 }, rest)

@@ -25,8 +25,8 @@ OneTop = Result (Entry × List Word) Fault
 
 -- behind `#define` and a name: what stands for one value wherever the name stands
 unfoldable pub constant_value : List Word → Result (E × List Word) Fault
-constant_value (w.Number n t ∷ w.End ∷ ws) = Ok (Literal n t, ws)
-constant_value (w.Name n ∷ w.End ∷ ws) = Ok (Variable n, ws)
+constant_value (w.Number n t ∷ w.End ∷ ws) = Ok (Literal (length (w.Number n t ∷ w.End ∷ ws)) n t, ws)
+constant_value (w.Name n ∷ w.End ∷ ws) = Ok (Variable (length (w.Name n ∷ w.End ∷ ws)) n, ws)
 constant_value (w.Mark m.Open ∷ ws) = value ws >>= λ x. close_at x.1 >>= λ a. end_at a >>= λ rest. Ok (x.0, rest)
 constant_value ws = Err (NoConstant (length ws))
 
@@ -36,8 +36,8 @@ constant_name (w.Name (n.Other i) ∷ ws) = Ok (i, ws)
 constant_name ws = Err (NoConstant (length ws))
 
 -- behind `#define`
-unfoldable pub constant_at : ℕ → List Word → OneTop
-constant_at left ws = constant_name ws >>= λ name. constant_value name.1 >>= λ x. Ok (Constant left name.0 x.0, x.1)
+unfoldable pub constant_at : List Word → OneTop
+constant_at ws = constant_name ws >>= λ name. constant_value name.1 >>= λ x. Ok (Constant (length ws) name.0 x.0, x.1)
 
 -- ---- functions and declarations
 
@@ -67,16 +67,16 @@ unfoldable pub parameters_at : List Word → Behind
 parameters_at ws = open_at ws >>= λ rest. close_behind rest (void_end rest)
 
 -- behind `void`
-unfoldable pub function_at : ℕ → List Word → OneTop
-function_at left ws = do
+unfoldable pub function_at : List Word → OneTop
+function_at ws = do
   name ← name_at ws
   a ← parameters_at name.1
   b ← open_block_at a
   body ← stmts_at (statement_at 48) b
-  Ok (FunctionAt left name.0 (body_of body.0), body.1)
+  Ok (FunctionAt (length ws) name.0 (body_of body.0), body.1)
 
 abbrev pub function_or_global : List Word → Option (List Word) → OneTop
-function_or_global ws (Some rest) = function_at (length ws) rest
+function_or_global ws (Some rest) = function_at rest
 function_or_global ws None = declaration_at ws >>= λ x. Ok (Global x.0, x.1)
 
 unfoldable pub global_at : List Word → OneTop
@@ -85,7 +85,7 @@ global_at ws = function_or_global ws (function_end ws)
 -- ---- what stands before `main`
 
 unfoldable pub top_at : List Word → OneTop
-top_at (w.Define ∷ ws) = constant_at (length (w.Define ∷ ws)) ws
+top_at (w.Define ∷ ws) = constant_at ws
 top_at ws = global_at ws
 
 unfoldable pub is_int : Name → Bool

@@ -28,7 +28,7 @@ unfoldable pub plain_at : List Word → Result (Act × List Word) Fault
 plain_at ws = if declares ws then (declaration_at ws >>= λ x. Ok (Local x.0, x.1)) else (statement_at 48 ws >>= λ x. Ok (Does x.0, x.1))
 
 abbrev pub region_or_plain : List Word → Option (List Word) → Result (Act × List Word) Fault
-region_or_plain ws (Some rest) = region_at (length ws) rest >>= λ x. Ok (Region (length ws) x.0 x.1, x.2)
+region_or_plain ws (Some rest) = region_at rest >>= λ x. Ok (Region (length ws) x.0 x.1, x.2)
 region_or_plain ws None = plain_at ws
 
 unfoldable pub act_at : List Word → Result (Act × List Word) Fault

@@ -25,27 +25,27 @@ initial_of i.Nothing = Unset
 initial_of (i.Value e) = One (expr_of e)
 initial_of (i.Values es) = Many (exprs_of es.items)
 
--- a variable, or an array where it has a length
+-- a variable, or an array where it has a length, with the number of words that are left where its name stands
 pub record Cells : Type 0 where
+  pub left : ℕ
   pub name : Name
   pub length : Option E
   pub initial : Start
 
 abbrev pub variable_of : Variable → Cells
-variable_of v = record { name = v.name; length = index_of v.length; initial = initial_of v.initial }
+variable_of v = record { left = v.left; name = v.name; length = index_of v.length; initial = initial_of v.initial }
 
 abbrev pub variables_of : List Variable → List Cells
 variables_of vs = map variable_of vs
 
--- variables of a type, with the number of words that are left where they begin
+-- variables of a type
 pub record Declared : Type 0 where
-  pub left : ℕ
   pub stays : Bool
   pub kind : IntegerType
   pub variables : List Cells
 
 abbrev pub declaration_of : Declaration → Declared
-declaration_of d = record { left = d.left; stays = d.stays; kind = d.kind; variables = variables_of d.variables.items }
+declaration_of d = record { stays = d.stays; kind = d.kind; variables = variables_of d.variables.items }
 
 -- what stands before `main`
 pub data Entry : Type 0 where

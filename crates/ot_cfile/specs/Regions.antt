@@ -45,5 +45,5 @@ within_at (w.Mark m.OpenBlock ∷ ws) = alone_at ws >>= λ x. close_block_at x.1
 within_at ws = alone_at ws
 
 -- behind `#pragma omp parallel`
-unfoldable pub region_at : ℕ → List Word → Result (List Claim × Body × List Word) Fault
-region_at left ws = own_clauses d.Parallel left ws >>= λ x. within_at x.1 >>= λ body. Ok (x.0, body.0, body.1)
+unfoldable pub region_at : List Word → Result (List Claim × Body × List Word) Fault
+region_at ws = own_clauses d.Parallel ws >>= λ x. within_at x.1 >>= λ body. Ok (x.0, body.0, body.1)

@@ -92,10 +92,12 @@ fn initial(alloc: Global, words: &[Word]) -> Result<(Initial, &[Word]), ReadErro
 fn variable(alloc: Global, words: &[Word]) -> Result<(Variable, &[Word]), ReadError>
     ensures { Gives (λ x. (variable_of x.0, x.1.now)) result (read.variable_at words.now) }
 {
+    let left = words.len();
     let (name, rest) = name(words)?;
     let (length, rest) = read_index(alloc, rest)?;
     let (initial, rest) = initial(alloc, rest)?;
     let variable = Variable {
+        left,
         name,
         length,
         initial,
@@ -148,7 +150,6 @@ pub(crate) fn declaration(
     let (variables, rest) = variables(alloc, rest)?;
     let rest = semicolon(rest)?;
     let declaration = Declaration {
-        left: words.len(),
         stays,
         kind,
         variables,

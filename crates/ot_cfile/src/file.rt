@@ -23,9 +23,9 @@ fn constant_value(alloc: Global, words: &[Word]) -> Result<(Expr, &[Word]), Read
 {
     match words {
         [Word::Number(number, kind), Word::End, rest @ ..] => {
-            Ok((Expr::Number(*number, *kind), rest))
+            Ok((Expr::Number(words.len(), *number, *kind), rest))
         }
-        [Word::Name(name), Word::End, rest @ ..] => Ok((Expr::Variable(*name), rest)),
+        [Word::Name(name), Word::End, rest @ ..] => Ok((Expr::Variable(words.len(), *name), rest)),
         [Word::Mark(Mark::Open), rest @ ..] => {
             let (value, rest) = value(alloc, rest)?;
             let rest = close(rest)?;
@@ -47,14 +47,14 @@ fn constant_name(words: &[Word]) -> Result<(usize, &[Word]), ReadError>
     }
 }
 
-/// Behind `#define`, which begins where so many words are left.
+/// What follows `#define`.
 #[tactic(auto, unfolding(crate::specs::Files::constant_at))]
-fn constant(alloc: Global, left: usize, words: &[Word]) -> Result<(Top, &[Word]), ReadError>
-    ensures { Gives (λ x. (top_of x.0, x.1.now)) result (read.constant_at left words.now) }
+fn constant(alloc: Global, words: &[Word]) -> Result<(Top, &[Word]), ReadError>
+    ensures { Gives (λ x. (top_of x.0, x.1.now)) result (read.constant_at words.now) }
 {
     let (name, rest) = constant_name(words)?;
     let (value, rest) = constant_value(alloc, rest)?;
-    Ok((Top::Constant(left, name, value), rest))
+    Ok((Top::Constant(words.len(), name, value), rest))
 }
 
 #[tactic(auto, unfolding(crate::specs::Files::is_void))]
@@ -100,14 +100,14 @@ fn parameters(words: &[Word]) -> Result<&[Word], ReadError>
 
 /// Behind `void`.
 #[tactic(auto, unfolding(crate::specs::Files::function_at))]
-fn function(alloc: Global, left: usize, words: &[Word]) -> Result<(Top, &[Word]), ReadError>
-    ensures { Gives (λ x. (top_of x.0, x.1.now)) result (read.function_at left words.now) }
+fn function(alloc: Global, words: &[Word]) -> Result<(Top, &[Word]), ReadError>
+    ensures { Gives (λ x. (top_of x.0, x.1.now)) result (read.function_at words.now) }
 {
     let (name, rest) = name(words)?;
     let rest = parameters(rest)?;
     let rest = open_block(rest)?;
     let (body, rest) = read_block(alloc, rest)?;
-    Ok((Top::Function(left, name, body), rest))
+    Ok((Top::Function(words.len(), name, body), rest))
 }
 
 /// A function or a declaration.
@@ -116,7 +116,7 @@ fn global(alloc: Global, words: &[Word]) -> Result<(Top, &[Word]), ReadError>
     ensures { Gives (λ x. (top_of x.0, x.1.now)) result (read.global_at words.now) }
 {
     match function_end(words) {
-        Some(rest) => function(alloc, words.len(), rest),
+        Some(rest) => function(alloc, rest),
         None => {
             let (declaration, rest) = declaration(alloc, words)?;
             Ok((Top::Declares(declaration), rest))
@@ -129,7 +129,7 @@ fn top(alloc: Global, words: &[Word]) -> Result<(Top, &[Word]), ReadError>
     ensures { Gives (λ x. (top_of x.0, x.1.now)) result (read.top_at words.now) }
 {
     match words {
-        [Word::Define, rest @ ..] => constant(alloc, words.len(), rest),
+        [Word::Define, rest @ ..] => constant(alloc, rest),
         _ => global(alloc, words),
     }
 }

@@ -64,7 +64,7 @@ fn act(alloc: Global, words: &[Word]) -> Result<(Step, &[Word]), ReadError>
 {
     match parallel_end(words) {
         Some(rest) => {
-            let (clauses, body, rest) = region(alloc, words.len(), rest)?;
+            let (clauses, body, rest) = region(alloc, rest)?;
             Ok((Step::Region(words.len(), clauses, body), rest))
         }
         None => plain(alloc, words),

@@ -15,6 +15,8 @@ pub enum Initial {
 /// A variable, or an array where it has a length.
 #[derive(Debug, Drop)]
 pub struct Variable {
+    /// How many words are left where its name stands.
+    pub left: usize,
     pub name: Name,
     /// In cells.
     pub length: Option<Expr>,
@@ -24,15 +26,13 @@ pub struct Variable {
 /// Variables of a type.
 #[derive(Debug, Drop)]
 pub struct Declaration {
-    /// How many words are left where it begins.
-    pub left: usize,
     /// Whether it says `static`.
     pub stays: bool,
     pub kind: IntegerType,
     pub variables: Vec<Variable>,
 }
 
-/// What stands in a file before `main`, with how many words are left where it begins.
+/// What stands in a file before `main`, a constant and a function with how many words are left where its name stands.
 #[derive(Debug, Drop)]
 pub enum Top {
     /// A name that stands for a value from here on: its number among the names of the text.
@@ -46,7 +46,7 @@ pub enum Top {
 #[derive(Debug, Drop)]
 pub enum Step {
     Declares(Declaration),
-    /// A parallel region of which one thread does these statements.
+    /// A parallel region, with how many words are left where it begins, of which one thread does these statements.
     Region(usize, Vec<Clause>, Vec<Stmt>),
     Does(Stmt),
 }

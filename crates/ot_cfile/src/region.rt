@@ -84,16 +84,15 @@ fn within(alloc: Global, words: &[Word]) -> Result<(Vec<Stmt>, &[Word]), ReadErr
     }
 }
 
-/// Behind `#pragma omp parallel`, which begins where so many words are left.
+/// What follows `#pragma omp parallel`.
 #[tactic(auto, unfolding(crate::specs::Regions::region_at))]
 pub(crate) fn region(
     alloc: Global,
-    left: usize,
     words: &[Word],
 ) -> Result<(Vec<Clause>, Vec<Stmt>, &[Word]), ReadError>
-    ensures { Gives (λ x. (clauses_of x.0.items, body_of (list_of x.1.items), x.2.now)) result (read.region_at left words.now) }
+    ensures { Gives (λ x. (clauses_of x.0.items, body_of (list_of x.1.items), x.2.now)) result (read.region_at words.now) }
 {
-    let (clauses, rest) = own_clauses(alloc, Directive::Parallel, left, words)?;
+    let (clauses, rest) = own_clauses(alloc, Directive::Parallel, words)?;
     let (body, rest) = within(alloc, rest)?;
     Ok((clauses, body, rest))
 }

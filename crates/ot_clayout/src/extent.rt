@@ -57,6 +57,27 @@ impl Extent {
         }
     }
 
+    /// In one place with another one, each with cells of its own.
+    pub fn beside(self, other: Extent) -> Option<Extent> {
+        let cells = self.cells.checked_add(other.cells)?;
+        Some(Extent {
+            cells,
+            bytes: self.bytes.max(other.bytes),
+            align: self.align.max(other.align),
+        })
+    }
+
+    /// With a cell for each byte behind its own.
+    pub fn with_bytes(self) -> Option<Extent> {
+        let more = u32::try_from(self.bytes).ok()?;
+        let cells = self.cells.checked_add(more)?;
+        Some(Extent {
+            cells,
+            bytes: self.bytes,
+            align: self.align,
+        })
+    }
+
     /// With what it needs behind it so that another one may follow.
     pub fn closed(self) -> Option<Extent> {
         let bytes = aligned(self.bytes, self.align)?;

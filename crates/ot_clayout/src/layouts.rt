@@ -3,6 +3,7 @@ use crate::constant::{Constant, operated, signed};
 use crate::extent::Extent;
 use crate::sort::{Base, Class, Sort, bytes};
 use crate::typing::type_of;
+use crate::unions::is_even;
 use ot_ctree::{Designator, Entry, Enumerator, Expr, Initial, Length, Member, Type, Unit};
 use std::alloc::{AllocError, Global};
 
@@ -41,7 +42,7 @@ pub struct Layouts {
     enumerators: Vec<Option<Constant>>,
 }
 
-fn members(unit: &Unit, record: u32) -> &[Member] {
+pub(crate) fn members(unit: &Unit, record: u32) -> &[Member] {
     match unit.records.get(record as usize) {
         Some(record) => match &record.members {
             Some(members) => members.as_slice(),
@@ -238,6 +239,7 @@ impl Layouts {
             }
             None => return None,
         };
+        let is_even = is_union && is_even(unit, record);
         let first = self.firsts.get(record as usize).copied().unwrap_or(0);
         let members = members(unit, record);
         if members.len() > MOST_MEMBERS {
@@ -250,11 +252,13 @@ impl Layouts {
                 return None;
             };
             if let Some(start) = self.starts.get_mut(at) {
-                *start = if is_union { 0 } else { all.cells };
+                *start = if is_even { 0 } else { all.cells };
             }
             at = at.saturating_add(1);
-            let more = if is_union {
+            let more = if is_even {
                 Some(all.over(extent))
+            } else if is_union {
+                all.beside(extent)
             } else {
                 all.followed(extent)
             };
@@ -263,7 +267,14 @@ impl Layouts {
             };
             all = more;
         }
-        all.closed()
+        let Some(all) = all.closed() else {
+            return None;
+        };
+        if is_union && !is_even {
+            all.with_bytes()
+        } else {
+            Some(all)
+        }
     }
 
     #[cycle(measure)]

@@ -5,7 +5,7 @@ use Rattle.ot_words.specs.declared.word.IntegerType.{IntegerType}
 use Rattle.ot_words.specs.declared.word.IntegerType.TheVariants.{UnsignedLong}
 use Rattle.ot_cread.specs.declared.tree.Operation.{Operation}
 use Rattle.ot_cread.specs.declared.tree.Operation.TheVariants as o
-use Rattle.ot_cread.specs.Tree.{E}
+use Rattle.ot_cread.specs.Tree.{E, left_of}
 use Rattle.ot_cscope.specs.declared.reason.Reason.TheVariants as why
 use Rattle.ot_cscope.specs.Constants.{Typed, constant}
 use Rattle.ot_cscope.specs.Kinds.{joined, holds, is_signed, keeps}
@@ -27,8 +27,8 @@ abbrev pub put : ℕ → IntegerType → W → Option Typed → Result Data Refu
 put at k x known = if keeps k x.kind x.whole || fits k known then Ok x.text else Err (at, why.Conversion)
 
 -- a value, which is the same modulo 2^64 where it is converted to the cell's type k
-abbrev pub assigned : Around → ℕ → IntegerType → E → Result Data Refusal
-assigned a at k e = value a at e >>= λ x. put at k x (constant a e)
+abbrev pub assigned : Around → IntegerType → E → Result Data Refusal
+assigned a k e = value a e >>= λ x. put (left_of e) k x (constant a e)
 
 -- ---- `cell op= value`, which is `cell = cell op value`
 
@@ -66,5 +66,5 @@ folded at k o.Min minus x = kept_extreme at k x
 folded at k o.Max minus x = kept_extreme at k x
 
 -- what is folded into a cell of type k, or where it is a sum may be taken away from it
-abbrev pub changed : Around → ℕ → IntegerType → Operation → Bool → E → Result Data Refusal
-changed a at k f minus e = value a at e >>= λ x. folded at k f minus x >>= λ u. Ok x.text
+abbrev pub changed : Around → IntegerType → Operation → Bool → E → Result Data Refusal
+changed a k f minus e = value a e >>= λ x. folded (left_of e) k f minus x >>= λ u. Ok x.text

@@ -51,7 +51,7 @@ array_name a at x = array_by at (name_text a x) (sense a x)
 
 -- `a[size]`
 abbrev pub cell : Around → ℕ → Name → E → Valued
-cell a at x i = array_name a at x >>= λ r. size a at i >>= λ p. Ok (held (form (codes "c") (r.0 ∷ p.0 ∷ [])) r.1)
+cell a at x i = array_name a at x >>= λ r. size a i >>= λ p. Ok (held (form (codes "c") (r.0 ∷ p.0 ∷ [])) r.1)
 
 -- the only cell of a variable
 abbrev pub only_cell : List ℕ → Data
@@ -79,10 +79,10 @@ abbrev pub picked : ℕ → Row → Data → Data × IntegerType → W → Value
 picked at r first count x = if has_rest x count.1 then Ok (held (form (codes "pick") (listed (r.0 ∷ first ∷ count.0 ∷ []) ∷ x.text ∷ [])) r.1) else Err (at, why.Signed)
 
 abbrev pub pick : Around → ℕ → Row → Data → Valued → E → Valued
-pick a at r first chosen count = size a at count >>= λ n. chosen >>= λ x. picked at r first n x
+pick a at r first chosen count = size a count >>= λ n. chosen >>= λ x. picked at r first n x
 
-abbrev pub summed : Around → ℕ → Row → Data → E → Valued
-summed a at r first more = size a at more >>= λ m. Ok (held (form (codes "c") (r.0 ∷ form (codes "+") (first ∷ m.0 ∷ []) ∷ [])) r.1)
+abbrev pub summed : Around → Row → Data → E → Valued
+summed a r first more = size a more >>= λ m. Ok (held (form (codes "c") (r.0 ∷ form (codes "+") (first ∷ m.0 ∷ []) ∷ [])) r.1)
 
 -- whether a name is no cell
 abbrev pub is_no_cell : Sense → Bool
@@ -97,32 +97,32 @@ is_no_cell (s.Function i) = true
 
 -- whether a value reads no cell, and makes no choice: then it is the same whether C computes it or leaves it out
 unfoldable pub is_settled : Around → E → Bool
-is_settled a (Literal n k) = true
-is_settled a (Variable x) = is_no_cell (sense a x)
-is_settled a (CellAt x i) = false
+is_settled a (Literal l n k) = true
+is_settled a (Variable l x) = is_no_cell (sense a x)
+is_settled a (CellAt l x i) = false
 is_settled a (Unsigned e) = is_settled a e
-is_settled a (Signed sign e) = is_settled a e
-is_settled a (Called f x y) = is_settled a x && is_settled a y
-is_settled a (Apply sign x y) = is_settled a x && is_settled a y
-is_settled a (Choose t x y) = false
+is_settled a (Signed l sign e) = is_settled a e
+is_settled a (Called l f x y) = is_settled a x && is_settled a y
+is_settled a (Apply l sign x y) = is_settled a x && is_settled a y
+is_settled a (Choose l t x y) = false
 
 unfoldable mutual
-  pub value : Around → ℕ → E → Valued
-  value a at (Literal n k) = Ok (whole (nat n) k)
-  value a at (Variable x) = named a at x
-  value a at (CellAt x i) = untouched a at x i >>= λ u. indexed a at x i
-  value a at (Unsigned e) = value a at e >>= λ x. Ok (word x.text)
-  value a at (Signed sign e) = value a at e >>= λ x. signed at sign x
-  value a at (Choose t x y) = choice_of at (value a at t) (value a at x) (value a at y) (is_settled a x && is_settled a y)
-  value a at (Called f x y) = called at f (value a at x) (value a at y)
-  value a at (Apply sign x y) = by_way at (way_of sign) (value a at x) (value a at y) (constant a y) (both sign (constant a x) (constant a y)) (is_settled a y)
+  pub value : Around → E → Valued
+  value a (Literal l n k) = Ok (whole (nat n) k)
+  value a (Variable l x) = named a l x
+  value a (CellAt l x i) = untouched a l x i >>= λ u. indexed a l x i
+  value a (Unsigned e) = value a e >>= λ x. Ok (word x.text)
+  value a (Signed l sign e) = value a e >>= λ x. signed l sign x
+  value a (Choose l t x y) = choice_of l (value a t) (value a x) (value a y) (is_settled a x && is_settled a y)
+  value a (Called l f x y) = called l f (value a x) (value a y)
+  value a (Apply l sign x y) = by_way l (way_of sign) (value a x) (value a y) (constant a y) (both sign (constant a x) (constant a y)) (is_settled a y)
 
-  -- a place in an array: a value `%` a size, alone or behind a size and `+`; or a size
+  -- a place in an array whose name stands there: a value `%` a size, alone or behind a size and `+`; or a size
   pub indexed : Around → ℕ → Name → E → Valued
-  indexed a at x (Apply o.Rest chosen count) = array_name a at x >>= λ r. pick a at r (nat 0) (value a at chosen) count
-  indexed a at x (Apply o.Plus first more) = array_name a at x >>= λ r. size a at first >>= λ f. behind a at r f.0 more
+  indexed a at x (Apply l o.Rest chosen count) = array_name a at x >>= λ r. pick a l r (nat 0) (value a chosen) count
+  indexed a at x (Apply l o.Plus first more) = array_name a at x >>= λ r. size a first >>= λ f. behind a r f.0 more
   indexed a at x i = cell a at x i
 
-  pub behind : Around → ℕ → Row → Data → E → Valued
-  behind a at r first (Apply o.Rest chosen count) = pick a at r first (value a at chosen) count
-  behind a at r first more = summed a at r first more
+  pub behind : Around → Row → Data → E → Valued
+  behind a r first (Apply l o.Rest chosen count) = pick a l r first (value a chosen) count
+  behind a r first more = summed a r first more

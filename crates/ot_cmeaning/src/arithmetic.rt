@@ -212,12 +212,12 @@ fn raised_less(alloc: Global, one: Value, two: Value) -> Result<Worth, CFault>
 /// A basic operation of two values.
 fn applied(
     alloc: Global,
-    start: usize,
+    left: usize,
     basic: Basic,
     one: Worth,
     two: Worth,
 ) -> Result<Worth, CFault>
-    ensures { Gives worth_of result (meant.applied start basic (worth_of one) (worth_of two)) }
+    ensures { Gives worth_of result (meant.applied left basic (worth_of one) (worth_of two)) }
 {
     let kind = joined(one.kind, two.kind);
     let both = one.whole && two.whole;
@@ -225,7 +225,7 @@ fn applied(
         return raised_less(alloc, one.value, two.value);
     }
     if !agrees(basic, kind, both) {
-        return Err(CFault::Outside(start, disagrees(basic)));
+        return Err(CFault::Outside(left, disagrees(basic)));
     }
     Ok(Worth {
         value: form2(alloc, basic_word(basic), one.value, two.value)?,
@@ -242,91 +242,85 @@ fn int(number: u64) -> Worth
 }
 
 /// Whether a value is 0.
-fn denied(alloc: Global, start: usize, one: Worth) -> Result<Worth, CFault>
-    ensures { Gives worth_of result (meant.denied start (worth_of one)) }
+fn denied(alloc: Global, left: usize, one: Worth) -> Result<Worth, CFault>
+    ensures { Gives worth_of result (meant.denied left (worth_of one)) }
 {
-    applied(alloc, start, Basic::Equal, one, int(0))
+    applied(alloc, left, Basic::Equal, one, int(0))
 }
 
 /// Whether a value isn't 0.
-fn truth(alloc: Global, start: usize, one: Worth) -> Result<Worth, CFault>
-    ensures { Gives worth_of result (meant.truth start (worth_of one)) }
+fn truth(alloc: Global, left: usize, one: Worth) -> Result<Worth, CFault>
+    ensures { Gives worth_of result (meant.truth left (worth_of one)) }
 {
-    let none = denied(alloc, start, one)?;
-    denied(alloc, start, none)
+    let none = denied(alloc, left, one)?;
+    denied(alloc, left, none)
 }
 
 /// An operation of two values, as it is meant.
 fn meant(
     alloc: Global,
-    start: usize,
+    left: usize,
     manner: Manner,
     basic: Basic,
     one: Worth,
     two: Worth,
 ) -> Result<Worth, CFault>
-    ensures { Gives worth_of result (meant.meant start manner basic (worth_of one) (worth_of two)) }
+    ensures { Gives worth_of result (meant.meant left manner basic (worth_of one) (worth_of two)) }
 {
     match manner {
-        Manner::Is => applied(alloc, start, basic, one, two),
-        Manner::Turned => applied(alloc, start, basic, two, one),
+        Manner::Is => applied(alloc, left, basic, one, two),
+        Manner::Turned => applied(alloc, left, basic, two, one),
         Manner::Not => {
-            let result = applied(alloc, start, basic, one, two)?;
-            denied(alloc, start, result)
+            let result = applied(alloc, left, basic, one, two)?;
+            denied(alloc, left, result)
         }
         Manner::TurnedNot => {
-            let result = applied(alloc, start, basic, two, one)?;
-            denied(alloc, start, result)
+            let result = applied(alloc, left, basic, two, one)?;
+            denied(alloc, left, result)
         }
     }
 }
 
 /// A value with a sign before it.
-pub(crate) fn signed(alloc: Global, start: usize, sign: Unary, one: Worth) -> Result<Worth, CFault>
-    ensures { Gives worth_of result (meant.signed start sign (worth_of one)) }
+pub(crate) fn signed(alloc: Global, left: usize, sign: Unary, one: Worth) -> Result<Worth, CFault>
+    ensures { Gives worth_of result (meant.signed left sign (worth_of one)) }
 {
     match sign {
         Unary::Plus => Ok(one),
-        Unary::Minus => applied(alloc, start, Basic::Minus, int(0), one),
-        Unary::Not => denied(alloc, start, one),
+        Unary::Minus => applied(alloc, left, Basic::Minus, int(0), one),
+        Unary::Not => denied(alloc, left, one),
         Unary::Invert => {
-            let below = applied(alloc, start, Basic::Minus, int(0), int(1))?;
-            applied(alloc, start, Basic::Minus, below, one)
+            let below = applied(alloc, left, Basic::Minus, int(0), int(1))?;
+            applied(alloc, left, Basic::Minus, below, one)
         }
     }
 }
 
 /// Two values, of which C may leave out the second.
-fn lazily(
-    alloc: Global,
-    start: usize,
-    basic: Basic,
-    one: Worth,
-    two: Worth,
-) -> Result<Worth, CFault>
-    ensures { Gives worth_of result (meant.lazily start basic (worth_of one) (worth_of two)) }
+fn lazily(alloc: Global, left: usize, basic: Basic, one: Worth, two: Worth) -> Result<Worth, CFault>
+    ensures { Gives worth_of result (meant.lazily left basic (worth_of one) (worth_of two)) }
 {
-    let one = truth(alloc, start, one)?;
-    let two = truth(alloc, start, two)?;
-    applied(alloc, start, basic, one, two)
+    let one = truth(alloc, left, one)?;
+    let two = truth(alloc, left, two)?;
+    applied(alloc, left, basic, one, two)
 }
 
 /// One of two values by a test, of which C leaves out one. `other` and `again` are the same.
 fn chosen(
     alloc: Global,
-    start: usize,
+    left: usize,
     test: Worth,
     one: Worth,
     other: Worth,
     again: Worth,
 ) -> Result<Worth, CFault>
-    ensures { Gives worth_of result (meant.chosen start (worth_of test) (worth_of one) (worth_of other) (worth_of again)) }
+    ensures { Gives worth_of result (meant.chosen left (worth_of test) (worth_of one) (worth_of other) (worth_of again)) }
 {
     let whole = one.whole && other.whole;
-    let test = truth(alloc, start, test)?;
-    let more = applied(alloc, start, Basic::Minus, one, other)?;
-    let more = applied(alloc, start, Basic::Times, test, more)?;
-    let sum = applied(alloc, start, Basic::Plus, again, more)?;
+    let test = truth(alloc, left, test)?;
+    let more = applied(alloc, left, Basic::Minus, one, other)?;
+    let more = applied(alloc, left, Basic::Times, test, more)?;
+    let sum = applied(alloc, left, Basic::Plus, again, more)?;
     Ok(Worth {
         value: sum.value,
         kind: sum.kind,
@@ -335,12 +329,12 @@ fn chosen(
 }
 
 /// A number that is known.
-fn known(start: usize, number: Option<(u64, IntegerType)>, why: Reason) -> Result<Worth, CFault>
-    ensures { Gives worth_of result (meant.known start number why) }
+fn known(left: usize, number: Option<(u64, IntegerType)>, why: Reason) -> Result<Worth, CFault>
+    ensures { Gives worth_of result (meant.known left number why) }
 {
     match number {
         Some((number, kind)) => Ok(whole(Value::from(number), kind)),
-        None => Err(CFault::Outside(start, why)),
+        None => Err(CFault::Outside(left, why)),
     }
 }
 
@@ -355,19 +349,19 @@ fn power_of(by: Option<(u64, IntegerType)>) -> Option<u64>
 /// A value shifted to the left by a number that is known, or a number that is known.
 fn shifted(
     alloc: Global,
-    start: usize,
+    left: usize,
     one: Worth,
     by: Option<(u64, IntegerType)>,
     all: Option<(u64, IntegerType)>,
 ) -> Result<Worth, CFault>
-    ensures { Gives worth_of result (meant.shifted start (worth_of one) by all) }
+    ensures { Gives worth_of result (meant.shifted left (worth_of one) by all) }
 {
     if !is_word(one.kind) {
-        return known(start, all, Reason::Shift);
+        return known(left, all, Reason::Shift);
     }
     match power_of(by) {
-        Some(number) => applied(alloc, start, Basic::Times, one, word(Value::from(number))),
-        None => Err(CFault::Outside(start, Reason::Shift)),
+        Some(number) => applied(alloc, left, Basic::Times, one, word(Value::from(number))),
+        None => Err(CFault::Outside(left, Reason::Shift)),
     }
 }
 
@@ -387,18 +381,18 @@ fn is_power(number: u64) -> bool
 /// A value `%` a power of two, or a number that is known.
 fn rest(
     alloc: Global,
-    start: usize,
+    left: usize,
     one: Worth,
     by: Option<(u64, IntegerType)>,
     all: Option<(u64, IntegerType)>,
 ) -> Result<Worth, CFault>
-    ensures { Gives worth_of result (meant.rest start (worth_of one) by all) }
+    ensures { Gives worth_of result (meant.rest left (worth_of one) by all) }
 {
     let Some((number, kind)) = by else {
-        return Err(CFault::Outside(start, Reason::Rest));
+        return Err(CFault::Outside(left, Reason::Rest));
     };
     if !is_power(number) || !has_rest(&one, kind) {
-        return known(start, all, Reason::Rest);
+        return known(left, all, Reason::Rest);
     }
     let joined = joined(one.kind, kind);
     let value = form2(alloc, "&", one.value, Value::from(number - 1))?;
@@ -406,27 +400,27 @@ fn rest(
 }
 
 /// A choice by a test, where what C leaves out may not be computed.
-pub(crate) fn left_out(start: usize, test: Result<Worth, CFault>) -> Result<Worth, CFault>
+pub(crate) fn left_out(left: usize, test: Result<Worth, CFault>) -> Result<Worth, CFault>
     ensures { (t r s : Valued) → Gives worth_of test t
-        → Gives worth_of result (meant.choice_of start t r s false) }
+        → Gives worth_of result (meant.choice_of left t r s false) }
 {
     test?;
-    Err(CFault::Outside(start, Reason::LeftOut))
+    Err(CFault::Outside(left, Reason::LeftOut))
 }
 
 /// A choice by a test, where both may be computed. `other` and `again` are the same.
 pub(crate) fn choice(
     alloc: Global,
-    start: usize,
+    left: usize,
     test: Result<Worth, CFault>,
     one: Result<Worth, CFault>,
     other: Result<Worth, CFault>,
     again: Result<Worth, CFault>,
 ) -> Result<Worth, CFault>
     ensures { (t r s : Valued) → Gives worth_of test t → Gives worth_of one r → Gives worth_of other s
-        → Gives worth_of again s → Gives worth_of result (meant.choice_of start t r s true) }
+        → Gives worth_of again s → Gives worth_of result (meant.choice_of left t r s true) }
 {
-    chosen(alloc, start, test?, one?, other?, again?)
+    chosen(alloc, left, test?, one?, other?, again?)
 }
 
 /// Whether a value is the same number as a `uint64_t`.
@@ -437,34 +431,34 @@ pub(crate) fn is_counted(worth: &Worth) -> bool
 }
 
 /// `min` or `max` of two numbers of type `uint64_t`.
-fn extreme(alloc: Global, start: usize, call: Call, one: Worth, two: Worth) -> Result<Worth, CFault>
-    ensures { Gives worth_of result (meant.extreme start call (worth_of one) (worth_of two)) }
+fn extreme(alloc: Global, left: usize, call: Call, one: Worth, two: Worth) -> Result<Worth, CFault>
+    ensures { Gives worth_of result (meant.extreme left call (worth_of one) (worth_of two)) }
 {
     if is_counted(&one) && is_counted(&two) {
         Ok(word(form2(alloc, call_word(call), one.value, two.value)?))
     } else {
-        Err(CFault::Outside(start, Reason::Signed))
+        Err(CFault::Outside(left, Reason::Signed))
     }
 }
 
 /// What a function says of two values.
 pub(crate) fn called(
     alloc: Global,
-    start: usize,
+    left: usize,
     call: Call,
     one: Result<Worth, CFault>,
     two: Result<Worth, CFault>,
 ) -> Result<Worth, CFault>
     ensures { (r s : Valued) → Gives worth_of one r → Gives worth_of two s
-        → Gives worth_of result (meant.called start call r s) }
+        → Gives worth_of result (meant.called left call r s) }
 {
-    extreme(alloc, start, call, one?, two?)
+    extreme(alloc, left, call, one?, two?)
 }
 
 /// Two values by a way. The second may be a constant, or both; it may be left out if it is settled.
 pub(crate) fn by_way(
     alloc: Global,
-    start: usize,
+    left: usize,
     way: Way,
     one: Result<Worth, CFault>,
     two: Result<Worth, CFault>,
@@ -473,19 +467,19 @@ pub(crate) fn by_way(
     settled: bool,
 ) -> Result<Worth, CFault>
     ensures { (r s : Valued) → Gives worth_of one r → Gives worth_of two s
-        → Gives worth_of result (meant.by_way start way r s by all settled) }
+        → Gives worth_of result (meant.by_way left way r s by all settled) }
 {
     match way {
-        Way::Known => known(start, all, Reason::Quotient),
-        Way::Rest => rest(alloc, start, one?, by, all),
-        Way::Shift => shifted(alloc, start, one?, by, all),
+        Way::Known => known(left, all, Reason::Quotient),
+        Way::Rest => rest(alloc, left, one?, by, all),
+        Way::Shift => shifted(alloc, left, one?, by, all),
         Way::Lazy(basic) => {
             let one = one?;
             if !settled {
-                return Err(CFault::Outside(start, Reason::LeftOut));
+                return Err(CFault::Outside(left, Reason::LeftOut));
             }
-            lazily(alloc, start, basic, one, two?)
+            lazily(alloc, left, basic, one, two?)
         }
-        Way::Plain(manner, basic) => meant(alloc, start, manner, basic, one?, two?),
+        Way::Plain(manner, basic) => meant(alloc, left, manner, basic, one?, two?),
     }
 }

@@ -8,7 +8,7 @@ ghost use Rattle.ot_cmeaning.specs.Stores as stores;
 
 use crate::arithmetic::{Basic, Worth, agrees, disagrees, is_counted, result_kind, result_whole};
 use crate::values::value;
-use ot_cread::{Expr, Operation};
+use ot_cread::{Expr, Operation, left_of};
 use ot_cscope::kind::{holds, is_signed, joined, keeps};
 use ot_cscope::{CFault, Reason, Scope, constant};
 use ot_words::IntegerType;
@@ -29,60 +29,59 @@ fn fits(kind: IntegerType, known: Option<(u64, IntegerType)>) -> bool
 pub fn assigned(
     alloc: Global,
     scope: &Scope<'_>,
-    start: usize,
     kind: IntegerType,
     expr: &Expr,
 ) -> Result<Value, CFault>
-    ensures { Gives (λ v. view v) result (stores.assigned scope.now start kind (expr_of expr.now)) }
+    ensures { Gives (λ v. view v) result (stores.assigned scope.now kind (expr_of expr.now)) }
 {
-    let worth = value(alloc, scope, start, expr)?;
+    let worth = value(alloc, scope, expr)?;
     if keeps(kind, worth.kind, worth.whole) || fits(kind, constant(scope, expr)) {
         Ok(worth.value)
     } else {
-        Err(CFault::Outside(start, Reason::Conversion))
+        Err(CFault::Outside(left_of(expr), Reason::Conversion))
     }
 }
 
 /// Whether what a sign makes of a type goes into a cell.
 fn kept_in(
-    start: usize,
+    left: usize,
     basic: Basic,
     target: IntegerType,
     kind: IntegerType,
     whole: bool,
 ) -> Result<(), CFault>
-    ensures { Gives (λ x. x) result (stores.kept_in start basic target kind whole) }
+    ensures { Gives (λ x. x) result (stores.kept_in left basic target kind whole) }
 {
     if !agrees(basic, kind, whole) {
-        return Err(CFault::Outside(start, disagrees(basic)));
+        return Err(CFault::Outside(left, disagrees(basic)));
     }
     let result = result_kind(basic, kind);
     if keeps(target, result, result_whole(basic, kind, whole)) {
         Ok(())
     } else {
-        Err(CFault::Outside(start, Reason::Conversion))
+        Err(CFault::Outside(left, Reason::Conversion))
     }
 }
 
 /// Whether a cell of a type and a value with a sign between go into the cell.
-fn kept(start: usize, basic: Basic, kind: IntegerType, worth: &Worth) -> Result<(), CFault>
-    ensures { Gives (λ x. x) result (stores.kept start basic kind (worth_of worth.now)) }
+fn kept(left: usize, basic: Basic, kind: IntegerType, worth: &Worth) -> Result<(), CFault>
+    ensures { Gives (λ x. x) result (stores.kept left basic kind (worth_of worth.now)) }
 {
     let whole = !is_signed(kind) && worth.whole;
-    kept_in(start, basic, kind, joined(kind, worth.kind), whole)
+    kept_in(left, basic, kind, joined(kind, worth.kind), whole)
 }
 
 /// Whether the `min` or `max` of a cell of a type and a value goes into the cell.
-fn kept_extreme(start: usize, kind: IntegerType, worth: &Worth) -> Result<(), CFault>
-    ensures { Gives (λ x. x) result (stores.kept_extreme start kind (worth_of worth.now)) }
+fn kept_extreme(left: usize, kind: IntegerType, worth: &Worth) -> Result<(), CFault>
+    ensures { Gives (λ x. x) result (stores.kept_extreme left kind (worth_of worth.now)) }
 {
     if is_signed(kind) || !is_counted(worth) {
-        return Err(CFault::Outside(start, Reason::Signed));
+        return Err(CFault::Outside(left, Reason::Signed));
     }
     if keeps(kind, IntegerType::UnsignedLong, true) {
         Ok(())
     } else {
-        Err(CFault::Outside(start, Reason::Conversion))
+        Err(CFault::Outside(left, Reason::Conversion))
     }
 }
 
@@ -95,21 +94,21 @@ fn sum(minus: bool) -> Basic
 
 /// Whether a cell of a type and a value, by an operation, go into the cell.
 fn folded(
-    start: usize,
+    left: usize,
     kind: IntegerType,
     operation: Operation,
     minus: bool,
     worth: &Worth,
 ) -> Result<(), CFault>
-    ensures { Gives (λ x. x) result (stores.folded start kind operation minus (worth_of worth.now)) }
+    ensures { Gives (λ x. x) result (stores.folded left kind operation minus (worth_of worth.now)) }
 {
     match operation {
-        Operation::Plus => kept(start, sum(minus), kind, worth),
-        Operation::Times => kept(start, Basic::Times, kind, worth),
-        Operation::And => kept(start, Basic::And, kind, worth),
-        Operation::Or => kept(start, Basic::Or, kind, worth),
-        Operation::Xor => kept(start, Basic::Xor, kind, worth),
-        Operation::Min | Operation::Max => kept_extreme(start, kind, worth),
+        Operation::Plus => kept(left, sum(minus), kind, worth),
+        Operation::Times => kept(left, Basic::Times, kind, worth),
+        Operation::And => kept(left, Basic::And, kind, worth),
+        Operation::Or => kept(left, Basic::Or, kind, worth),
+        Operation::Xor => kept(left, Basic::Xor, kind, worth),
+        Operation::Min | Operation::Max => kept_extreme(left, kind, worth),
     }
 }
 
@@ -118,15 +117,14 @@ fn folded(
 pub fn changed(
     alloc: Global,
     scope: &Scope<'_>,
-    start: usize,
     kind: IntegerType,
     operation: Operation,
     minus: bool,
     expr: &Expr,
 ) -> Result<Value, CFault>
-    ensures { Gives (λ v. view v) result (stores.changed scope.now start kind operation minus (expr_of expr.now)) }
+    ensures { Gives (λ v. view v) result (stores.changed scope.now kind operation minus (expr_of expr.now)) }
 {
-    let worth = value(alloc, scope, start, expr)?;
-    folded(start, kind, operation, minus, &worth)?;
+    let worth = value(alloc, scope, expr)?;
+    folded(left_of(expr), kind, operation, minus, &worth)?;
     Ok(worth.value)
 }

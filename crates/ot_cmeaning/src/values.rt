@@ -20,14 +20,14 @@ use std::alloc::Global;
 fn array_name(
     alloc: Global,
     scope: &Scope<'_>,
-    start: usize,
+    left: usize,
     array: Name,
 ) -> Result<(Value, IntegerType), CFault>
-    ensures { Gives (λ x. (view x.0, x.1)) result (values.array_name scope.now start array) }
+    ensures { Gives (λ x. (view x.0, x.1)) result (values.array_name scope.now left array) }
 {
     match scope.sense(array) {
         Sense::Cells(kind, Some(_)) => Ok((scope.named(alloc, array)?, kind)),
-        other => Err(CFault::Outside(start, no_array(other))),
+        other => Err(CFault::Outside(left, no_array(other))),
     }
 }
 
@@ -48,19 +48,19 @@ fn no_array(sense: Sense) -> Reason
 fn cell(
     alloc: Global,
     scope: &Scope<'_>,
-    start: usize,
+    left: usize,
     array: Name,
     index: &Expr,
 ) -> Result<Worth, CFault>
-    ensures { Gives worth_of result (values.cell scope.now start array (expr_of index.now)) }
+    ensures { Gives worth_of result (values.cell scope.now left array (expr_of index.now)) }
 {
-    let (name, kind) = array_name(alloc, scope, start, array)?;
-    let (index, _) = size(alloc, scope, start, index)?;
+    let (name, kind) = array_name(alloc, scope, left, array)?;
+    let (index, _) = size(alloc, scope, index)?;
     Ok(held(form2(alloc, "c", name, index)?, kind))
 }
 
-fn named(alloc: Global, scope: &Scope<'_>, start: usize, name: Name) -> Result<Worth, CFault>
-    ensures { Gives worth_of result (values.named scope.now start name) }
+fn named(alloc: Global, scope: &Scope<'_>, left: usize, name: Name) -> Result<Worth, CFault>
+    ensures { Gives worth_of result (values.named scope.now left name) }
 {
     match scope.sense(name) {
         Sense::Constant(number, kind) => Ok(whole(Value::from(number), kind)),
@@ -69,7 +69,7 @@ fn named(alloc: Global, scope: &Scope<'_>, start: usize, name: Name) -> Result<W
             let name = scope.named(alloc, name)?;
             Ok(held(form2(alloc, "c", name, Value::from(0u64))?, kind))
         }
-        other => Err(CFault::Outside(start, no_number(other))),
+        other => Err(CFault::Outside(left, no_number(other))),
     }
 }
 
@@ -86,11 +86,11 @@ fn is_settled(scope: &Scope<'_>, expr: &Expr) -> bool
     ensures { result ≡ values.is_settled scope.now (expr_of expr.now) }
 {
     match expr {
-        Expr::Number(_, _) => true,
-        Expr::Variable(name) => is_no_cell(scope.sense(*name)),
-        Expr::Cell(_, _) | Expr::Choice(_, _, _) => false,
-        Expr::Cast(one) | Expr::Unary(_, one) => is_settled(scope, one),
-        Expr::Call(_, one, two) | Expr::Op(_, one, two) => {
+        Expr::Number(_, _, _) => true,
+        Expr::Variable(_, name) => is_no_cell(scope.sense(*name)),
+        Expr::Cell(_, _, _) | Expr::Choice(_, _, _, _) => false,
+        Expr::Cast(one) | Expr::Unary(_, _, one) => is_settled(scope, one),
+        Expr::Call(_, _, one, two) | Expr::Op(_, _, one, two) => {
             is_settled(scope, one) && is_settled(scope, two)
         }
     }
@@ -99,16 +99,16 @@ fn is_settled(scope: &Scope<'_>, expr: &Expr) -> bool
 /// `a[first + value % count]`
 fn picked(
     alloc: Global,
-    start: usize,
+    left: usize,
     array: (Value, IntegerType),
     first: Value,
     count: (Value, IntegerType),
     chosen: Worth,
 ) -> Result<Worth, CFault>
-    ensures { Gives worth_of result (values.picked start (view array.0, array.1) (view first) (view count.0, count.1) (worth_of chosen)) }
+    ensures { Gives worth_of result (values.picked left (view array.0, array.1) (view first) (view count.0, count.1) (worth_of chosen)) }
 {
     if !has_rest(&chosen, count.1) {
-        return Err(CFault::Outside(start, Reason::Signed));
+        return Err(CFault::Outside(left, Reason::Signed));
     }
     let section = three(alloc, array.0, first, count.0)?;
     Ok(held(form2(alloc, "pick", section, chosen.value)?, array.1))
@@ -118,50 +118,49 @@ fn picked(
 fn summed(
     alloc: Global,
     scope: &Scope<'_>,
-    start: usize,
     array: (Value, IntegerType),
     first: Value,
     more: &Expr,
 ) -> Result<Worth, CFault>
-    ensures { Gives worth_of result (values.summed scope.now start (view array.0, array.1) (view first) (expr_of more.now)) }
+    ensures { Gives worth_of result (values.summed scope.now (view array.0, array.1) (view first) (expr_of more.now)) }
 {
-    let (more, _) = size(alloc, scope, start, more)?;
+    let (more, _) = size(alloc, scope, more)?;
     let index = form2(alloc, "+", first, more)?;
     Ok(held(form2(alloc, "c", array.0, index)?, array.1))
 }
 
-/// `a[index]`
+/// `a[index]`, where the name of the array stands where so many words are left.
 #[cycle(value)]
 #[tactic(auto, unfolding(crate::specs::Values::indexed, crate::specs::Values::behind))]
 fn indexed(
     alloc: Global,
     scope: &Scope<'_>,
-    start: usize,
+    left: usize,
     array: Name,
     index: &Expr,
 ) -> Result<Worth, CFault>
-    ensures { Gives worth_of result (values.indexed scope.now start array (expr_of index.now)) }
+    ensures { Gives worth_of result (values.indexed scope.now left array (expr_of index.now)) }
 {
     match index {
-        Expr::Op(Sign::Rest, chosen, count) => {
-            let array = array_name(alloc, scope, start, array)?;
-            let count = size(alloc, scope, start, count)?;
-            let chosen = value(alloc, scope, start, chosen)?;
-            picked(alloc, start, array, Value::from(0u64), count, chosen)
+        Expr::Op(sign, Sign::Rest, chosen, count) => {
+            let array = array_name(alloc, scope, left, array)?;
+            let count = size(alloc, scope, count)?;
+            let chosen = value(alloc, scope, chosen)?;
+            picked(alloc, *sign, array, Value::from(0u64), count, chosen)
         }
-        Expr::Op(Sign::Plus, first, more) => {
-            let array = array_name(alloc, scope, start, array)?;
-            let (first, _) = size(alloc, scope, start, first)?;
+        Expr::Op(_, Sign::Plus, first, more) => {
+            let array = array_name(alloc, scope, left, array)?;
+            let (first, _) = size(alloc, scope, first)?;
             match &**more {
-                Expr::Op(Sign::Rest, chosen, count) => {
-                    let count = size(alloc, scope, start, count)?;
-                    let chosen = value(alloc, scope, start, chosen)?;
-                    picked(alloc, start, array, first, count, chosen)
+                Expr::Op(sign, Sign::Rest, chosen, count) => {
+                    let count = size(alloc, scope, count)?;
+                    let chosen = value(alloc, scope, chosen)?;
+                    picked(alloc, *sign, array, first, count, chosen)
                 }
-                _ => summed(alloc, scope, start, array, first, more),
+                _ => summed(alloc, scope, array, first, more),
             }
         }
-        _ => cell(alloc, scope, start, array, index),
+        _ => cell(alloc, scope, left, array, index),
     }
 }
 
@@ -175,40 +174,40 @@ fn are_settled(scope: &Scope<'_>, one: &Expr, other: &Expr) -> bool
 /// A value.
 #[cycle(value)]
 #[tactic(auto, unfolding(crate::specs::Values::value))]
-pub fn value(alloc: Global, scope: &Scope<'_>, start: usize, expr: &Expr) -> Result<Worth, CFault>
-    ensures { Gives worth_of result (values.value scope.now start (expr_of expr.now)) }
+pub fn value(alloc: Global, scope: &Scope<'_>, expr: &Expr) -> Result<Worth, CFault>
+    ensures { Gives worth_of result (values.value scope.now (expr_of expr.now)) }
 {
     match expr {
-        Expr::Number(number, kind) => Ok(whole(Value::from(*number), *kind)),
-        Expr::Variable(name) => named(alloc, scope, start, *name),
-        Expr::Cell(array, index) => {
-            untouched(scope, start, *array, index)?;
-            indexed(alloc, scope, start, *array, index)
+        Expr::Number(_, number, kind) => Ok(whole(Value::from(*number), *kind)),
+        Expr::Variable(left, name) => named(alloc, scope, *left, *name),
+        Expr::Cell(left, array, index) => {
+            untouched(scope, *left, *array, index)?;
+            indexed(alloc, scope, *left, *array, index)
         }
-        Expr::Cast(inner) => Ok(word(value(alloc, scope, start, inner)?.value)),
-        Expr::Unary(sign, inner) => signed(alloc, start, *sign, value(alloc, scope, start, inner)?),
-        Expr::Choice(test, one, other) => {
-            let test = value(alloc, scope, start, test);
+        Expr::Cast(inner) => Ok(word(value(alloc, scope, inner)?.value)),
+        Expr::Unary(left, sign, inner) => signed(alloc, *left, *sign, value(alloc, scope, inner)?),
+        Expr::Choice(left, test, one, other) => {
+            let test = value(alloc, scope, test);
             if !are_settled(scope, one, other) {
-                return left_out(start, test);
+                return left_out(*left, test);
             }
-            let one = value(alloc, scope, start, one);
-            let first = value(alloc, scope, start, other);
-            let again = value(alloc, scope, start, other);
-            choice(alloc, start, test, one, first, again)
+            let one = value(alloc, scope, one);
+            let first = value(alloc, scope, other);
+            let again = value(alloc, scope, other);
+            choice(alloc, *left, test, one, first, again)
         }
-        Expr::Call(call, one, two) => {
-            let one = value(alloc, scope, start, one);
-            let two = value(alloc, scope, start, two);
-            called(alloc, start, *call, one, two)
+        Expr::Call(left, call, one, two) => {
+            let one = value(alloc, scope, one);
+            let two = value(alloc, scope, two);
+            called(alloc, *left, *call, one, two)
         }
-        Expr::Op(sign, one, two) => {
+        Expr::Op(left, sign, one, two) => {
             let by = constant(scope, two);
             let all = both(*sign, constant(scope, one), by);
             let settled = is_settled(scope, two);
-            let one = value(alloc, scope, start, one);
-            let two = value(alloc, scope, start, two);
-            by_way(alloc, start, way_of(*sign), one, two, by, all, settled)
+            let one = value(alloc, scope, one);
+            let two = value(alloc, scope, two);
+            by_way(alloc, *left, way_of(*sign), one, two, by, all, settled)
         }
     }
 }

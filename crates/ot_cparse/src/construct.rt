@@ -63,9 +63,9 @@ impl Parser {
 
     /// The token at which the line ends.
     fn end_of_line(&self) -> usize {
-        for (more, token) in self.tokens.iter().enumerate().skip(self.at) {
-            if token.kind == Kind::PragmaEnd {
-                return more;
+        for place in self.at..self.tokens.len() {
+            if self.kind_at(place) == Kind::PragmaEnd {
+                return place;
             }
         }
         self.tokens.len()
@@ -96,8 +96,9 @@ impl Parser {
         Ok(found)
     }
 
-    /// `threadprivate(..)`: each thread has such a variable of its own.
+    /// `threadprivate(..)`: each thread has such a variable of its own. So it stands here from now on, as it is told here.
     pub(crate) fn threadprivate(&mut self) -> Result<(), ParseError> {
+        let at = self.here();
         self.step();
         self.want(Mark::Open)?;
         for _ in 0..self.tokens.len() {
@@ -108,6 +109,7 @@ impl Parser {
             if let Some(Meaning::Variable(variable)) = self.scope.meaning(name) {
                 if let Some(it) = self.unit.variables.get_mut(variable as usize) {
                     it.storage = Storage::Threadprivate;
+                    it.at = at;
                 }
             }
             let _ = self.take(Mark::Comma);

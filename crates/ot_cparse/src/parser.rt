@@ -165,6 +165,13 @@ impl Parser {
         self.ahead(0)
     }
 
+    pub(crate) fn kind_at(&self, place: usize) -> Kind {
+        match self.tokens.get(place) {
+            Some(token) => token.kind,
+            None => Kind::End,
+        }
+    }
+
     pub(crate) fn step(&mut self) {
         self.at = self.at.saturating_add(1);
     }
@@ -235,18 +242,18 @@ impl Parser {
     /// The place behind the mark that closes what is open: brackets in it are closed before.
     pub(crate) fn closing(&self, from: usize) -> usize {
         let mut depth: u32 = 0;
-        for (more, token) in self.tokens.iter().enumerate().skip(from) {
-            match token.kind {
+        for place in from..self.tokens.len() {
+            match self.kind_at(place) {
                 Kind::Mark(Mark::Open | Mark::OpenIndex | Mark::OpenBlock) => {
                     depth = depth.saturating_add(1);
                 }
                 Kind::Mark(Mark::Close | Mark::CloseIndex | Mark::CloseBlock) => {
                     if depth == 0 {
-                        return more.saturating_add(1);
+                        return place.saturating_add(1);
                     }
                     depth -= 1;
                 }
-                Kind::PragmaEnd | Kind::End => return more,
+                Kind::PragmaEnd | Kind::End => return place,
                 _ => {}
             }
         }

@@ -11,18 +11,25 @@ pub(crate) enum Meaning {
     Enumerator(u32),
 }
 
+/// The type of a struct, a union or an enumeration, and how many blocks are open where its tag was declared.
+#[derive(Clone, Copy)]
+struct Tagged {
+    kind: u32,
+    blocks: usize,
+}
+
 /// What a name meant before.
 #[derive(Clone, Copy)]
 enum Before {
     Name(u32, Option<Meaning>),
-    Tag(u32, Option<u32>),
+    Tag(u32, Option<Tagged>),
 }
 
 #[derive(Drop)]
 pub(crate) struct Scope {
     names: BTreeMap<u32, Meaning>,
     /// The types of structs, unions and enumerations by their tags.
-    tags: BTreeMap<u32, u32>,
+    tags: BTreeMap<u32, Tagged>,
     /// What has to be put back when blocks end, and for each block how much of it was there before.
     before: Vec<Before>,
     blocks: Vec<usize>,
@@ -43,7 +50,10 @@ impl Scope {
     }
 
     pub(crate) fn tagged(&self, tag: u32) -> Option<u32> {
-        self.tags.get(&tag).copied()
+        match self.tags.get(&tag) {
+            Some(tagged) => Some(tagged.kind),
+            None => None,
+        }
     }
 
     /// A name means this up to the end of the block.
@@ -55,20 +65,21 @@ impl Scope {
 
     /// A tag is this type's up to the end of the block.
     pub(crate) fn tag(&mut self, tag: u32, kind: u32) -> Result<(), AllocError> {
-        let old = self.tags.insert(tag, kind)?;
+        let tagged = Tagged {
+            kind,
+            blocks: self.blocks.len(),
+        };
+        let old = self.tags.insert(tag, tagged)?;
         self.before.push(Before::Tag(tag, old))?;
         Ok(())
     }
 
     /// Whether a tag was declared in the block that is open.
     pub(crate) fn is_own_tag(&self, tag: u32) -> bool {
-        let start = match self.blocks.last() {
-            Some(start) => *start,
-            None => 0,
-        };
-        self.before.iter().skip(start).any(
-            |before| matches!(before, Before::Tag(other, _) if *other == tag),
-        )
+        match self.tags.get(&tag) {
+            Some(tagged) => tagged.blocks == self.blocks.len(),
+            None => false,
+        }
     }
 
     pub(crate) fn open(&mut self) -> Result<(), AllocError> {

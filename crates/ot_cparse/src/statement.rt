@@ -56,8 +56,32 @@ impl Parser {
                 return Err(self.fault(Why::Alone));
             }
         }
+        let at = self.here();
         let statement = self.statement(depth - 1)?;
+        if matches!(statement, Stmt::Label(_, _) | Stmt::Case(_, _)) {
+            return self.labelled(at, statement, depth - 1);
+        }
         Ok(self.boxed_statement(statement)?)
+    }
+
+    /// Labels with the statement behind them, as a block.
+    #[cycle(statement)]
+    fn labelled(&mut self, at: u32, label: Stmt, depth: u32) -> Result<Box<Stmt>, ParseError> {
+        if depth == 0 {
+            return Err(self.fault(Why::Nesting));
+        }
+        let mut made = Vec::new(self.alloc);
+        made.push(label)?;
+        for _ in 0..self.tokens.len() {
+            let statement = self.statement(depth - 1)?;
+            let is_label = matches!(statement, Stmt::Label(_, _) | Stmt::Case(_, _));
+            made.push(statement)?;
+            if !is_label {
+                break;
+            }
+        }
+        let end = self.here();
+        Ok(self.boxed_statement(Stmt::Block(at, made, end))?)
     }
 
     #[cycle(statement)]

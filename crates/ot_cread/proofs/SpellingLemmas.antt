@@ -1,5 +1,5 @@
 -- What is spelled of a value reads as the value.
-use Rattle.std.proofs.Common.{◌≡◌, ℕ, zero, suc, ◌+◌, ◌-◌, ◌≤◌, ◌<◌, List, [], ◌∷◌, ◌++◌, Bool, true, false, Option, Some, None, Result, Ok, Err, refl, sym, ap, ◌∙◌, append_assoc, arith}
+use Rattle.std.proofs.Common.{◌≡◌, ℕ, zero, suc, ◌+◌, ◌-◌, ◌≤◌, ◌<◌, List, [], ◌∷◌, ◌++◌, length, Bool, true, false, Option, Some, None, Result, Ok, Err, refl, sym, ap, ◌∙◌, append_assoc, arith}
 use Rattle.std.specs.Prelude.{max, nat_lt, nat_le, is_some, if◌then◌else◌}
 use Rattle.std.proofs.Math.Nat.{le-max_left, le-max_right}
 use Rattle.std.proofs.lemmas.Bool.Decides.{nat_tests}
@@ -22,7 +22,7 @@ use Rattle.ot_cread.specs.declared.tree.Call.TheVariants as c
 use Rattle.ot_cread.specs.Signs.{binds, sign_of, begin_of, signed, any_sign, if_tight, front_sign}
 use Rattle.ot_cread.specs.Tree.{E, Literal, Variable, CellAt, Unsigned, Signed, Called, Apply, Choose}
 use Rattle.ot_cread.specs.Reading.{◌>>=◌, Read, open_at, close_at, close_index_at, comma_at, colon_at, call_of, is_unsigned, cast_end, indexed_at, named_at, called_at, bracket_at, prefixed_at, operand_at, go_on, too_long, more_at, question_at, chosen, choice_at, value_at}
-use Rattle.ot_cread.specs.Spelling.{sorts, sort_of, sign_mark, unary_mark, call_name, bracketed, wanted, spelled, row, nested, depth, IsName, IsPlain, goes_on}
+use Rattle.ot_cread.specs.Spelling.{sorts, sort_of, sign_mark, unary_mark, call_name, bracketed, wanted, spelled, behind_side, placed, row, nested, depth, IsName, IsPlain, goes_on}
 
 -- ---- numbers
 
@@ -176,10 +176,10 @@ begun d t n e ws rest is = ap (λ x. x >>= λ y. more_at (value_at d) t n y.0 y.
 
 -- a sign, and the value behind it
 sign_step : (inner : ℕ → List Word → Read) (sign : Sign) (t n : ℕ) (a b : E) (ws rest : List Word) → n ≤ binds sign → inner (binds sign + 1) ws ≡ Ok (b, rest)
-    → more_at inner (suc t) n a (w.Mark (sign_mark sign) ∷ ws) ≡ more_at inner t n (Apply sign a b) rest
+    → more_at inner (suc t) n a (w.Mark (sign_mark sign) ∷ ws) ≡ more_at inner t n (Apply (length (w.Mark (sign_mark sign) ∷ ws)) sign a b) rest
 unfolding more_at
 sign_step inner sign t n a b ws rest fits read =
-    ap (go_on inner (more_at inner t n) a (w.Mark (sign_mark sign) ∷ ws)) (sign_found sign ws n fits) ∙ ap (λ x. x >>= λ y. more_at inner t n (Apply sign a y.0) y.1) read
+    ap (go_on inner (more_at inner t n) a (w.Mark (sign_mark sign) ∷ ws)) (sign_found sign ws n fits) ∙ ap (λ x. x >>= λ y. more_at inner t n (Apply (length (w.Mark (sign_mark sign) ∷ ws)) sign a y.0) y.1) read
 
 -- ---- operands
 
@@ -199,25 +199,25 @@ begin_is u.Minus = refl
 begin_is u.Invert = refl
 begin_is u.Not = refl
 
-signed_back : (d : ℕ) (sign : Unary) (e : E) (ws rest : List Word) → value_at d 12 ws ≡ Ok (e, rest) → operand_at (value_at d) (w.Mark (unary_mark sign) ∷ ws) ≡ Ok (Signed sign e, rest)
+signed_back : (d : ℕ) (sign : Unary) (e : E) (ws rest : List Word) → value_at d 12 ws ≡ Ok (e, rest) → operand_at (value_at d) (w.Mark (unary_mark sign) ∷ ws) ≡ Ok (Signed (length ws + 1) sign e, rest)
 unfolding operand_at prefixed_at
 signed_back d sign e ws rest read = rw (begin_is sign, read) refl
 
-number_back : (d n : ℕ) (t : IntegerType) (rest : List Word) → operand_at (value_at d) (w.Number n t ∷ rest) ≡ Ok (Literal n t, rest)
+number_back : (d n : ℕ) (t : IntegerType) (rest : List Word) → operand_at (value_at d) (w.Number n t ∷ rest) ≡ Ok (Literal (length (w.Number n t ∷ rest)) n t, rest)
 unfolding operand_at
 number_back d n t rest = refl
 
-named_alone : (inner : ℕ → List Word → Read) (x : Name) (ws : List Word) → indexes ws ≡ false → named_at inner x ws ≡ Ok (Variable x, ws)
+named_alone : (inner : ℕ → List Word → Read) (x : Name) (ws : List Word) → indexes ws ≡ false → named_at inner x ws ≡ Ok (Variable (length ws + 1) x, ws)
 unfolding named_at indexes
 named_alone inner x (w.Mark m.OpenIndex ∷ ws) is = absurd cc
 named_alone inner x _ is = refl
 
-variable_back : (d : ℕ) (x : Name) (rest : List Word) → call_of x ≡ None → indexes rest ≡ false → operand_at (value_at d) (w.Name x ∷ rest) ≡ Ok (Variable x, rest)
+variable_back : (d : ℕ) (x : Name) (rest : List Word) → call_of x ≡ None → indexes rest ≡ false → operand_at (value_at d) (w.Name x ∷ rest) ≡ Ok (Variable (length rest + 1) x, rest)
 unfolding operand_at
 variable_back d x rest is alone = rw is (named_alone (value_at d) x rest alone)
 
 cell_back : (d : ℕ) (a : Name) (i : E) (ws rest : List Word) → call_of a ≡ None → value_at d 1 (ws ++ (w.Mark m.CloseIndex ∷ rest)) ≡ Ok (i, w.Mark m.CloseIndex ∷ rest)
-    → operand_at (value_at d) (w.Name a ∷ w.Mark m.OpenIndex ∷ ((ws ++ (w.Mark m.CloseIndex ∷ [])) ++ rest)) ≡ Ok (CellAt a i, rest)
+    → operand_at (value_at d) (w.Name a ∷ w.Mark m.OpenIndex ∷ ((ws ++ (w.Mark m.CloseIndex ∷ [])) ++ rest)) ≡ Ok (CellAt (length (w.Mark m.OpenIndex ∷ (ws ++ (w.Mark m.CloseIndex ∷ rest))) + 1) a i, rest)
 unfolding operand_at named_at indexed_at close_index_at
 cell_back d a i ws rest is read = rw (is, append_assoc ws (w.Mark m.CloseIndex ∷ []) rest, read) refl
 
@@ -226,8 +226,8 @@ unfolding call_of
 call_is c.Min = refl
 call_is c.Max = refl
 
-call_back : (d : ℕ) (call : Call) (a b : E) (xs ys rest : List Word) → ((r : List Word) → value_at d 1 (xs ++ (w.Mark m.Comma ∷ r)) ≡ Ok (a, w.Mark m.Comma ∷ r)) → value_at d 1 (ys ++ (w.Mark m.Close ∷ rest)) ≡ Ok (b, w.Mark m.Close ∷ rest)
-    → operand_at (value_at d) (w.Name (call_name call) ∷ w.Mark m.Open ∷ ((xs ++ (w.Mark m.Comma ∷ (ys ++ (w.Mark m.Close ∷ [])))) ++ rest)) ≡ Ok (Called call a b, rest)
+call_back : (d : ℕ) (call : Call) (a : List Word → E) (b : E) (xs ys rest : List Word) → ((r : List Word) → value_at d 1 (xs ++ (w.Mark m.Comma ∷ r)) ≡ Ok (a (w.Mark m.Comma ∷ r), w.Mark m.Comma ∷ r)) → value_at d 1 (ys ++ (w.Mark m.Close ∷ rest)) ≡ Ok (b, w.Mark m.Close ∷ rest)
+    → operand_at (value_at d) (w.Name (call_name call) ∷ w.Mark m.Open ∷ ((xs ++ (w.Mark m.Comma ∷ (ys ++ (w.Mark m.Close ∷ [])))) ++ rest)) ≡ Ok (Called (length (w.Mark m.Open ∷ (xs ++ (w.Mark m.Comma ∷ (ys ++ (w.Mark m.Close ∷ rest))))) + 1) call (a (w.Mark m.Comma ∷ (ys ++ (w.Mark m.Close ∷ rest)))) b, rest)
 unfolding operand_at called_at open_at comma_at close_at
 call_back d call a b xs ys rest one two =
     rw (call_is call, append_assoc xs (w.Mark m.Comma ∷ (ys ++ (w.Mark m.Close ∷ []))) rest, one ((ys ++ (w.Mark m.Close ∷ [])) ++ rest), append_assoc ys (w.Mark m.Close ∷ []) rest, two) refl
@@ -252,49 +252,49 @@ pub record Back (e : E) : Type 0 where
   pub sort : 1 ≤ sort_of e
   pub short : row e ≤ 24
   pub uncast : (ws : List Word) → cast_end (spelled e ++ ws) ≡ None
-  pub front : 2 ≤ sort_of e → (d t n : ℕ) (rest : List Word) → depth e ≤ suc d → n ≤ sort_of e → Stops (sort_of e + 1) rest → row_at d (row e + t) n (spelled e ++ rest) ≡ more_at (value_at d) t n e rest
-  pub value : (d n : ℕ) (rest : List Word) → depth e ≤ d → n ≤ sort_of e → Stops n rest → value_at d n (spelled e ++ rest) ≡ Ok (e, rest)
+  pub front : 2 ≤ sort_of e → (d t n : ℕ) (rest : List Word) → depth e ≤ suc d → n ≤ sort_of e → Stops (sort_of e + 1) rest → row_at d (row e + t) n (spelled e ++ rest) ≡ more_at (value_at d) t n (placed e rest) rest
+  pub value : (d n : ℕ) (rest : List Word) → depth e ≤ d → n ≤ sort_of e → Stops n rest → value_at d n (spelled e ++ rest) ≡ Ok (placed e rest, rest)
 
 -- a side in brackets is an operand
-bracket_side : (e : E) (d : ℕ) (rest : List Word) → Back e → depth e + 1 ≤ suc d → operand_at (value_at d) (bracketed (spelled e) ++ rest) ≡ Ok (e, rest)
-bracket_side e d rest back deep = bracket_back d e (spelled e) rest (back.uncast (w.Mark m.Close ∷ rest)) (back.value d 1 (w.Mark m.Close ∷ rest) (omega (arith, deep)) back.sort (stop_close rest))
+bracket_side : (e : E) (d : ℕ) (rest : List Word) → Back e → depth e + 1 ≤ suc d → operand_at (value_at d) (bracketed (spelled e) ++ rest) ≡ Ok (placed e (w.Mark m.Close ∷ rest), rest)
+bracket_side e d rest back deep = bracket_back d (placed e (w.Mark m.Close ∷ rest)) (spelled e) rest (back.uncast (w.Mark m.Close ∷ rest)) (back.value d 1 (w.Mark m.Close ∷ rest) (omega (arith, deep)) back.sort (stop_close rest))
 
 -- a side at the front of a row
 row_side : (t : Bool) (e : E) (k d l n : ℕ) (rest : List Word) → nat_lt (sort_of e) k ≡ t → Back e → (if t then depth e + 1 else depth e) ≤ suc d → n ≤ k → 2 ≤ k → Stops (k + 1) rest
-    → row_at d ((if t then 0 else row e) + l) n ((if t then bracketed (spelled e) else spelled e) ++ rest) ≡ more_at (value_at d) l n e rest
+    → row_at d ((if t then 0 else row e) + l) n ((if t then bracketed (spelled e) else spelled e) ++ rest) ≡ more_at (value_at d) l n (placed e (if t then w.Mark m.Close ∷ rest else rest)) rest
 row_side true e k d l n rest is back deep fits two stops =
     let none : 0 + l ≡ l = omega arith in
-    ap (λ i. row_at d i n (bracketed (spelled e) ++ rest)) none ∙ begun d l n e (bracketed (spelled e) ++ rest) rest (bracket_side e d rest back deep)
+    ap (λ i. row_at d i n (bracketed (spelled e) ++ rest)) none ∙ begun d l n (placed e (w.Mark m.Close ∷ rest)) (bracketed (spelled e) ++ rest) rest (bracket_side e d rest back deep)
 row_side false e k d l n rest is back deep fits two stops =
     let sort = least (sort_of e) k is in
     back.front (omega (arith, sort, two)) d l n rest deep (omega (arith, sort, fits)) (looser (k + 1) (sort_of e + 1) rest (omega (arith, sort)) stops)
 
 -- a side alone
 value_side : (t : Bool) (e : E) (k d : ℕ) (rest : List Word) → nat_lt (sort_of e) k ≡ t → Back e → (if t then depth e + 1 else depth e) ≤ d → Stops k rest
-    → value_at d k ((if t then bracketed (spelled e) else spelled e) ++ rest) ≡ Ok (e, rest)
+    → value_at d k ((if t then bracketed (spelled e) else spelled e) ++ rest) ≡ Ok (placed e (if t then w.Mark m.Close ∷ rest else rest), rest)
 value_side true e k zero rest is back deep stops = absurd (omega (arith, deep))
 value_side true e k (suc d) rest is back deep stops =
-    whole d k e (bracketed (spelled e) ++ rest) rest (begun d 24 k e (bracketed (spelled e) ++ rest) rest (bracket_side e d rest back deep) ∙ stops_here (value_at d) 24 k e rest (stops.sign k (omega arith))) stops
+    whole d k (placed e (w.Mark m.Close ∷ rest)) (bracketed (spelled e) ++ rest) rest (begun d 24 k (placed e (w.Mark m.Close ∷ rest)) (bracketed (spelled e) ++ rest) rest (bracket_side e d rest back deep) ∙ stops_here (value_at d) 24 k (placed e (w.Mark m.Close ∷ rest)) rest (stops.sign k (omega arith))) stops
 value_side false e k d rest is back deep stops = back.value d k rest deep (least (sort_of e) k is) stops
 
 -- what is read at the front of a row is read alone
-by_row : (e : E) → 1 ≤ depth e → row e ≤ 24 → ((d t n : ℕ) (rest : List Word) → depth e ≤ suc d → n ≤ sort_of e → Stops (sort_of e + 1) rest → row_at d (row e + t) n (spelled e ++ rest) ≡ more_at (value_at d) t n e rest)
-    → (d n : ℕ) (rest : List Word) → depth e ≤ d → n ≤ sort_of e → Stops n rest → value_at d n (spelled e ++ rest) ≡ Ok (e, rest)
+by_row : (e : E) → 1 ≤ depth e → row e ≤ 24 → ((d t n : ℕ) (rest : List Word) → depth e ≤ suc d → n ≤ sort_of e → Stops (sort_of e + 1) rest → row_at d (row e + t) n (spelled e ++ rest) ≡ more_at (value_at d) t n (placed e rest) rest)
+    → (d n : ℕ) (rest : List Word) → depth e ≤ d → n ≤ sort_of e → Stops n rest → value_at d n (spelled e ++ rest) ≡ Ok (placed e rest, rest)
 by_row e tall short read zero n rest deep fits stops = absurd (omega (arith, tall, deep))
 by_row e tall short read (suc d) n rest deep fits stops =
     let is : 24 ≡ row e + (24 - row e) = omega (arith, short) in
     let front = ap (λ l. row_at d l n (spelled e ++ rest)) is ∙ read d (24 - row e) n rest deep fits (looser n (sort_of e + 1) rest (omega (arith, fits)) stops) in
-    whole d n e (spelled e ++ rest) rest (front ∙ stops_here (value_at d) (24 - row e) n e rest (stops.sign n (omega arith))) stops
+    whole d n (placed e rest) (spelled e ++ rest) rest (front ∙ stops_here (value_at d) (24 - row e) n (placed e rest) rest (stops.sign n (omega arith))) stops
 
 -- what is an operand
-by_operand : (e : E) → row e ≡ 0 → ((d : ℕ) (rest : List Word) → depth e ≤ suc d → indexes rest ≡ false → operand_at (value_at d) (spelled e ++ rest) ≡ Ok (e, rest))
-    → (d t n : ℕ) (rest : List Word) → depth e ≤ suc d → n ≤ sort_of e → Stops (sort_of e + 1) rest → row_at d (row e + t) n (spelled e ++ rest) ≡ more_at (value_at d) t n e rest
+by_operand : (e : E) → row e ≡ 0 → ((d : ℕ) (rest : List Word) → depth e ≤ suc d → indexes rest ≡ false → operand_at (value_at d) (spelled e ++ rest) ≡ Ok (placed e rest, rest))
+    → (d t n : ℕ) (rest : List Word) → depth e ≤ suc d → n ≤ sort_of e → Stops (sort_of e + 1) rest → row_at d (row e + t) n (spelled e ++ rest) ≡ more_at (value_at d) t n (placed e rest) rest
 by_operand e none read d t n rest deep fits stops =
     let is : row e + t ≡ t = omega (arith, none) in
-    ap (λ l. row_at d l n (spelled e ++ rest)) is ∙ begun d t n e (spelled e ++ rest) rest (read d rest deep stops.index)
+    ap (λ l. row_at d l n (spelled e ++ rest)) is ∙ begun d t n (placed e rest) (spelled e ++ rest) rest (read d rest deep stops.index)
 
 back_operand : (e : E) → 1 ≤ depth e → 1 ≤ sort_of e → row e ≡ 0 → ((ws : List Word) → cast_end (spelled e ++ ws) ≡ None)
-    → ((d : ℕ) (rest : List Word) → depth e ≤ suc d → indexes rest ≡ false → operand_at (value_at d) (spelled e ++ rest) ≡ Ok (e, rest)) → Back e
+    → ((d : ℕ) (rest : List Word) → depth e ≤ suc d → indexes rest ≡ false → operand_at (value_at d) (spelled e ++ rest) ≡ Ok (placed e rest, rest)) → Back e
 back_operand e tall sort none uncast read =
     let front = by_operand e none read in
     record { tall = tall; sort = sort; short = omega (arith, none); uncast = uncast; front = λ low. front; value = by_row e tall (omega (arith, none)) front }
@@ -304,8 +304,8 @@ back_operand e tall sort none uncast read =
 regroup : (xs : List Word) (word : Word) (ys rest : List Word) → (xs ++ (word ∷ ys)) ++ rest ≡ xs ++ (word ∷ (ys ++ rest))
 regroup xs word ys rest = append_assoc xs (word ∷ ys) rest
 
-module _ (sign : Sign) (a b : E) (one : Back a) (two : Back b) where
-  right_read : (d : ℕ) (rest : List Word) → depth (Apply sign a b) ≤ suc d → Stops ((sorts sign).0 + 1) rest → value_at d (binds sign + 1) (wanted (sorts sign).1 b (spelled b) ++ rest) ≡ Ok (b, rest)
+module _ (l : ℕ) (sign : Sign) (a b : E) (one : Back a) (two : Back b) where
+  right_read : (d : ℕ) (rest : List Word) → depth (Apply l sign a b) ≤ suc d → Stops ((sorts sign).0 + 1) rest → value_at d (binds sign + 1) (wanted (sorts sign).1 b (spelled b) ++ rest) ≡ Ok (placed b (behind_side (sorts sign).1 b rest), rest)
   right_read d rest deep stops =
       let is = is_sign sign in
       let own = is.own in
@@ -314,74 +314,74 @@ module _ (sign : Sign) (a b : E) (one : Back a) (two : Back b) where
       ap (λ l. value_at d l (wanted (sorts sign).1 b (spelled b) ++ rest)) (sym next)
       ∙ value_side (nat_lt (sort_of b) (sorts sign).1) b (sorts sign).1 d rest refl two (omega (arith, most, deep)) (looser ((sorts sign).0 + 1) (sorts sign).1 rest (omega (arith, own, next)) stops)
 
-  apply_row : (d t n : ℕ) (rest : List Word) → depth (Apply sign a b) ≤ suc d → n ≤ sort_of (Apply sign a b) → Stops (sort_of (Apply sign a b) + 1) rest
-      → row_at d (row (Apply sign a b) + t) n (spelled (Apply sign a b) ++ rest) ≡ more_at (value_at d) t n (Apply sign a b) rest
+  apply_row : (d t n : ℕ) (rest : List Word) → depth (Apply l sign a b) ≤ suc d → n ≤ sort_of (Apply l sign a b) → Stops (sort_of (Apply l sign a b) + 1) rest
+      → row_at d (row (Apply l sign a b) + t) n (spelled (Apply l sign a b) ++ rest) ≡ more_at (value_at d) t n (placed (Apply l sign a b) rest) rest
   apply_row d t n rest deep fits stops =
       let is = is_sign sign in
       let own = is.own in
       let low = is.low in
       let most = le-max_left (nested (sorts sign).0 a (depth a)) (nested (sorts sign).1 b (depth b) + 1) in
       let behind = wanted (sorts sign).1 b (spelled b) ++ rest in
-      let count : row (Apply sign a b) + t ≡ (if nat_lt (sort_of a) (sorts sign).0 then 0 else row a) + suc t = omega arith in
-      ap (λ l. row_at d l n (spelled (Apply sign a b) ++ rest)) count
+      let count : row (Apply l sign a b) + t ≡ (if nat_lt (sort_of a) (sorts sign).0 then 0 else row a) + suc t = omega arith in
+      ap (λ c. row_at d c n (spelled (Apply l sign a b) ++ rest)) count
       ∙ ap (row_at d ((if nat_lt (sort_of a) (sorts sign).0 then 0 else row a) + suc t) n) (regroup (wanted (sorts sign).0 a (spelled a)) (w.Mark (sign_mark sign)) (wanted (sorts sign).1 b (spelled b)) rest)
       ∙ row_side (nat_lt (sort_of a) (sorts sign).0) a (sorts sign).0 d (suc t) n (w.Mark (sign_mark sign) ∷ behind) refl one (omega (arith, most, deep)) fits (omega (arith, low, own))
       (looser (binds sign + 1) ((sorts sign).0 + 1) (w.Mark (sign_mark sign) ∷ behind) (omega (arith, own)) (stop_sign sign behind))
-      ∙ sign_step (value_at d) sign t n a b behind rest (omega (arith, own, fits)) (right_read d rest deep stops)
+      ∙ sign_step (value_at d) sign t n (placed a (behind_side (sorts sign).0 a (w.Mark (sign_mark sign) ∷ behind))) (placed b (behind_side (sorts sign).1 b rest)) behind rest (omega (arith, own, fits)) (right_read d rest deep stops)
 
-  apply_no_cast : (ws : List Word) → cast_end (spelled (Apply sign a b) ++ ws) ≡ None
+  apply_no_cast : (ws : List Word) → cast_end (spelled (Apply l sign a b) ++ ws) ≡ None
   apply_no_cast ws =
       ap cast_end (regroup (wanted (sorts sign).0 a (spelled a)) (w.Mark (sign_mark sign)) (wanted (sorts sign).1 b (spelled b)) ws)
       ∙ side_no_cast (nat_lt (sort_of a) (sorts sign).0) a (w.Mark (sign_mark sign) ∷ (wanted (sorts sign).1 b (spelled b) ++ ws)) one.uncast
 
-  back_apply : row (Apply sign a b) ≤ 24 → Back (Apply sign a b)
+  back_apply : row (Apply l sign a b) ≤ 24 → Back (Apply l sign a b)
   back_apply short =
       let low = (is_sign sign).low in
       let own = (is_sign sign).own in
       let most = le-max_right (nested (sorts sign).0 a (depth a)) (nested (sorts sign).1 b (depth b) + 1) in
-      let tall : 1 ≤ depth (Apply sign a b) = omega (arith, most) in
+      let tall : 1 ≤ depth (Apply l sign a b) = omega (arith, most) in
       record {
         tall = tall;
         sort = omega (arith, low, own);
         short = short;
         uncast = apply_no_cast;
         front = λ low. apply_row;
-        value = by_row (Apply sign a b) tall short apply_row;
+        value = by_row (Apply l sign a b) tall short apply_row;
       }
 
 -- ---- choices
 
 choice_step : (inner : ℕ → List Word → Read) (n : ℕ) (e a b : E) (ws vs rest : List Word) → n ≤ 1 → inner 1 ws ≡ Ok (a, w.Mark m.Colon ∷ vs) → inner 1 vs ≡ Ok (b, rest)
-    → choice_at inner n e (w.Mark m.Question ∷ ws) ≡ Ok (Choose e a b, rest)
+    → choice_at inner n e (w.Mark m.Question ∷ ws) ≡ Ok (Choose (length (w.Mark m.Question ∷ ws)) e a b, rest)
 unfolding choice_at question_at colon_at
 choice_step inner n e a b ws vs rest l one two = rw (up_to_one n l, one, two) refl
 
-module _ (e a b : E) (test : Back e) (one : Back a) (other : Back b) where
-  choose_words : (rest : List Word) → spelled (Choose e a b) ++ rest ≡ wanted 2 e (spelled e) ++ (w.Mark m.Question ∷ (spelled a ++ (w.Mark m.Colon ∷ (spelled b ++ rest))))
+module _ (l : ℕ) (e a b : E) (test : Back e) (one : Back a) (other : Back b) where
+  choose_words : (rest : List Word) → spelled (Choose l e a b) ++ rest ≡ wanted 2 e (spelled e) ++ (w.Mark m.Question ∷ (spelled a ++ (w.Mark m.Colon ∷ (spelled b ++ rest))))
   choose_words rest =
       regroup (wanted 2 e (spelled e)) (w.Mark m.Question) (spelled a ++ (w.Mark m.Colon ∷ spelled b)) rest
       ∙ ap (λ ws. wanted 2 e (spelled e) ++ (w.Mark m.Question ∷ ws)) (regroup (spelled a) (w.Mark m.Colon) (spelled b) rest)
 
-  test_row : (d n : ℕ) (ws : List Word) → nested 2 e (depth e) ≤ suc d → n ≤ 1 → row_at d 24 n (wanted 2 e (spelled e) ++ (w.Mark m.Question ∷ ws)) ≡ Ok (e, w.Mark m.Question ∷ ws)
+  test_row : (d n : ℕ) (ws : List Word) → nested 2 e (depth e) ≤ suc d → n ≤ 1 → row_at d 24 n (wanted 2 e (spelled e) ++ (w.Mark m.Question ∷ ws)) ≡ Ok (placed e (behind_side 2 e (w.Mark m.Question ∷ ws)), w.Mark m.Question ∷ ws)
   unfolding sign_of
-  test_row d n ws deep l =
+  test_row d n ws deep low =
       let short = test.short in
       let signs = (if nat_lt (sort_of e) 2 then 0 else row e) in
       let few : signs ≤ 24 = signs_short (nat_lt (sort_of e) 2) in
       let is : 24 ≡ signs + (24 - signs) = omega (arith, few) in
       ap (λ t. row_at d t n (wanted 2 e (spelled e) ++ (w.Mark m.Question ∷ ws))) is
-      ∙ row_side (nat_lt (sort_of e) 2) e 2 d (24 - signs) n (w.Mark m.Question ∷ ws) refl test deep (omega (arith, l)) (omega arith) (looser 2 3 (w.Mark m.Question ∷ ws) (omega arith) (stop_question ws))
-      ∙ stops_here (value_at d) (24 - signs) n e (w.Mark m.Question ∷ ws) (no_sign m.Question ws n refl)
+      ∙ row_side (nat_lt (sort_of e) 2) e 2 d (24 - signs) n (w.Mark m.Question ∷ ws) refl test deep (omega (arith, low)) (omega arith) (looser 2 3 (w.Mark m.Question ∷ ws) (omega arith) (stop_question ws))
+      ∙ stops_here (value_at d) (24 - signs) n (placed e (behind_side 2 e (w.Mark m.Question ∷ ws))) (w.Mark m.Question ∷ ws) (no_sign m.Question ws n refl)
     where
       signs_short : (t : Bool) → (if t then 0 else row e) ≤ 24
       signs_short true = omega arith
       signs_short false = omega (arith, test.short)
 
-  choose_value : (d n : ℕ) (rest : List Word) → depth (Choose e a b) ≤ d → n ≤ 1 → Stops n rest → value_at d n (spelled (Choose e a b) ++ rest) ≡ Ok (Choose e a b, rest)
-  choose_value zero n rest deep l stops =
+  choose_value : (d n : ℕ) (rest : List Word) → depth (Choose l e a b) ≤ d → n ≤ 1 → Stops n rest → value_at d n (spelled (Choose l e a b) ++ rest) ≡ Ok (placed (Choose l e a b) rest, rest)
+  choose_value zero n rest deep least stops =
       let most = le-max_right (nested 2 e (depth e)) (max (depth a) (depth b) + 1) in
       absurd (omega (arith, most, deep))
-  choose_value (suc d) n rest deep l stops =
+  choose_value (suc d) n rest deep least stops =
       let first = le-max_left (nested 2 e (depth e)) (max (depth a) (depth b) + 1) in
       let most = le-max_right (nested 2 e (depth e)) (max (depth a) (depth b) + 1) in
       let left = le-max_left (depth a) (depth b) in
@@ -389,17 +389,17 @@ module _ (e a b : E) (test : Back e) (one : Back a) (other : Back b) where
       let ws = spelled a ++ (w.Mark m.Colon ∷ (spelled b ++ rest)) in
       ap (value_at (suc d) n) (choose_words rest)
       ∙ value_is d n (wanted 2 e (spelled e) ++ (w.Mark m.Question ∷ ws))
-      ∙ ap (λ x. x >>= λ y. choice_at (value_at d) n y.0 y.1) (test_row d n ws (omega (arith, first, deep)) l)
-      ∙ choice_step (value_at d) n e a b ws (spelled b ++ rest) rest l
+      ∙ ap (λ x. x >>= λ y. choice_at (value_at d) n y.0 y.1) (test_row d n ws (omega (arith, first, deep)) least)
+      ∙ choice_step (value_at d) n (placed e (behind_side 2 e (w.Mark m.Question ∷ ws))) (placed a (w.Mark m.Colon ∷ (spelled b ++ rest))) (placed b rest) ws (spelled b ++ rest) rest least
       (one.value d 1 (w.Mark m.Colon ∷ (spelled b ++ rest)) (omega (arith, most, left, deep)) one.sort (stop_colon (spelled b ++ rest)))
-      (other.value d 1 rest (omega (arith, most, right, deep)) other.sort (looser n 1 rest l stops))
+      (other.value d 1 rest (omega (arith, most, right, deep)) other.sort (looser n 1 rest least stops))
 
-  choose_no_cast : (ws : List Word) → cast_end (spelled (Choose e a b) ++ ws) ≡ None
+  choose_no_cast : (ws : List Word) → cast_end (spelled (Choose l e a b) ++ ws) ≡ None
   choose_no_cast ws =
       ap cast_end (choose_words ws)
       ∙ side_no_cast (nat_lt (sort_of e) 2) e (w.Mark m.Question ∷ (spelled a ++ (w.Mark m.Colon ∷ (spelled b ++ ws)))) test.uncast
 
-  back_choose : Back (Choose e a b)
+  back_choose : Back (Choose l e a b)
   back_choose =
       let most = le-max_right (nested 2 e (depth e)) (max (depth a) (depth b) + 1) in
       record {
@@ -413,46 +413,46 @@ module _ (e a b : E) (test : Back e) (one : Back a) (other : Back b) where
 
 -- ---- all values
 
-back_literal : (n : ℕ) (t : IntegerType) → Back (Literal n t)
+back_literal : (l n : ℕ) (t : IntegerType) → Back (Literal l n t)
 unfolding cast_end
-back_literal n t = back_operand (Literal n t) (omega arith) (omega arith) refl (λ ws. refl) (λ d rest deep alone. number_back d n t rest)
+back_literal l n t = back_operand (Literal l n t) (omega arith) (omega arith) refl (λ ws. refl) (λ d rest deep alone. number_back d n t rest)
 
-back_variable : (x : Name) → IsName x → Back (Variable x)
-back_variable x is = back_operand (Variable x) (omega arith) (omega arith) refl (λ ws. no_cast x ws is.1) (λ d rest deep alone. variable_back d x rest is.0 alone)
+back_variable : (l : ℕ) (x : Name) → IsName x → Back (Variable l x)
+back_variable l x is = back_operand (Variable l x) (omega arith) (omega arith) refl (λ ws. no_cast x ws is.1) (λ d rest deep alone. variable_back d x rest is.0 alone)
 
-back_cell : (a : Name) (i : E) → IsName a → Back i → Back (CellAt a i)
-back_cell a i is inner =
-    back_operand (CellAt a i) (omega arith) (omega arith) refl (λ ws. no_cast a _ is.1)
-    (λ d rest deep alone. cell_back d a i (spelled i) rest is.0 (inner.value d 1 (w.Mark m.CloseIndex ∷ rest) (omega (arith, deep)) inner.sort (stop_close_index rest)))
+back_cell : (l : ℕ) (a : Name) (i : E) → IsName a → Back i → Back (CellAt l a i)
+back_cell l a i is inner =
+    back_operand (CellAt l a i) (omega arith) (omega arith) refl (λ ws. no_cast a _ is.1)
+    (λ d rest deep alone. cell_back d a (placed i (w.Mark m.CloseIndex ∷ rest)) (spelled i) rest is.0 (inner.value d 1 (w.Mark m.CloseIndex ∷ rest) (omega (arith, deep)) inner.sort (stop_close_index rest)))
 
 back_cast : (e : E) → Back e → Back (Unsigned e)
 unfolding cast_end
 back_cast e inner =
     back_operand (Unsigned e) (omega arith) (omega arith) refl (λ ws. refl)
-    (λ d rest deep alone. cast_back d e (wanted 12 e (spelled e) ++ rest) rest (value_side (nat_lt (sort_of e) 12) e 12 d rest refl inner (omega (arith, deep)) (stop_tight rest alone)))
+    (λ d rest deep alone. cast_back d (placed e (behind_side 12 e rest)) (wanted 12 e (spelled e) ++ rest) rest (value_side (nat_lt (sort_of e) 12) e 12 d rest refl inner (omega (arith, deep)) (stop_tight rest alone)))
 
-back_signed : (sign : Unary) (e : E) → Back e → Back (Signed sign e)
+back_signed : (l : ℕ) (sign : Unary) (e : E) → Back e → Back (Signed l sign e)
 unfolding cast_end
-back_signed sign e inner =
-    back_operand (Signed sign e) (omega arith) (omega arith) refl (λ ws. refl)
-    (λ d rest deep alone. signed_back d sign e (wanted 12 e (spelled e) ++ rest) rest (value_side (nat_lt (sort_of e) 12) e 12 d rest refl inner (omega (arith, deep)) (stop_tight rest alone)))
+back_signed l sign e inner =
+    back_operand (Signed l sign e) (omega arith) (omega arith) refl (λ ws. refl)
+    (λ d rest deep alone. signed_back d sign (placed e (behind_side 12 e rest)) (wanted 12 e (spelled e) ++ rest) rest (value_side (nat_lt (sort_of e) 12) e 12 d rest refl inner (omega (arith, deep)) (stop_tight rest alone)))
 
-back_call : (call : Call) (a b : E) → Back a → Back b → Back (Called call a b)
+back_call : (l : ℕ) (call : Call) (a b : E) → Back a → Back b → Back (Called l call a b)
 unfolding cast_end
-back_call call a b one two =
+back_call l call a b one two =
     let left = le-max_left (depth a) (depth b) in
     let right = le-max_right (depth a) (depth b) in
-    back_operand (Called call a b) (omega arith) (omega arith) refl (λ ws. refl)
-    (λ d rest deep alone. call_back d call a b (spelled a) (spelled b) rest
+    back_operand (Called l call a b) (omega arith) (omega arith) refl (λ ws. refl)
+    (λ d rest deep alone. call_back d call (placed a) (placed b (w.Mark m.Close ∷ rest)) (spelled a) (spelled b) rest
     (λ r. one.value d 1 (w.Mark m.Comma ∷ r) (omega (arith, left, deep)) one.sort (stop_comma r))
     (two.value d 1 (w.Mark m.Close ∷ rest) (omega (arith, right, deep)) two.sort (stop_close rest)))
 
 pub back : (e : E) → IsPlain e → Back e
-back (Literal n t) plain = back_literal n t
-back (Variable x) plain = back_variable x plain
-back (CellAt a i) plain = back_cell a i plain.0 (back i plain.1)
+back (Literal l n t) plain = back_literal l n t
+back (Variable l x) plain = back_variable l x plain
+back (CellAt l a i) plain = back_cell l a i plain.0 (back i plain.1)
 back (Unsigned e) plain = back_cast e (back e plain)
-back (Signed sign e) plain = back_signed sign e (back e plain)
-back (Called call a b) plain = back_call call a b (back a plain.0) (back b plain.1)
-back (Apply sign a b) plain = back_apply sign a b (back a plain.1) (back b plain.2) plain.0
-back (Choose e a b) plain = back_choose e a b (back e plain.0) (back a plain.1) (back b plain.2)
+back (Signed l sign e) plain = back_signed l sign e (back e plain)
+back (Called l call a b) plain = back_call l call a b (back a plain.0) (back b plain.1)
+back (Apply l sign a b) plain = back_apply l sign a b (back a plain.1) (back b plain.2) plain.0
+back (Choose l e a b) plain = back_choose l e a b (back e plain.0) (back a plain.1) (back b plain.2)

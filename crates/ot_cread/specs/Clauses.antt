@@ -29,7 +29,7 @@ steps step (suc t) a ws = step a ws >>= λ x. if x.1 then steps step t x.0 x.2 e
 -- `:3]`, or `]` alone, which is one cell
 unfoldable pub length_at : List Word → Read
 length_at (w.Mark m.Colon ∷ ws) = value_at 72 1 ws >>= λ x. close_index_at x.1 >>= λ rest. Ok (x.0, rest)
-length_at ws = close_index_at ws >>= λ rest. Ok (Literal 1 t.Int, rest)
+length_at ws = close_index_at ws >>= λ rest. Ok (Literal (length ws) 1 t.Int, rest)
 
 -- `[2:3]`, or nothing, which is all of it
 unfoldable pub part_at : List Word → Result (Part × List Word) Fault
@@ -41,7 +41,7 @@ abbrev pub part_if : Bool → List Word → Result (Part × List Word) Fault
 part_if parts ws = if parts then part_at ws else Ok (Whole, ws)
 
 unfoldable pub item_at : Bool → List Word → Result (Entry × List Word) Fault
-item_at parts ws = name_at ws >>= λ a. part_if parts a.1 >>= λ p. Ok (record { array = a.0; part = p.0 }, p.1)
+item_at parts ws = name_at ws >>= λ a. part_if parts a.1 >>= λ p. Ok (record { left = length ws; array = a.0; part = p.0 }, p.1)
 
 -- behind an item: whether another follows, or the clause ends
 unfoldable pub item_end : List Word → Result (Bool × List Word) Fault
@@ -126,46 +126,46 @@ over ws (Some rest) = range_at rest >>= λ x. Ok (Some x.0, x.1)
 -- ---- clauses
 
 -- behind `depend(`
-unfoldable pub dependence_at : List Word → Result (Claim × List Word) Fault
-dependence_at ws = do
+unfoldable pub dependence_at : ℕ → List Word → Result (Claim × List Word) Fault
+dependence_at left ws = do
   range ← over ws (iterator_end ws)
   role ← role_at range.1
   items ← items_at true role.1
-  Ok (record { role = role.0; over = range.0; items = items.0 }, items.1)
+  Ok (record { left = left; role = role.0; over = range.0; items = items.0 }, items.1)
 
 -- behind `in_reduction(` or `task_reduction(`
-unfoldable pub reduction_at : (Operation → Role) → List Word → Result (Claim × List Word) Fault
-reduction_at role ws = do
+unfoldable pub reduction_at : ℕ → (Operation → Role) → List Word → Result (Claim × List Word) Fault
+reduction_at left role ws = do
   op ← operation_at ws
   items ← items_at true op.1
-  Ok (record { role = role op.0; over = None; items = items.0 }, items.1)
+  Ok (record { left = left; role = role op.0; over = None; items = items.0 }, items.1)
 
 -- behind `shared(` or `firstprivate(`: names, of which no part
-unfoldable pub listing_at : Role → List Word → Result (Claim × List Word) Fault
-listing_at role ws = items_at false ws >>= λ items. Ok (record { role = role; over = None; items = items.0 }, items.1)
+unfoldable pub listing_at : ℕ → Role → List Word → Result (Claim × List Word) Fault
+listing_at left role ws = items_at false ws >>= λ items. Ok (record { left = left; role = role; over = None; items = items.0 }, items.1)
 
 -- a clause without items
-abbrev pub bare : Role → Claim
-bare role = record { role = role; over = None; items = [] }
+abbrev pub bare : ℕ → Role → Claim
+bare left role = record { left = left; role = role; over = None; items = [] }
 
 -- behind `priority(` or `num_threads(`: a number, which says nothing of cells
-unfoldable pub count_at : Role → List Word → Result (Claim × List Word) Fault
-count_at role (w.Number n t ∷ w.Mark m.Close ∷ ws) = Ok (bare role, ws)
-count_at role ws = Err (NoClause (length ws))
+unfoldable pub count_at : ℕ → Role → List Word → Result (Claim × List Word) Fault
+count_at left role (w.Number n t ∷ w.Mark m.Close ∷ ws) = Ok (bare left role, ws)
+count_at left role ws = Err (NoClause (length ws))
 
 unfoldable pub default_of : Name → Option Role
 default_of (n.Known k.Shared) = Some r.Default
 default_of (n.Known k.None) = Some r.DefaultNone
 default_of _ = None
 
-abbrev pub default_by : List Word → List Word → Option Role → Result (Claim × List Word) Fault
-default_by ws rest (Some role) = Ok (bare role, rest)
-default_by ws rest None = Err (NoClause (length ws))
+abbrev pub default_by : ℕ → List Word → List Word → Option Role → Result (Claim × List Word) Fault
+default_by left ws rest (Some role) = Ok (bare left role, rest)
+default_by left ws rest None = Err (NoClause (length ws))
 
 -- behind `default(`
-unfoldable pub default_at : List Word → Result (Claim × List Word) Fault
-default_at (w.Name n ∷ w.Mark m.Close ∷ ws) = default_by (w.Name n ∷ w.Mark m.Close ∷ ws) ws (default_of n)
-default_at ws = Err (NoClause (length ws))
+unfoldable pub default_at : ℕ → List Word → Result (Claim × List Word) Fault
+default_at left (w.Name n ∷ w.Mark m.Close ∷ ws) = default_by left (w.Name n ∷ w.Mark m.Close ∷ ws) ws (default_of n)
+default_at left ws = Err (NoClause (length ws))
 
 unfoldable pub kind_of : Name → Option Kind
 kind_of (n.Known k.Depend) = Some kind.Depends
@@ -180,26 +180,26 @@ kind_of (n.Known k.Untied) = Some (kind.Stands r.Untied)
 kind_of (n.Known k.Mergeable) = Some (kind.Stands r.Mergeable)
 kind_of _ = None
 
--- behind its bracket, or behind its name where it has none
-abbrev pub clause_in : Kind → List Word → Result (Claim × List Word) Fault
-clause_in kind.Depends ws = dependence_at ws
-clause_in kind.Reduces ws = reduction_at (λ op. r.Reduces op) ws
-clause_in kind.Combines ws = reduction_at (λ op. r.Combines op) ws
-clause_in (kind.Lists role) ws = listing_at role ws
-clause_in (kind.Counts role) ws = count_at role ws
-clause_in kind.Defaults ws = default_at ws
-clause_in (kind.Stands role) ws = Ok (bare role, ws)
+-- a clause whose name stands where so many words are left, behind its bracket, or behind its name where it has none
+abbrev pub clause_in : ℕ → Kind → List Word → Result (Claim × List Word) Fault
+clause_in left kind.Depends ws = dependence_at left ws
+clause_in left kind.Reduces ws = reduction_at left (λ op. r.Reduces op) ws
+clause_in left kind.Combines ws = reduction_at left (λ op. r.Combines op) ws
+clause_in left (kind.Lists role) ws = listing_at left role ws
+clause_in left (kind.Counts role) ws = count_at left role ws
+clause_in left kind.Defaults ws = default_at left ws
+clause_in left (kind.Stands role) ws = Ok (bare left role, ws)
 
 unfoldable pub bracket_by : Kind → List Word → Result (List Word) Fault
 bracket_by (kind.Stands role) ws = Ok ws
 bracket_by _ ws = open_at ws
 
 -- behind its name
-abbrev pub clause_of_kind : Kind → List Word → Result (Claim × List Word) Fault
-clause_of_kind kind ws = bracket_by kind ws >>= λ rest. clause_in kind rest
+abbrev pub clause_of_kind : ℕ → Kind → List Word → Result (Claim × List Word) Fault
+clause_of_kind left kind ws = bracket_by kind ws >>= λ rest. clause_in left kind rest
 
 abbrev pub clause_by : List Word → List Word → Option Kind → Result (Claim × List Word) Fault
-clause_by ws rest (Some kind) = clause_of_kind kind rest
+clause_by ws rest (Some kind) = clause_of_kind (length ws) kind rest
 clause_by ws rest None = Err (NoClause (length ws))
 
 unfoldable pub clause_at : List Word → Result (Claim × List Word) Fault

@@ -87,11 +87,11 @@ cast_end (w.Name n ∷ w.Mark m.Close ∷ ws) = if is_unsigned n then Some ws el
 cast_end _ = None
 
 unfoldable pub indexed_at : (ℕ → List Word → Read) → Name → List Word → Read
-indexed_at inner a ws = inner 1 ws >>= λ x. close_index_at x.1 >>= λ rest. Ok (CellAt a x.0, rest)
+indexed_at inner a ws = inner 1 ws >>= λ x. close_index_at x.1 >>= λ rest. Ok (CellAt (length (w.Mark m.OpenIndex ∷ ws) + 1) a x.0, rest)
 
 unfoldable pub named_at : (ℕ → List Word → Read) → Name → List Word → Read
 named_at inner a (w.Mark m.OpenIndex ∷ ws) = indexed_at inner a ws
-named_at inner a ws = Ok (Variable a, ws)
+named_at inner a ws = Ok (Variable (length ws + 1) a, ws)
 
 unfoldable pub called_at : (ℕ → List Word → Read) → Call → List Word → Read
 called_at inner call ws = do
@@ -100,7 +100,7 @@ called_at inner call ws = do
   b ← comma_at one.1
   two ← inner 1 b
   rest ← close_at two.1
-  Ok (Called call one.0 two.0, rest)
+  Ok (Called (length ws + 1) call one.0 two.0, rest)
 
 abbrev pub name_or_call : (ℕ → List Word → Read) → Option Call → Name → List Word → Read
 name_or_call inner (Some call) n ws = called_at inner call ws
@@ -120,7 +120,7 @@ bracket_at inner ws = cast_or_closed inner ws (cast_end ws)
 
 -- behind a sign before a value
 unfoldable pub prefixed_at : (ℕ → List Word → Read) → Unary → List Word → Read
-prefixed_at inner sign ws = inner tightest ws >>= λ x. Ok (Signed sign x.0, x.1)
+prefixed_at inner sign ws = inner tightest ws >>= λ x. Ok (Signed (length ws + 1) sign x.0, x.1)
 
 abbrev pub marked_at : (ℕ → List Word → Read) → Option Begin → List Word → List Word → Read
 marked_at inner (Some begins.Bracket) ws rest = bracket_at inner rest
@@ -128,7 +128,7 @@ marked_at inner (Some (begins.Sign sign)) ws rest = prefixed_at inner sign rest
 marked_at inner None ws rest = Err (NoValue (length ws))
 
 unfoldable pub operand_at : (ℕ → List Word → Read) → List Word → Read
-operand_at inner (w.Number n t ∷ ws) = Ok (Literal n t, ws)
+operand_at inner (w.Number n t ∷ ws) = Ok (Literal (length (w.Number n t ∷ ws)) n t, ws)
 operand_at inner (w.Name n ∷ ws) = name_or_call inner (call_of n) n ws
 operand_at inner (w.Mark mark ∷ ws) = marked_at inner (begin_of mark) (w.Mark mark ∷ ws) ws
 operand_at inner ws = Err (NoValue (length ws))
@@ -138,7 +138,7 @@ operand_at inner ws = Err (NoValue (length ws))
 -- at the sign that is found: the value behind it, and what goes on behind both
 abbrev pub go_on : (ℕ → List Word → Read) → (E → List Word → Read) → E → List Word → Option (Sign × List Word) → Read
 go_on inner next left ws None = Ok (left, ws)
-go_on inner next left ws (Some p) = inner (binds p.0 + 1) p.1 >>= λ x. next (Apply p.0 left x.0) x.1
+go_on inner next left ws (Some p) = inner (binds p.0 + 1) p.1 >>= λ x. next (Apply (length ws) p.0 left x.0) x.1
 
 abbrev pub too_long : E → List Word → Option (Sign × List Word) → Read
 too_long left ws None = Ok (left, ws)
@@ -159,7 +159,7 @@ chosen inner test ws (Some rest) = do
   one ← inner 1 rest
   behind ← colon_at one.1
   other ← inner 1 behind
-  Ok (Choose test one.0 other.0, other.1)
+  Ok (Choose (length ws) test one.0 other.0, other.1)
 
 -- a choice that a test begins, or the test alone
 unfoldable pub choice_at : (ℕ → List Word → Read) → ℕ → E → List Word → Read

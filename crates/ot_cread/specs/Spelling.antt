@@ -1,5 +1,5 @@
 -- Values in words with as few brackets as C's grammar wants (C17, sections 6.5.1 to 6.5.15).
-use Rattle.std.specs.Prelude.{◌≡◌, ℕ, ◌+◌, ◌≤◌, max, nat_lt, Bool, true, false, List, [], ◌∷◌, ◌++◌, None, is_some, if◌then◌else◌}
+use Rattle.std.specs.Prelude.{◌≡◌, ℕ, ◌+◌, ◌≤◌, max, nat_lt, Bool, true, false, List, [], ◌∷◌, ◌++◌, length, None, is_some, if◌then◌else◌}
 use Rattle.ot_words.specs.declared.known.Known.TheVariants as k
 use Rattle.ot_words.specs.declared.mark.Mark.{Mark}
 use Rattle.ot_words.specs.declared.mark.Mark.TheVariants as m
@@ -81,14 +81,14 @@ sorts s.Over = (multiplicative, cast)
 sorts s.Rest = (multiplicative, cast)
 
 abbrev pub sort_of : E → ℕ
-sort_of (Literal n t) = primary
-sort_of (Variable x) = primary
-sort_of (CellAt a i) = primary
+sort_of (Literal l n t) = primary
+sort_of (Variable l x) = primary
+sort_of (CellAt l a i) = primary
 sort_of (Unsigned e) = cast
-sort_of (Signed sign e) = cast
-sort_of (Called call a b) = primary
-sort_of (Apply sign a b) = (sorts sign).0
-sort_of (Choose t a b) = conditional
+sort_of (Signed l sign e) = cast
+sort_of (Called l call a b) = primary
+sort_of (Apply l sign a b) = (sorts sign).0
+sort_of (Choose l t a b) = conditional
 
 -- ---- words
 
@@ -131,27 +131,51 @@ wanted sort e ws = if nat_lt (sort_of e) sort then bracketed ws else ws
 
 -- the words of a value
 abbrev pub spelled : E → List Word
-spelled (Literal n t) = w.Number n t ∷ []
-spelled (Variable x) = w.Name x ∷ []
-spelled (CellAt a i) = w.Name a ∷ w.Mark m.OpenIndex ∷ (spelled i ++ (w.Mark m.CloseIndex ∷ []))
+spelled (Literal l n t) = w.Number n t ∷ []
+spelled (Variable l x) = w.Name x ∷ []
+spelled (CellAt l a i) = w.Name a ∷ w.Mark m.OpenIndex ∷ (spelled i ++ (w.Mark m.CloseIndex ∷ []))
 spelled (Unsigned e) = w.Mark m.Open ∷ w.Name (n.Known k.Word64) ∷ w.Mark m.Close ∷ wanted cast e (spelled e)
-spelled (Signed sign e) = w.Mark (unary_mark sign) ∷ wanted cast e (spelled e)
-spelled (Called call a b) = w.Name (call_name call) ∷ w.Mark m.Open ∷ (spelled a ++ (w.Mark m.Comma ∷ (spelled b ++ (w.Mark m.Close ∷ []))))
-spelled (Apply sign a b) = wanted (sorts sign).0 a (spelled a) ++ (w.Mark (sign_mark sign) ∷ wanted (sorts sign).1 b (spelled b))
-spelled (Choose t a b) = wanted logical_or t (spelled t) ++ (w.Mark m.Question ∷ (spelled a ++ (w.Mark m.Colon ∷ spelled b)))
+spelled (Signed l sign e) = w.Mark (unary_mark sign) ∷ wanted cast e (spelled e)
+spelled (Called l call a b) = w.Name (call_name call) ∷ w.Mark m.Open ∷ (spelled a ++ (w.Mark m.Comma ∷ (spelled b ++ (w.Mark m.Close ∷ []))))
+spelled (Apply l sign a b) = wanted (sorts sign).0 a (spelled a) ++ (w.Mark (sign_mark sign) ∷ wanted (sorts sign).1 b (spelled b))
+spelled (Choose l t a b) = wanted logical_or t (spelled t) ++ (w.Mark m.Question ∷ (spelled a ++ (w.Mark m.Colon ∷ spelled b)))
 
--- ---- what is read of them
+-- ---- the value that is read of them
+
+-- what stands behind a side where the grammar wants one of a sort, and this stands behind both
+abbrev pub behind_side : ℕ → E → List Word → List Word
+behind_side sort e ws = if nat_lt (sort_of e) sort then w.Mark m.Close ∷ ws else ws
+
+-- a value with the number of words that are left at each part of it, where these words stand behind it
+abbrev pub placed : E → List Word → E
+placed (Literal l n t) ws = Literal (length (w.Number n t ∷ ws)) n t
+placed (Variable l x) ws = Variable (length ws + 1) x
+placed (CellAt l a i) ws = CellAt (length (w.Mark m.OpenIndex ∷ (spelled i ++ (w.Mark m.CloseIndex ∷ ws))) + 1) a (placed i (w.Mark m.CloseIndex ∷ ws))
+placed (Unsigned e) ws = Unsigned (placed e (behind_side cast e ws))
+placed (Signed l sign e) ws = Signed (length (wanted cast e (spelled e) ++ ws) + 1) sign (placed e (behind_side cast e ws))
+placed (Called l call a b) ws =
+    Called (length (w.Mark m.Open ∷ (spelled a ++ (w.Mark m.Comma ∷ (spelled b ++ (w.Mark m.Close ∷ ws))))) + 1) call
+    (placed a (w.Mark m.Comma ∷ (spelled b ++ (w.Mark m.Close ∷ ws)))) (placed b (w.Mark m.Close ∷ ws))
+placed (Apply l sign a b) ws =
+    Apply (length (w.Mark (sign_mark sign) ∷ (wanted (sorts sign).1 b (spelled b) ++ ws))) sign
+    (placed a (behind_side (sorts sign).0 a (w.Mark (sign_mark sign) ∷ (wanted (sorts sign).1 b (spelled b) ++ ws)))) (placed b (behind_side (sorts sign).1 b ws))
+placed (Choose l t a b) ws =
+    Choose (length (w.Mark m.Question ∷ (spelled a ++ (w.Mark m.Colon ∷ (spelled b ++ ws)))))
+    (placed t (behind_side logical_or t (w.Mark m.Question ∷ (spelled a ++ (w.Mark m.Colon ∷ (spelled b ++ ws))))))
+    (placed a (w.Mark m.Colon ∷ (spelled b ++ ws))) (placed b ws)
+
+-- ---- how deep it nests
 
 -- how many signs stand in a row up to a value's own, outside of brackets
 abbrev pub row : E → ℕ
-row (Literal n t) = 0
-row (Variable x) = 0
-row (CellAt a i) = 0
+row (Literal l n t) = 0
+row (Variable l x) = 0
+row (CellAt l a i) = 0
 row (Unsigned e) = 0
-row (Signed sign e) = 0
-row (Called call a b) = 0
-row (Apply sign a b) = (if nat_lt (sort_of a) (sorts sign).0 then 0 else row a) + 1
-row (Choose t a b) = 0
+row (Signed l sign e) = 0
+row (Called l call a b) = 0
+row (Apply l sign a b) = (if nat_lt (sort_of a) (sorts sign).0 then 0 else row a) + 1
+row (Choose l t a b) = 0
 
 -- one deeper in brackets
 abbrev pub nested : ℕ → E → ℕ → ℕ
@@ -159,14 +183,14 @@ nested sort e d = if nat_lt (sort_of e) sort then d + 1 else d
 
 -- how deep a value nests
 abbrev pub depth : E → ℕ
-depth (Literal n t) = 1
-depth (Variable x) = 1
-depth (CellAt a i) = depth i + 1
+depth (Literal l n t) = 1
+depth (Variable l x) = 1
+depth (CellAt l a i) = depth i + 1
 depth (Unsigned e) = nested cast e (depth e) + 1
-depth (Signed sign e) = nested cast e (depth e) + 1
-depth (Called call a b) = max (depth a) (depth b) + 1
-depth (Apply sign a b) = max (nested (sorts sign).0 a (depth a)) (nested (sorts sign).1 b (depth b) + 1)
-depth (Choose t a b) = max (nested logical_or t (depth t)) (max (depth a) (depth b) + 1)
+depth (Signed l sign e) = nested cast e (depth e) + 1
+depth (Called l call a b) = max (depth a) (depth b) + 1
+depth (Apply l sign a b) = max (nested (sorts sign).0 a (depth a)) (nested (sorts sign).1 b (depth b) + 1)
+depth (Choose l t a b) = max (nested logical_or t (depth t)) (max (depth a) (depth b) + 1)
 
 -- a name that is neither a function nor a type
 abbrev pub IsName : Name → Type 0
@@ -174,14 +198,14 @@ IsName x = (call_of x ≡ None) × (is_unsigned x ≡ false)
 
 -- of such names, with no more than 24 signs in a row
 abbrev pub IsPlain : E → Type 0
-IsPlain (Literal n t) = Unit {0}
-IsPlain (Variable x) = IsName x
-IsPlain (CellAt a i) = IsName a × IsPlain i
+IsPlain (Literal l n t) = Unit {0}
+IsPlain (Variable l x) = IsName x
+IsPlain (CellAt l a i) = IsName a × IsPlain i
 IsPlain (Unsigned e) = IsPlain e
-IsPlain (Signed sign e) = IsPlain e
-IsPlain (Called call a b) = IsPlain a × IsPlain b
-IsPlain (Apply sign a b) = (row (Apply sign a b) ≤ 24) × IsPlain a × IsPlain b
-IsPlain (Choose t a b) = IsPlain t × IsPlain a × IsPlain b
+IsPlain (Signed l sign e) = IsPlain e
+IsPlain (Called l call a b) = IsPlain a × IsPlain b
+IsPlain (Apply l sign a b) = (row (Apply l sign a b) ≤ 24) × IsPlain a × IsPlain b
+IsPlain (Choose l t a b) = IsPlain t × IsPlain a × IsPlain b
 
 -- whether words go on with a value before them: by a sign, a choice or a place
 unfoldable pub goes_on : List Word → Bool

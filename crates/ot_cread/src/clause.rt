@@ -43,7 +43,7 @@ fn length(alloc: Global, words: &[Word]) -> Result<(Expr, &[Word]), ReadError>
         }
         _ => {
             let rest = close_index(words)?;
-            Ok((Expr::Number(1, IntegerType::Int), rest))
+            Ok((Expr::Number(words.len(), 1, IntegerType::Int), rest))
         }
     }
 }
@@ -80,7 +80,8 @@ fn item(alloc: Global, parts: bool, words: &[Word]) -> Result<(Item, &[Word]), R
 {
     let (array, rest) = name(words)?;
     let (place, rest) = place_if(alloc, parts, rest)?;
-    Ok((Item { array, place }, rest))
+    let left = words.len();
+    Ok((Item { left, array, place }, rest))
 }
 
 /// Behind an item: whether another follows, or the clause ends.
@@ -264,23 +265,30 @@ fn over(alloc: Global, words: &[Word]) -> Result<(Option<Range>, &[Word]), ReadE
 
 /// Behind `depend(`.
 #[tactic(auto, unfolding(crate::specs::Clauses::dependence_at))]
-fn dependence(alloc: Global, words: &[Word]) -> Result<(Clause, &[Word]), ReadError>
-    ensures { Gives (λ x. (clause_of x.0, x.1.now)) result (read.dependence_at words.now) }
+fn dependence(alloc: Global, left: usize, words: &[Word]) -> Result<(Clause, &[Word]), ReadError>
+    ensures { Gives (λ x. (clause_of x.0, x.1.now)) result (read.dependence_at left words.now) }
 {
     let (over, rest) = over(alloc, words)?;
     let (role, rest) = role(rest)?;
     let (items, rest) = items(alloc, true, rest)?;
-    Ok((Clause { role, over, items }, rest))
+    let clause = Clause {
+        left,
+        role,
+        over,
+        items,
+    };
+    Ok((clause, rest))
 }
 
 /// Behind `in_reduction(`.
 #[tactic(auto, unfolding(crate::specs::Clauses::reduction_at))]
-fn reduces(alloc: Global, words: &[Word]) -> Result<(Clause, &[Word]), ReadError>
-    ensures { Gives (λ x. (clause_of x.0, x.1.now)) result (read.reduction_at (λ op. Role.Reduces op) words.now) }
+fn reduces(alloc: Global, left: usize, words: &[Word]) -> Result<(Clause, &[Word]), ReadError>
+    ensures { Gives (λ x. (clause_of x.0, x.1.now)) result (read.reduction_at left (λ op. Role.Reduces op) words.now) }
 {
     let (op, rest) = operation(words)?;
     let (items, rest) = items(alloc, true, rest)?;
     let clause = Clause {
+        left,
         role: Role::Reduces(op),
         over: None,
         items,
@@ -290,12 +298,13 @@ fn reduces(alloc: Global, words: &[Word]) -> Result<(Clause, &[Word]), ReadError
 
 /// Behind `task_reduction(`.
 #[tactic(auto, unfolding(crate::specs::Clauses::reduction_at))]
-fn combines(alloc: Global, words: &[Word]) -> Result<(Clause, &[Word]), ReadError>
-    ensures { Gives (λ x. (clause_of x.0, x.1.now)) result (read.reduction_at (λ op. Role.Combines op) words.now) }
+fn combines(alloc: Global, left: usize, words: &[Word]) -> Result<(Clause, &[Word]), ReadError>
+    ensures { Gives (λ x. (clause_of x.0, x.1.now)) result (read.reduction_at left (λ op. Role.Combines op) words.now) }
 {
     let (op, rest) = operation(words)?;
     let (items, rest) = items(alloc, true, rest)?;
     let clause = Clause {
+        left,
         role: Role::Combines(op),
         over: None,
         items,
@@ -305,11 +314,17 @@ fn combines(alloc: Global, words: &[Word]) -> Result<(Clause, &[Word]), ReadErro
 
 /// Behind `shared(`.
 #[tactic(auto, unfolding(crate::specs::Clauses::listing_at))]
-fn listing(alloc: Global, role: Role, words: &[Word]) -> Result<(Clause, &[Word]), ReadError>
-    ensures { Gives (λ x. (clause_of x.0, x.1.now)) result (read.listing_at role words.now) }
+fn listing(
+    alloc: Global,
+    left: usize,
+    role: Role,
+    words: &[Word],
+) -> Result<(Clause, &[Word]), ReadError>
+    ensures { Gives (λ x. (clause_of x.0, x.1.now)) result (read.listing_at left role words.now) }
 {
     let (items, rest) = items(alloc, false, words)?;
     let clause = Clause {
+        left,
         role,
         over: None,
         items,
@@ -318,10 +333,11 @@ fn listing(alloc: Global, role: Role, words: &[Word]) -> Result<(Clause, &[Word]
 }
 
 /// A clause without items.
-fn bare(alloc: Global, role: Role) -> Clause
-    ensures { clause_of result ≡ read.bare role }
+fn bare(alloc: Global, left: usize, role: Role) -> Clause
+    ensures { clause_of result ≡ read.bare left role }
 {
     Clause {
+        left,
         role,
         over: None,
         items: Vec::new(alloc),
@@ -330,11 +346,19 @@ fn bare(alloc: Global, role: Role) -> Clause
 
 /// Behind `priority(`: a number, which says nothing of cells.
 #[tactic(auto, unfolding(crate::specs::Clauses::count_at))]
-fn count(alloc: Global, role: Role, words: &[Word]) -> Result<(Clause, &[Word]), ReadError>
-    ensures { Gives (λ x. (clause_of x.0, x.1.now)) result (read.count_at role words.now) }
+fn count(
+    alloc: Global,
+    left: usize,
+    role: Role,
+    words: &[Word],
+) -> Result<(Clause, &[Word]), ReadError>
+    ensures { Gives (λ x. (clause_of x.0, x.1.now)) result (read.count_at left role words.now) }
 {
     match words {
-        [Word::Number(_, _), Word::Mark(Mark::Close), rest @ ..] => Ok((bare(alloc, role), rest)),
+        [Word::Number(_, _), Word::Mark(Mark::Close), rest @ ..] => Ok((
+            bare(alloc, left, role),
+            rest,
+        )),
         _ => Err(ReadError::Fault(Fault::NoClause(words.len()))),
     }
 }
@@ -352,12 +376,12 @@ fn default_of(name: Name) -> Option<Role>
 
 /// Behind `default(`.
 #[tactic(auto, unfolding(crate::specs::Clauses::default_at))]
-fn default(alloc: Global, words: &[Word]) -> Result<(Clause, &[Word]), ReadError>
-    ensures { Gives (λ x. (clause_of x.0, x.1.now)) result (read.default_at words.now) }
+fn default(alloc: Global, left: usize, words: &[Word]) -> Result<(Clause, &[Word]), ReadError>
+    ensures { Gives (λ x. (clause_of x.0, x.1.now)) result (read.default_at left words.now) }
 {
     match words {
         [Word::Name(name), Word::Mark(Mark::Close), rest @ ..] => match default_of(*name) {
-            Some(role) => Ok((bare(alloc, role), rest)),
+            Some(role) => Ok((bare(alloc, left, role), rest)),
             None => Err(ReadError::Fault(Fault::NoClause(words.len()))),
         },
         _ => Err(ReadError::Fault(Fault::NoClause(words.len()))),
@@ -383,18 +407,23 @@ fn kind_of(name: Name) -> Option<Kind>
     }
 }
 
-/// A clause of this kind, behind its bracket, or behind its name where it has none.
-fn clause_in(alloc: Global, kind: Kind, words: &[Word]) -> Result<(Clause, &[Word]), ReadError>
-    ensures { Gives (λ x. (clause_of x.0, x.1.now)) result (read.clause_in kind words.now) }
+/// A clause of this kind whose name stands where so many words are left, behind its bracket, or behind its name where it has none.
+fn clause_in(
+    alloc: Global,
+    left: usize,
+    kind: Kind,
+    words: &[Word],
+) -> Result<(Clause, &[Word]), ReadError>
+    ensures { Gives (λ x. (clause_of x.0, x.1.now)) result (read.clause_in left kind words.now) }
 {
     match kind {
-        Kind::Depends => dependence(alloc, words),
-        Kind::Reduces => reduces(alloc, words),
-        Kind::Combines => combines(alloc, words),
-        Kind::Lists(role) => listing(alloc, role, words),
-        Kind::Counts(role) => count(alloc, role, words),
-        Kind::Defaults => default(alloc, words),
-        Kind::Stands(role) => Ok((bare(alloc, role), words)),
+        Kind::Depends => dependence(alloc, left, words),
+        Kind::Reduces => reduces(alloc, left, words),
+        Kind::Combines => combines(alloc, left, words),
+        Kind::Lists(role) => listing(alloc, left, role, words),
+        Kind::Counts(role) => count(alloc, left, role, words),
+        Kind::Defaults => default(alloc, left, words),
+        Kind::Stands(role) => Ok((bare(alloc, left, role), words)),
     }
 }
 
@@ -410,11 +439,16 @@ fn bracket_by(kind: Kind, words: &[Word]) -> Result<&[Word], ReadError>
 }
 
 /// A clause of this kind, behind its name.
-fn clause_by(alloc: Global, kind: Kind, words: &[Word]) -> Result<(Clause, &[Word]), ReadError>
-    ensures { Gives (λ x. (clause_of x.0, x.1.now)) result (read.clause_of_kind kind words.now) }
+fn clause_by(
+    alloc: Global,
+    left: usize,
+    kind: Kind,
+    words: &[Word],
+) -> Result<(Clause, &[Word]), ReadError>
+    ensures { Gives (λ x. (clause_of x.0, x.1.now)) result (read.clause_of_kind left kind words.now) }
 {
     let rest = bracket_by(kind, words)?;
-    clause_in(alloc, kind, rest)
+    clause_in(alloc, left, kind, rest)
 }
 
 #[tactic(auto, unfolding(crate::specs::Clauses::clause_at))]
@@ -423,7 +457,7 @@ fn clause(alloc: Global, words: &[Word]) -> Result<(Clause, &[Word]), ReadError>
 {
     match words {
         [Word::Name(name), rest @ ..] => match kind_of(*name) {
-            Some(kind) => clause_by(alloc, kind, rest),
+            Some(kind) => clause_by(alloc, words.len(), kind, rest),
             None => Err(ReadError::Fault(Fault::NoClause(words.len()))),
         },
         _ => Err(ReadError::Fault(Fault::NoClause(words.len()))),

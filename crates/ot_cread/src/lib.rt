@@ -3,6 +3,7 @@
 
 mod clause;
 mod fault;
+mod front;
 pub mod laws;
 mod marks;
 mod sign;
@@ -11,6 +12,7 @@ mod value;
 
 pub use clause::read_clauses;
 pub use fault::{Fault, ReadError};
+pub use front::left_of;
 pub use sign::{Sign, Unary};
 pub use tree::{Call, Clause, Expr, Item, Operation, Place, Range, Role};
 pub use value::read_value;

@@ -9,21 +9,21 @@ pub enum Call {
     Max,
 }
 
-/// A value.
+/// A value. Each part but a cast has how many words are left where its own word stands: a number, a name, or a sign.
 #[derive(Debug, Drop)]
 pub enum Expr {
-    Number(u64, IntegerType),
+    Number(usize, u64, IntegerType),
     /// A name alone: a loop's variable, a constant, or an array of one cell.
-    Variable(Name),
+    Variable(usize, Name),
     /// A cell of an array: any value may stand for its place.
-    Cell(Name, Box<Expr>),
+    Cell(usize, Name, Box<Expr>),
     /// `(uint64_t)` before a value
     Cast(Box<Expr>),
-    Unary(Unary, Box<Expr>),
-    Call(Call, Box<Expr>, Box<Expr>),
-    Op(Sign, Box<Expr>, Box<Expr>),
+    Unary(usize, Unary, Box<Expr>),
+    Call(usize, Call, Box<Expr>, Box<Expr>),
+    Op(usize, Sign, Box<Expr>, Box<Expr>),
     /// `test ? one : other`
-    Choice(Box<Expr>, Box<Expr>, Box<Expr>),
+    Choice(usize, Box<Expr>, Box<Expr>, Box<Expr>),
 }
 
 /// What a reduction combines by (OpenMP API 5.2, section 5.5.5).
@@ -69,6 +69,8 @@ pub enum Place {
 
 #[derive(Debug, Drop)]
 pub struct Item {
+    /// How many words are left where its name stands.
+    pub left: usize,
     pub array: Name,
     pub place: Place,
 }
@@ -84,6 +86,8 @@ pub struct Range {
 /// A clause of a directive.
 #[derive(Debug, Drop)]
 pub struct Clause {
+    /// How many words are left where its name stands.
+    pub left: usize,
     pub role: Role,
     pub over: Option<Range>,
     pub items: Vec<Item>,

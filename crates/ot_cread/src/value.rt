@@ -68,9 +68,10 @@ fn named(
         [Word::Mark(Mark::OpenIndex), rest @ ..] => {
             let (index, rest) = value(alloc, depth, 1, rest)?;
             let rest = close_index(rest)?;
-            Ok((Expr::Cell(name, Box::new(alloc, index)?), rest))
+            let left = words.len() + 1;
+            Ok((Expr::Cell(left, name, Box::new(alloc, index)?), rest))
         }
-        _ => Ok((Expr::Variable(name), words)),
+        _ => Ok((Expr::Variable(words.len() + 1, name), words)),
     }
 }
 
@@ -91,7 +92,8 @@ fn called(
     let rest = comma(rest)?;
     let (two, rest) = value(alloc, depth, 1, rest)?;
     let rest = close(rest)?;
-    let expr = Expr::Call(call, Box::new(alloc, one)?, Box::new(alloc, two)?);
+    let left = words.len() + 1;
+    let expr = Expr::Call(left, call, Box::new(alloc, one)?, Box::new(alloc, two)?);
     Ok((expr, rest))
 }
 
@@ -128,7 +130,8 @@ fn prefixed(
     ensures { Gives (λ x. (expr_of x.0, x.1.now)) result (prefixed_at (value_at depth) sign words.now) }
 {
     let (expr, rest) = value(alloc, depth, TIGHTEST, words)?;
-    Ok((Expr::Unary(sign, Box::new(alloc, expr)?), rest))
+    let left = words.len() + 1;
+    Ok((Expr::Unary(left, sign, Box::new(alloc, expr)?), rest))
 }
 
 #[cycle(value)]
@@ -138,7 +141,10 @@ fn operand(alloc: Global, depth: u32, words: &[Word]) -> Result<(Expr, &[Word]),
     ensures { Gives (λ x. (expr_of x.0, x.1.now)) result (operand_at (value_at depth) words.now) }
 {
     match words {
-        [Word::Number(number, kind), rest @ ..] => Ok((Expr::Number(*number, *kind), rest)),
+        [Word::Number(number, kind), rest @ ..] => Ok((
+            Expr::Number(words.len(), *number, *kind),
+            rest,
+        )),
         [Word::Name(name), rest @ ..] => match call_of(*name) {
             Some(call) => called(alloc, depth, call, rest),
             None => named(alloc, depth, *name, rest),
@@ -174,7 +180,12 @@ fn more(
         return Err(ReadError::Fault(Fault::TooDeep(words.len())));
     }
     let (right, rest) = value(alloc, depth, binds(sign) + 1, rest)?;
-    let both = Expr::Op(sign, Box::new(alloc, left)?, Box::new(alloc, right)?);
+    let both = Expr::Op(
+        words.len(),
+        sign,
+        Box::new(alloc, left)?,
+        Box::new(alloc, right)?,
+    );
     more(alloc, depth, turns - 1, least, both, rest)
 }
 
@@ -209,6 +220,7 @@ fn choice(
     let rest = colon(rest)?;
     let (other, rest) = value(alloc, depth, 1, rest)?;
     let expr = Expr::Choice(
+        words.len(),
         Box::new(alloc, test)?,
         Box::new(alloc, one)?,
         Box::new(alloc, other)?,

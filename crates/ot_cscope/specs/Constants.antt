@@ -115,11 +115,11 @@ both sign (Some a) (Some b) = applied sign a b
 
 -- numbers, names of constants, and + - * / % << >> of these, each part exact and in its type
 unfoldable pub constant : Around → E → Option Typed
-constant a (Literal n k) = Some (n, k)
-constant a (Variable x) = named a x
-constant a (CellAt x i) = None
+constant a (Literal l n k) = Some (n, k)
+constant a (Variable l x) = named a x
+constant a (CellAt l x i) = None
 constant a (Unsigned e) = as_word (constant a e)
-constant a (Called c x y) = None
-constant a (Signed sign e) = None
-constant a (Choose t x y) = None
-constant a (Apply sign x y) = both sign (constant a x) (constant a y)
+constant a (Called l c x y) = None
+constant a (Signed l sign e) = None
+constant a (Choose l t x y) = None
+constant a (Apply l sign x y) = both sign (constant a x) (constant a y)

@@ -4,7 +4,7 @@ use Rattle.ot_cscope.specs.declared.fault.CFault.{CFault}
 use Rattle.ot_cscope.specs.declared.fault.CFault.TheVariants as errors
 use Rattle.ot_cscope.specs.declared.reason.Reason.{Reason}
 
--- a byte, and why it stands outside of the language
+-- how many words are left where it stands, and why that is outside of the language
 abbrev pub Refusal : Type 0
 Refusal = ℕ × Reason
 

@@ -20,8 +20,8 @@ one_cell first = run_by first (Some (1, Int))
 
 -- which cells of an array an index may name: one, or those of which one is picked
 unfoldable pub run : Around → E → Run
-run a (Apply o.Rest chosen count) = run_by (Some (0, Int)) (constant a count)
-run a (Apply o.Plus first (Apply o.Rest chosen count)) = run_by (constant a first) (constant a count)
+run a (Apply l o.Rest chosen count) = run_by (Some (0, Int)) (constant a count)
+run a (Apply l o.Plus first (Apply m o.Rest chosen count)) = run_by (constant a first) (constant a count)
 run a i = one_cell (constant a i)
 
 -- no open group combines, by a pointer, over a cell of an array that an index may name

@@ -79,12 +79,12 @@ both at None one two constant = known at constant
 both at (Some word) one two constant = one >>= λ x. two >>= λ y. Ok (form word (x.0 ∷ y.0 ∷ []), joined x.1 y.1)
 
 -- numbers and loop variables, + - * of these, and / % << >> of numbers
-unfoldable pub size : Around → ℕ → E → Sized
-size a at (Literal n k) = Ok (nat n, k)
-size a at (Variable x) = named a at x
-size a at (CellAt x i) = Err (at, why.NoSize)
-size a at (Unsigned e) = size a at e >>= λ x. Ok (x.0, UnsignedLong)
-size a at (Called c x y) = Err (at, why.NoSize)
-size a at (Signed sign e) = Err (at, why.NoSize)
-size a at (Choose t x y) = Err (at, why.NoSize)
-size a at (Apply sign x y) = both at (size_word sign) (size a at x) (size a at y) (constants.both sign (constant a x) (constant a y))
+unfoldable pub size : Around → E → Sized
+size a (Literal l n k) = Ok (nat n, k)
+size a (Variable l x) = named a l x
+size a (CellAt l x i) = Err (l, why.NoSize)
+size a (Unsigned e) = size a e >>= λ x. Ok (x.0, UnsignedLong)
+size a (Called l c x y) = Err (l, why.NoSize)
+size a (Signed l sign e) = Err (l, why.NoSize)
+size a (Choose l t x y) = Err (l, why.NoSize)
+size a (Apply l sign x y) = both l (size_word sign) (size a x) (size a y) (constants.both sign (constant a x) (constant a y))

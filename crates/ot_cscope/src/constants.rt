@@ -121,14 +121,14 @@ pub fn constant(scope: &Scope<'_>, expr: &Expr) -> Option<(u64, IntegerType)>
     ensures { result ≡ constants.constant scope.now (expr_of expr.now) }
 {
     match expr {
-        Expr::Number(number, kind) => Some((*number, *kind)),
-        Expr::Variable(name) => named(scope, *name),
-        Expr::Cell(_, _) => None,
+        Expr::Number(_, number, kind) => Some((*number, *kind)),
+        Expr::Variable(_, name) => named(scope, *name),
+        Expr::Cell(_, _, _) => None,
         Expr::Cast(value) => {
             let (number, _) = constant(scope, value)?;
             Some((number, IntegerType::UnsignedLong))
         }
-        Expr::Unary(_, _) | Expr::Call(_, _, _) | Expr::Choice(_, _, _) => None,
-        Expr::Op(sign, one, two) => both(*sign, constant(scope, one), constant(scope, two)),
+        Expr::Unary(_, _, _) | Expr::Call(_, _, _, _) | Expr::Choice(_, _, _, _) => None,
+        Expr::Op(_, sign, one, two) => both(*sign, constant(scope, one), constant(scope, two)),
     }
 }

@@ -8,7 +8,7 @@ use std::alloc::{AllocError, AllocFailed};
 /// Why a file of C has no program.
 #[derive(Debug, Drop)]
 pub enum CFault {
-    /// At this byte stands what the language has no form for.
+    /// Where so many words are left stands what the language has no form for.
     Outside(usize, Reason),
     Memory,
 }

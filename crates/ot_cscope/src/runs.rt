@@ -29,11 +29,11 @@ pub fn run(scope: &Scope<'_>, index: &Expr) -> Option<(u64, u64)>
     ensures { result ≡ runs.run scope.now (expr_of index.now) }
 {
     match index {
-        Expr::Op(Sign::Rest, _, count) => {
+        Expr::Op(_, Sign::Rest, _, count) => {
             run_by(Some((0, IntegerType::Int)), constant(scope, count))
         }
-        Expr::Op(Sign::Plus, first, more) => match &**more {
-            Expr::Op(Sign::Rest, _, count) => {
+        Expr::Op(_, Sign::Plus, first, more) => match &**more {
+            Expr::Op(_, Sign::Rest, _, count) => {
                 run_by(constant(scope, first), constant(scope, count))
             }
             _ => run_by(constant(scope, index), Some((1, IntegerType::Int))),
@@ -42,12 +42,12 @@ pub fn run(scope: &Scope<'_>, index: &Expr) -> Option<(u64, u64)>
     }
 }
 
-/// No open group combines, by a pointer, over a cell of an array that an index may name.
-pub fn untouched(scope: &Scope<'_>, start: usize, array: Name, index: &Expr) -> Result<(), CFault>
-    ensures { Gives (λ x. x) result (runs.untouched scope.now start array (expr_of index.now)) }
+/// No open group combines, by a pointer, over a cell that an index may name of an array whose name stands where so many words are left.
+pub fn untouched(scope: &Scope<'_>, left: usize, array: Name, index: &Expr) -> Result<(), CFault>
+    ensures { Gives (λ x. x) result (runs.untouched scope.now left array (expr_of index.now)) }
 {
     if scope.is_pointed(array, run(scope, index)) {
-        Err(CFault::Outside(start, Reason::Combined))
+        Err(CFault::Outside(left, Reason::Combined))
     } else {
         Ok(())
     }

@@ -34,15 +34,15 @@ pub fn no_number(sense: Sense) -> Reason
 fn named(
     alloc: Global,
     scope: &Scope<'_>,
-    start: usize,
+    left: usize,
     name: Name,
 ) -> Result<(Value, IntegerType), CFault>
-    ensures { Gives (λ x. (view x.0, x.1)) result (sizes.named scope.now start name) }
+    ensures { Gives (λ x. (view x.0, x.1)) result (sizes.named scope.now left name) }
 {
     match scope.sense(name) {
         Sense::Constant(number, kind) => Ok((Value::from(number), kind)),
         Sense::Turn(kind) => Ok((scope.named(alloc, name)?, kind)),
-        other => Err(CFault::Outside(start, no_number(other))),
+        other => Err(CFault::Outside(left, no_number(other))),
     }
 }
 
@@ -61,46 +61,43 @@ fn size_word(sign: Sign) -> Option<&'static str>
 }
 
 /// The number of a constant.
-fn known(start: usize, number: Option<(u64, IntegerType)>) -> Result<(Value, IntegerType), CFault>
-    ensures { Gives (λ x. (view x.0, x.1)) result (sizes.known start number) }
+fn known(left: usize, number: Option<(u64, IntegerType)>) -> Result<(Value, IntegerType), CFault>
+    ensures { Gives (λ x. (view x.0, x.1)) result (sizes.known left number) }
 {
     match number {
         Some((number, kind)) => Ok((Value::from(number), kind)),
-        None => Err(CFault::Outside(start, Reason::NoSize)),
+        None => Err(CFault::Outside(left, Reason::NoSize)),
     }
 }
 
 /// A size, with the type that it has in C. In the language each part of it is exact, so where it is none in C that its
 /// type holds it is refused there.
 #[tactic(auto, unfolding(crate::specs::Sizes::size))]
-pub fn size(
-    alloc: Global,
-    scope: &Scope<'_>,
-    start: usize,
-    expr: &Expr,
-) -> Result<(Value, IntegerType), CFault>
-    ensures { Gives (λ x. (view x.0, x.1)) result (sizes.size scope.now start (expr_of expr.now)) }
+pub fn size(alloc: Global, scope: &Scope<'_>, expr: &Expr) -> Result<(Value, IntegerType), CFault>
+    ensures { Gives (λ x. (view x.0, x.1)) result (sizes.size scope.now (expr_of expr.now)) }
 {
     match expr {
-        Expr::Number(number, kind) => Ok((Value::from(*number), *kind)),
-        Expr::Variable(name) => named(alloc, scope, start, *name),
-        Expr::Cell(_, _) => Err(CFault::Outside(start, Reason::NoSize)),
+        Expr::Number(_, number, kind) => Ok((Value::from(*number), *kind)),
+        Expr::Variable(left, name) => named(alloc, scope, *left, *name),
+        Expr::Cell(left, _, _) | Expr::Unary(left, _, _) => {
+            Err(CFault::Outside(*left, Reason::NoSize))
+        }
         Expr::Cast(value) => {
-            let (value, _) = size(alloc, scope, start, value)?;
+            let (value, _) = size(alloc, scope, value)?;
             Ok((value, IntegerType::UnsignedLong))
         }
-        Expr::Unary(_, _) | Expr::Call(_, _, _) | Expr::Choice(_, _, _) => {
-            Err(CFault::Outside(start, Reason::NoSize))
+        Expr::Call(left, _, _, _) | Expr::Choice(left, _, _, _) => {
+            Err(CFault::Outside(*left, Reason::NoSize))
         }
-        Expr::Op(sign, one, two) => {
+        Expr::Op(left, sign, one, two) => {
             let Some(word) = size_word(*sign) else {
                 return known(
-                    start,
+                    *left,
                     both(*sign, constant(scope, one), constant(scope, two)),
                 );
             };
-            let (one, one_kind) = size(alloc, scope, start, one)?;
-            let (two, two_kind) = size(alloc, scope, start, two)?;
+            let (one, one_kind) = size(alloc, scope, one)?;
+            let (two, two_kind) = size(alloc, scope, two)?;
             Ok((form2(alloc, word, one, two)?, joined(one_kind, two_kind)))
         }
     }

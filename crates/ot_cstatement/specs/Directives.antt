@@ -115,11 +115,15 @@ has once cs = list_any (λ c. once_of c.role == once) cs
 abbrev pub is_once : Role → List Claim → Bool
 is_once role cs = (once_of role == 0) || not (has (once_of role) cs)
 
--- each clause is one that the directive may have, and those that it has once don't stand again
-abbrev pub all_fit : Directive → List Claim → Bool
-all_fit d [] = true
-all_fit d (c ∷ cs) = fits d c.role && is_once c.role cs && all_fit d cs
+-- where the first clause stands that the directive may not have, or that stands again and may stand once
+abbrev pub misfit : Directive → List Claim → Option ℕ
+misfit d [] = None
+misfit d (c ∷ cs) = if fits d c.role && is_once c.role cs then misfit d cs else Some c.left
 
--- the clauses of a directive that begins where so many words are left
-unfoldable pub own_clauses : Directive → ℕ → List Word → Result (List Claim × List Word) Fault
-own_clauses d left ws = clauses ws >>= λ x. if all_fit d x.0 then Ok x else Err (OtherClause left)
+abbrev pub unless_misfit : List Claim → List Word → Option ℕ → Result (List Claim × List Word) Fault
+unless_misfit cs ws None = Ok (cs, ws)
+unless_misfit cs ws (Some left) = Err (OtherClause left)
+
+-- the clauses of a directive
+unfoldable pub own_clauses : Directive → List Word → Result (List Claim × List Word) Fault
+own_clauses d ws = clauses ws >>= λ x. unless_misfit x.0 x.1 (misfit d x.0)

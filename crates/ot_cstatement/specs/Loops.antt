@@ -84,7 +84,7 @@ step_at wanted ws = this_at wanted ws >>= λ rest. advance_at rest
 -- ---- turns
 
 -- `(uint64_t i = 0;`
-unfoldable pub first_at : List Word → Result (IntegerType × ℕ × E × List Word) Fault
+unfoldable pub first_at : List Word → Result (IntegerType × ℕ × ℕ × E × List Word) Fault
 first_at ws = do
   a ← open_at ws
   kind ← type_at a
@@ -92,7 +92,7 @@ first_at ws = do
   b ← assign_at variable.1
   start ← value b
   rest ← semicolon_at start.1
-  Ok (kind.0, variable.0, start.0, rest)
+  Ok (kind.0, length kind.1, variable.0, start.0, rest)
 
 -- `i < 8; i++)`
 unfoldable pub last_at : ℕ → List Word → Result (Bool × E × List Word) Fault
@@ -109,5 +109,5 @@ last_at variable ws = do
 unfoldable pub course_at : List Word → Result (Course × List Word) Fault
 course_at ws = do
   first ← first_at ws
-  last ← last_at first.1 first.3
-  Ok (record { variable = first.1; kind = first.0; start = first.2; end = last.1; through = last.0 }, last.2)
+  last ← last_at first.2 first.4
+  Ok (record { left = first.1; variable = first.2; kind = first.0; start = first.3; end = last.1; through = last.0 }, last.2)

@@ -1,5 +1,5 @@
 -- Statements without a body: assignments, calls, and what shows cells.
-use Rattle.std.specs.Prelude.{ℕ, Bool, true, false, drop, List, [], ◌∷◌, length, Option, Some, None, Result, Ok, Err}
+use Rattle.std.specs.Prelude.{ℕ, ◌+◌, Bool, true, false, drop, List, [], ◌∷◌, length, Option, Some, None, Result, Ok, Err}
 use Rattle.std.specs.List.{prefix_len}
 use Rattle.ot_words.specs.declared.mark.Mark.{Mark}
 use Rattle.ot_words.specs.declared.mark.Mark.TheVariants as m
@@ -14,7 +14,7 @@ use Rattle.ot_cstatement.specs.declared.fault.Fault.{Fault}
 use Rattle.ot_cstatement.specs.declared.fault.Fault.TheVariants.{NoMark, Declared}
 use Rattle.ot_cstatement.specs.declared.simple.Change.{Change}
 use Rattle.ot_cstatement.specs.declared.simple.Change.TheVariants as c
-use Rattle.ot_cstatement.specs.Tree.{Aim, S, Assign, Call, Print, Show, Point}
+use Rattle.ot_cstatement.specs.Tree.{Aim, Site, S, Assign, Call, Print, Show, Point}
 use Rattle.ot_cstatement.specs.Reading.{◌>>=◌, open_at, close_at, open_index_at, close_index_at, semicolon_at, comma_at, assign_at, address_at, text_at, name_at, index_at, value, values}
 
 abbrev pub One : Type 0
@@ -41,7 +41,7 @@ Changed = Result (Option Sign × E × List Word) Fault
 abbrev pub changed_by : Change → List Word → Changed
 changed_by c.Sets ws = value ws >>= λ x. Ok (None, x.0, x.1)
 changed_by (c.By sign) ws = value ws >>= λ x. Ok (Some sign, x.0, x.1)
-changed_by (c.ByOne sign) ws = Ok (Some sign, Literal 1 t.Int, ws)
+changed_by (c.ByOne sign) ws = Ok (Some sign, Literal (length ws + 1) 1 t.Int, ws)
 
 abbrev pub as_change : List Word → List Word → Option Change → Changed
 as_change ws rest (Some change) = changed_by change rest
@@ -52,12 +52,12 @@ change_at (w.Mark mark ∷ ws) = as_change (w.Mark mark ∷ ws) ws (change_of ma
 change_at ws = Err (NoMark (length ws))
 
 -- behind a name: a cell's place, or nothing
-unfoldable pub target_at : Name → List Word → Result (Aim × List Word) Fault
-target_at a ws = index_at ws >>= λ x. Ok (record { array = a; index = x.0 }, x.1)
+unfoldable pub target_at : ℕ → Name → List Word → Result (Aim × List Word) Fault
+target_at left a ws = index_at ws >>= λ x. Ok (record { left = left; array = a; index = x.0 }, x.1)
 
 unfoldable pub assignment_at : ℕ → Name → List Word → One
 assignment_at left a ws = do
-  target ← target_at a ws
+  target ← target_at left a ws
   change ← change_at target.1
   rest ← semicolon_at change.2
   Ok (Assign left target.0 change.0 change.1, rest)
@@ -104,36 +104,36 @@ print_at left ws = do
   Ok (Print left shown.0, rest)
 
 -- `&a[0]`
-unfoldable pub cell_at : List Word → Result (Name × E × List Word) Fault
+unfoldable pub cell_at : List Word → Result (Site × List Word) Fault
 cell_at ws = do
   a ← address_at ws
   array ← name_at a
   b ← open_index_at array.1
   index ← value b
   rest ← close_index_at index.1
-  Ok (array.0, index.0, rest)
+  Ok (record { left = length a; array = array.0; index = index.0 }, rest)
 
 -- behind `show`
 unfoldable pub show_at : ℕ → List Word → One
 show_at left ws = do
   a ← open_at ws
   cell ← cell_at a
-  b ← comma_at cell.2
+  b ← comma_at cell.1
   count ← value b
   c ← close_at count.1
   rest ← semicolon_at c
-  Ok (Show left cell.0 cell.1 count.0, rest)
+  Ok (Show left cell.0 count.0, rest)
 
 -- behind `uint64_t *`
-unfoldable pub pointer_at : ℕ → List Word → One
-pointer_at left ws = do
+unfoldable pub pointer_at : List Word → One
+pointer_at ws = do
   pointer ← name_at ws
   a ← assign_at pointer.1
   cell ← cell_at a
-  rest ← semicolon_at cell.2
-  Ok (Point left pointer.0 cell.0 cell.1, rest)
+  rest ← semicolon_at cell.1
+  Ok (Point (length ws) pointer.0 cell.0, rest)
 
 -- behind `uint64_t` or `size_t` in a block: a pointer to a cell, and nothing else
 unfoldable pub local_at : ℕ → List Word → One
-local_at left (w.Mark m.Times ∷ ws) = pointer_at left ws
+local_at left (w.Mark m.Times ∷ ws) = pointer_at ws
 local_at left ws = Err (Declared left)

@@ -1,5 +1,5 @@
 -- Statements, from left to right.
-use Rattle.std.specs.Prelude.{ℕ, zero, suc, Bool, true, false, List, [], ◌∷◌, ◌++◌, length, Option, Some, None, Result, Ok, Err, if◌then◌else◌}
+use Rattle.std.specs.Prelude.{ℕ, zero, suc, ◌+◌, ◌-◌, Bool, true, false, List, [], ◌∷◌, ◌++◌, length, Option, Some, None, Result, Ok, Err, if◌then◌else◌}
 use Rattle.ot_words.specs.declared.known.Known.TheVariants as k
 use Rattle.ot_words.specs.declared.mark.Mark.TheVariants as m
 use Rattle.ot_words.specs.declared.word.Name.{Name}
@@ -85,7 +85,7 @@ module _ (one : List Word → One) where
   -- the statements of a block, or the one statement
   unfoldable pub body_at : List Word → Bodied
   body_at (w.Mark m.OpenBlock ∷ ws) = stmts_at ws >>= λ x. Ok (body_of x.0, x.1)
-  body_at ws = if stands_alone ws then Err (NoDirective (length ws)) else one ws >>= λ x. Ok (body_of (x.0 ∷ []), x.1)
+  body_at ws = if stands_alone ws then Err (NoDirective (length ws - 1)) else one ws >>= λ x. Ok (body_of (x.0 ∷ []), x.1)
 
   -- ---- branches and loops
 
@@ -115,15 +115,15 @@ module _ (one : List Word → One) where
 
   -- behind `#pragma omp task`
   unfoldable pub task_at : ℕ → List Word → One
-  task_at left ws = own_clauses d.Task left ws >>= λ x. body_at x.1 >>= λ body. Ok (Task left x.0 body.0, body.1)
+  task_at left ws = own_clauses d.Task ws >>= λ x. body_at x.1 >>= λ body. Ok (Task left x.0 body.0, body.1)
 
   -- behind `#pragma omp taskgroup`
   unfoldable pub group_at : ℕ → List Word → One
-  group_at left ws = own_clauses d.Group left ws >>= λ x. body_at x.1 >>= λ body. Ok (Group left x.0 body.0, body.1)
+  group_at left ws = own_clauses d.Group ws >>= λ x. body_at x.1 >>= λ body. Ok (Group left x.0 body.0, body.1)
 
 -- behind `#pragma omp taskwait`
 unfoldable pub wait_at : ℕ → List Word → One
-wait_at left ws = own_clauses d.Wait left ws >>= λ x. Ok (Wait left x.0, x.1)
+wait_at left ws = own_clauses d.Wait ws >>= λ x. Ok (Wait left x.0, x.1)
 
 -- behind `#pragma omp taskyield`
 unfoldable pub yield_at : ℕ → List Word → One
@@ -135,7 +135,7 @@ module _ (one : List Word → One) where
   directive_by left d.Wait ws = wait_at left ws
   directive_by left d.Group ws = group_at one left ws
   directive_by left d.Yield ws = yield_at left ws
-  directive_by left d.Parallel ws = Err (NoDirective left)
+  directive_by left d.Parallel ws = Err (NoDirective (length ws + 1))
 
   abbrev pub as_directive : ℕ → List Word → List Word → Option Directive → One
   as_directive left ws rest (Some d) = directive_by left d rest

@@ -5,6 +5,7 @@ use Rattle.ot_words.specs.declared.word.Name.{Name}
 use Rattle.ot_cread.specs.declared.sign.Sign.{Sign}
 use Rattle.ot_cread.specs.declared.tree.Expr.{Expr}
 use Rattle.ot_cread.specs.Tree.{E, Claim, expr_of, clauses_of}
+use Rattle.ot_cstatement.specs.declared.tree.Spot.{Spot}
 use Rattle.ot_cstatement.specs.declared.tree.Target.{Target}
 use Rattle.ot_cstatement.specs.declared.tree.Turns.{Turns}
 use Rattle.ot_cstatement.specs.declared.tree.Stmt.{Stmt, fold-Stmt}
@@ -17,16 +18,27 @@ abbrev pub index_of : Option Expr → Option E
 index_of None = None
 index_of (Some e) = Some (expr_of e)
 
--- what is assigned to: a cell of an array, or a variable
+-- what is assigned to: a cell of an array, or a variable, with the number of words that are left where its name stands
 pub record Aim : Type 0 where
+  pub left : ℕ
   pub array : Name
   pub index : Option E
 
 abbrev pub aim_of : Target → Aim
-aim_of t = record { array = t.array; index = index_of t.index }
+aim_of t = record { left = t.left; array = t.array; index = index_of t.index }
+
+-- a cell of an array that an address is taken of, with the number of words that are left where the array's name stands
+pub record Site : Type 0 where
+  pub left : ℕ
+  pub array : Name
+  pub index : E
+
+abbrev pub site_of : Spot → Site
+site_of c = record { left = c.left; array = c.array; index = expr_of c.index }
 
 -- a loop's variable, from the start on, by one, to before the end or through it
 pub record Course : Type 0 where
+  pub left : ℕ
   pub variable : ℕ
   pub kind : IntegerType
   pub start : E
@@ -34,7 +46,7 @@ pub record Course : Type 0 where
   pub through : Bool
 
 abbrev pub course_of : Turns → Course
-course_of t = record { variable = t.variable; kind = t.kind; start = expr_of t.start; end = expr_of t.end; through = t.through }
+course_of t = record { left = t.left; variable = t.variable; kind = t.kind; start = expr_of t.start; end = expr_of t.end; through = t.through }
 
 mutual
   -- a statement, with the number of words that are left where it begins
@@ -49,8 +61,8 @@ mutual
     Yield : ℕ → S
     Call : ℕ → Name → List E → S
     Print : ℕ → List E → S
-    Show : ℕ → Name → E → E → S
-    Point : ℕ → Name → Name → E → S
+    Show : ℕ → Site → E → S
+    Point : ℕ → Name → Site → S
 
   pub data Body : Type 0 where
     End : Body
@@ -71,8 +83,8 @@ stmt_step (Stmt-F.Group n cs b) = Group n (clauses_of cs.items) (body_of b.items
 stmt_step (Stmt-F.Yield n) = Yield n
 stmt_step (Stmt-F.Call n f es) = Call n f (exprs_of es.items)
 stmt_step (Stmt-F.Print n es) = Print n (exprs_of es.items)
-stmt_step (Stmt-F.Show n a i len) = Show n a (expr_of i) (expr_of len)
-stmt_step (Stmt-F.Point n p a i) = Point n p a (expr_of i)
+stmt_step (Stmt-F.Show n c len) = Show n (site_of c) (expr_of len)
+stmt_step (Stmt-F.Point n p c) = Point n p (site_of c)
 
 abbrev pub stmt_of : Stmt → S
 stmt_of = fold-Stmt S stmt_step

@@ -126,32 +126,31 @@ fn is_once(role: Role, clauses: &[Clause]) -> bool
     once == 0 || !has(once, clauses)
 }
 
-fn all_fit(directive: Directive, clauses: &[Clause]) -> bool
-    ensures { result ≡ read.all_fit directive (clauses_of clauses.now) }
+/// Where the first clause stands that a directive may not have, or that stands again.
+fn misfit(directive: Directive, clauses: &[Clause]) -> Option<usize>
+    ensures { result ≡ read.misfit directive (clauses_of clauses.now) }
 {
     for i in 0..clauses.len() {
         let role = clauses[i].role;
         if !fits(directive, role) || !is_once(role, &clauses[i + 1..]) {
-            return false;
+            return Some(clauses[i].left);
         }
     }
-    true
+    None
 }
 
-/// The clauses of a directive that begins where so many words are left.
+/// The clauses of a directive.
 #[tactic(auto, unfolding(crate::specs::Directives::own_clauses))]
 pub fn own_clauses(
     alloc: Global,
     directive: Directive,
-    left: usize,
     words: &[Word],
 ) -> Result<(Vec<Clause>, &[Word]), ReadError>
-    ensures { Gives (λ x. (clauses_of x.0.items, x.1.now)) result (read.own_clauses directive left words.now) }
+    ensures { Gives (λ x. (clauses_of x.0.items, x.1.now)) result (read.own_clauses directive words.now) }
 {
     let (clauses, rest) = clauses(alloc, words)?;
-    if all_fit(directive, &clauses) {
-        Ok((clauses, rest))
-    } else {
-        Err(ReadError::Fault(Fault::OtherClause(left)))
+    match misfit(directive, &clauses) {
+        None => Ok((clauses, rest)),
+        Some(left) => Err(ReadError::Fault(Fault::OtherClause(left))),
     }
 }

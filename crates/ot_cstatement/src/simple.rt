@@ -2,7 +2,7 @@
 ghost use Rattle.std.specs.Prelude.{◌≡◌, ◌≤◌, length};
 ghost use Rattle.ot_cread.specs.Tree.{expr_of};
 ghost use Rattle.ot_cstatement.specs.Reading.{Gives};
-ghost use Rattle.ot_cstatement.specs.Tree.{aim_of, exprs_of, stmt_of};
+ghost use Rattle.ot_cstatement.specs.Tree.{aim_of, exprs_of, site_of, stmt_of};
 ghost use Rattle.ot_cstatement.specs.Simple as read;
 
 use crate::fault::{Fault, ReadError};
@@ -10,7 +10,7 @@ use crate::marks::{
     address, assign, close, close_index, comma, name, open_bracket, open_index, semicolon, text,
 };
 use crate::part::{read_index, value, values};
-use crate::tree::{Stmt, Target};
+use crate::tree::{Spot, Stmt, Target};
 use ot_cread::{Expr, Sign};
 use ot_words::{IntegerType, Mark, Name, Word};
 use std::alloc::Global;
@@ -61,7 +61,10 @@ fn changed(
             let (value, rest) = value(alloc, words)?;
             Ok((Some(sign), value, rest))
         }
-        Change::ByOne(sign) => Ok((Some(sign), Expr::Number(1, IntegerType::Int), words)),
+        Change::ByOne(sign) => {
+            let one = Expr::Number(words.len() + 1, 1, IntegerType::Int);
+            Ok((Some(sign), one, words))
+        }
     }
 }
 
@@ -79,13 +82,18 @@ fn changing(alloc: Global, words: &[Word]) -> Result<(Option<Sign>, Expr, &[Word
     }
 }
 
-/// Behind a name: a cell's place, or nothing.
+/// Behind a name that stands where so many words are left: a cell's place, or nothing.
 #[tactic(auto, unfolding(crate::specs::Simple::target_at))]
-fn target(alloc: Global, array: Name, words: &[Word]) -> Result<(Target, &[Word]), ReadError>
-    ensures { Gives (λ x. (aim_of x.0, x.1.now)) result (read.target_at array words.now) }
+fn target(
+    alloc: Global,
+    left: usize,
+    array: Name,
+    words: &[Word],
+) -> Result<(Target, &[Word]), ReadError>
+    ensures { Gives (λ x. (aim_of x.0, x.1.now)) result (read.target_at left array words.now) }
 {
     let (index, rest) = read_index(alloc, words)?;
-    Ok((Target { array, index }, rest))
+    Ok((Target { left, array, index }, rest))
 }
 
 /// Behind the name that an assignment begins with.
@@ -98,7 +106,7 @@ fn assignment(
 ) -> Result<(Stmt, &[Word]), ReadError>
     ensures { Gives (λ x. (stmt_of x.0, x.1.now)) result (read.assignment_at left array words.now) }
 {
-    let (target, rest) = target(alloc, array, words)?;
+    let (target, rest) = target(alloc, left, array, words)?;
     let (sign, value, rest) = changing(alloc, rest)?;
     let rest = semicolon(rest)?;
     Ok((Stmt::Assign(left, target, sign, value), rest))
@@ -207,15 +215,17 @@ pub(crate) fn print(
 
 /// `&a[0]`
 #[tactic(auto, unfolding(crate::specs::Simple::cell_at))]
-fn cell(alloc: Global, words: &[Word]) -> Result<(Name, Expr, &[Word]), ReadError>
-    ensures { Gives (λ x. (x.0, expr_of x.1, x.2.now)) result (read.cell_at words.now) }
+fn cell(alloc: Global, words: &[Word]) -> Result<(Spot, &[Word]), ReadError>
+    ensures { Gives (λ x. (site_of x.0, x.1.now)) result (read.cell_at words.now) }
 {
     let rest = address(words)?;
+    let left = rest.len();
     let (array, rest) = name(rest)?;
     let rest = open_index(rest)?;
     let (index, rest) = value(alloc, rest)?;
     let rest = close_index(rest)?;
-    Ok((array, index, rest))
+    let cell = Spot { left, array, index };
+    Ok((cell, rest))
 }
 
 /// Behind `show`.
@@ -224,24 +234,25 @@ pub(crate) fn show(alloc: Global, left: usize, words: &[Word]) -> Result<(Stmt, 
     ensures { Gives (λ x. (stmt_of x.0, x.1.now)) result (read.show_at left words.now) }
 {
     let rest = open_bracket(words)?;
-    let (array, start, rest) = cell(alloc, rest)?;
+    let (cell, rest) = cell(alloc, rest)?;
     let rest = comma(rest)?;
     let (count, rest) = value(alloc, rest)?;
     let rest = close(rest)?;
     let rest = semicolon(rest)?;
-    Ok((Stmt::Show(left, array, start, count), rest))
+    Ok((Stmt::Show(left, cell, count), rest))
 }
 
 /// Behind `uint64_t *`.
 #[tactic(auto, unfolding(crate::specs::Simple::pointer_at))]
-fn pointer(alloc: Global, left: usize, words: &[Word]) -> Result<(Stmt, &[Word]), ReadError>
-    ensures { Gives (λ x. (stmt_of x.0, x.1.now)) result (read.pointer_at left words.now) }
+fn pointer(alloc: Global, words: &[Word]) -> Result<(Stmt, &[Word]), ReadError>
+    ensures { Gives (λ x. (stmt_of x.0, x.1.now)) result (read.pointer_at words.now) }
 {
+    let left = words.len();
     let (pointer, rest) = name(words)?;
     let rest = assign(rest)?;
-    let (array, index, rest) = cell(alloc, rest)?;
+    let (cell, rest) = cell(alloc, rest)?;
     let rest = semicolon(rest)?;
-    Ok((Stmt::Point(left, pointer, array, index), rest))
+    Ok((Stmt::Point(left, pointer, cell), rest))
 }
 
 /// Behind `uint64_t` or `size_t` in a block: a pointer to a cell, and nothing else.
@@ -254,7 +265,7 @@ pub(crate) fn local(
     ensures { Gives (λ x. (stmt_of x.0, x.1.now)) result (read.local_at left words.now) }
 {
     match words {
-        [Word::Mark(Mark::Times), rest @ ..] => pointer(alloc, left, rest),
+        [Word::Mark(Mark::Times), rest @ ..] => pointer(alloc, rest),
         _ => Err(ReadError::Fault(Fault::Declared(left))),
     }
 }

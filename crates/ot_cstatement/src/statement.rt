@@ -150,7 +150,7 @@ fn task(
     requires { depth ≤ 48 }
     ensures { Gives (λ x. (stmt_of x.0, x.1.now)) result (read.task_at (statement_at depth) left words.now) }
 {
-    let (clauses, rest) = own_clauses(alloc, Directive::Task, left, words)?;
+    let (clauses, rest) = own_clauses(alloc, Directive::Task, words)?;
     let (body, rest) = body(alloc, depth, rest)?;
     Ok((Stmt::Task(left, clauses, body), rest))
 }
@@ -167,7 +167,7 @@ fn group(
     requires { depth ≤ 48 }
     ensures { Gives (λ x. (stmt_of x.0, x.1.now)) result (read.group_at (statement_at depth) left words.now) }
 {
-    let (clauses, rest) = own_clauses(alloc, Directive::Group, left, words)?;
+    let (clauses, rest) = own_clauses(alloc, Directive::Group, words)?;
     let (body, rest) = body(alloc, depth, rest)?;
     Ok((Stmt::Group(left, clauses, body), rest))
 }
@@ -177,7 +177,7 @@ fn group(
 fn wait(alloc: Global, left: usize, words: &[Word]) -> Result<(Stmt, &[Word]), ReadError>
     ensures { Gives (λ x. (stmt_of x.0, x.1.now)) result (read.wait_at left words.now) }
 {
-    let (clauses, rest) = own_clauses(alloc, Directive::Wait, left, words)?;
+    let (clauses, rest) = own_clauses(alloc, Directive::Wait, words)?;
     Ok((Stmt::Wait(left, clauses), rest))
 }
 
@@ -207,7 +207,7 @@ fn directed(
         Directive::Wait => wait(alloc, left, words),
         Directive::Group => group(alloc, depth, left, words),
         Directive::Yield => give_way(left, words),
-        Directive::Parallel => Err(ReadError::Fault(Fault::NoDirective(left))),
+        Directive::Parallel => Err(ReadError::Fault(Fault::NoDirective(words.len() + 1))),
     }
 }
 
@@ -360,7 +360,8 @@ fn body(alloc: Global, depth: u32, words: &[Word]) -> Result<(Vec<Stmt>, &[Word]
         [Word::Mark(Mark::OpenBlock), rest @ ..] => statements(alloc, depth, rest),
         _ => {
             if stands_alone(words) {
-                return Err(ReadError::Fault(Fault::NoDirective(words.len())));
+                let left = words.len().saturating_sub(1);
+                return Err(ReadError::Fault(Fault::NoDirective(left)));
             }
             let (stmt, rest) = statement(alloc, depth, words)?;
             let mut found = Vec::new(alloc);

@@ -5,13 +5,26 @@ use ot_words::{IntegerType, Name};
 /// What is assigned to: a cell of an array, or a variable, which is an array of one cell.
 #[derive(Debug, Drop)]
 pub struct Target {
+    /// How many words are left where its name stands.
+    pub left: usize,
     pub array: Name,
     pub index: Option<Expr>,
+}
+
+/// A cell of an array that an address is taken of.
+#[derive(Debug, Drop)]
+pub struct Spot {
+    /// How many words are left where the array's name stands.
+    pub left: usize,
+    pub array: Name,
+    pub index: Expr,
 }
 
 /// A loop's turns: its variable, from the start on, by one.
 #[derive(Debug, Drop)]
 pub struct Turns {
+    /// How many words are left where its variable is declared.
+    pub left: usize,
     /// Among the names of the text.
     pub variable: usize,
     pub kind: IntegerType,
@@ -37,8 +50,8 @@ pub enum Stmt {
     Call(usize, Name, Vec<Expr>),
     /// `printf`, with what it prints behind its text.
     Print(usize, Vec<Expr>),
-    /// `show`, with an array, its first cell that is shown, and how many.
-    Show(usize, Name, Expr, Expr),
-    /// A pointer to a cell of an array: its name, the array, and which cell.
-    Point(usize, Name, Name, Expr),
+    /// `show`, with the first cell that is shown, and how many.
+    Show(usize, Spot, Expr),
+    /// A pointer, where its name stands, and the cell to which it points.
+    Point(usize, Name, Spot),
 }

@@ -152,16 +152,20 @@ fn step(wanted: usize, words: &[Word]) -> Result<&[Word], ReadError>
 
 /// `(uint64_t i = 0;`
 #[tactic(auto, unfolding(crate::specs::Loops::first_at))]
-fn first(alloc: Global, words: &[Word]) -> Result<(IntegerType, usize, Expr, &[Word]), ReadError>
-    ensures { Gives (λ x. (x.0, x.1, expr_of x.2, x.3.now)) result (read.first_at words.now) }
+fn first(
+    alloc: Global,
+    words: &[Word],
+) -> Result<(IntegerType, usize, usize, Expr, &[Word]), ReadError>
+    ensures { Gives (λ x. (x.0, x.1, x.2, expr_of x.3, x.4.now)) result (read.first_at words.now) }
 {
     let rest = open_bracket(words)?;
     let (kind, rest) = integer_type(rest)?;
+    let left = rest.len();
     let (variable, rest) = variable(rest)?;
     let rest = assign(rest)?;
     let (start, rest) = value(alloc, rest)?;
     let rest = semicolon(rest)?;
-    Ok((kind, variable, start, rest))
+    Ok((kind, left, variable, start, rest))
 }
 
 /// `i < 8; i++)`
@@ -183,9 +187,10 @@ fn last(alloc: Global, variable: usize, words: &[Word]) -> Result<(bool, Expr, &
 pub(crate) fn turns(alloc: Global, words: &[Word]) -> Result<(Turns, &[Word]), ReadError>
     ensures { Gives (λ x. (course_of x.0, x.1.now)) result (read.course_at words.now) }
 {
-    let (kind, variable, start, rest) = first(alloc, words)?;
+    let (kind, left, variable, start, rest) = first(alloc, words)?;
     let (through, end, rest) = last(alloc, variable, rest)?;
     let turns = Turns {
+        left,
         variable,
         kind,
         start,

@@ -6,4 +6,4 @@ use Rattle.ot_cclause.proofs.clause.all_joining.Given as goal
 
 -- those that are left complete what there is
 abbrev pub invariant-loop-clause : goal.invariant-loop-clause
-invariant-loop-clause l = each (joining_step l.start) (joined_of l.joined) (clauses_of (drop l.clause-index l.clauses)) ≡ all_joining l.start l.fn.scope (clauses_of l.clauses)
+invariant-loop-clause l = each joining_step (joined_of l.joined) (clauses_of (drop l.clause-index l.clauses)) ≡ all_joining l.fn.scope (clauses_of l.clauses)

@@ -6,4 +6,4 @@ use Rattle.ot_cclause.proofs.clause.items.Given as goal
 
 -- those that are left complete what there is
 abbrev pub invariant-loop-item : goal.invariant-loop-item
-invariant-loop-item l = each (item_step l.start l.role (over_of l.over)) (head_of l.heading) (items_of (drop l.item-index l.items)) ≡ each (item_step l.start l.role (over_of l.over)) (head_of l.fn.heading) (items_of l.items)
+invariant-loop-item l = each (item_step l.role (over_of l.over)) (head_of l.heading) (items_of (drop l.item-index l.items)) ≡ each (item_step l.role (over_of l.over)) (head_of l.fn.heading) (items_of l.items)

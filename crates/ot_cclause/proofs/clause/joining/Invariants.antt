@@ -6,4 +6,4 @@ use Rattle.ot_cclause.proofs.clause.joining.Given as goal
 
 -- those that are left complete what there is
 abbrev pub invariant-loop-item : goal.invariant-loop-item
-invariant-loop-item l = each (takes_part l.start l.operation) (joined_of l.joined) (items_of (drop l.item-index l.items)) ≡ each (takes_part l.start l.operation) (joined_of l.fn.joined) (items_of l.items)
+invariant-loop-item l = each (takes_part l.operation) (joined_of l.joined) (items_of (drop l.item-index l.items)) ≡ each (takes_part l.operation) (joined_of l.fn.joined) (items_of l.items)

@@ -9,14 +9,14 @@ pub returns-in_err-heading : goal.returns-in_err-heading
 returns-in_err-heading c =
     let l = c.loop-clause in
     let p = err_from_is_err_and c.from_residual.result c.from_residual.ensures.1 in
-    rw (p.1, p.2) (each_fails (clause_step c.args.start) clause_of c.args.clauses.now l.clause-index c.clause-item.result (head_of l.heading) (each (clause_step c.args.start) (head_of c.args.heading) (clauses_of c.args.clauses.now)) c.in_err-heading.field-0.0 c.loop-clause-test.true c.clause-item.is l.invariant c.in_err-heading.ensures)
+    rw (p.1, p.2) (each_fails clause_step clause_of c.args.clauses.now l.clause-index c.clause-item.result (head_of l.heading) (each clause_step (head_of c.args.heading) (clauses_of c.args.clauses.now)) c.in_err-heading.field-0.0 c.loop-clause-test.true c.clause-item.is l.invariant c.in_err-heading.ensures)
 
 pub loop-clause-preserved : goal.loop-clause-preserved
 loop-clause-preserved c =
     let l = c.loop-clause in
-    each_more (clause_step c.args.start) clause_of c.args.clauses.now l.clause-index c.clause-item.result (head_of l.heading) (head_of c.in_ok-heading.heading) (each (clause_step c.args.start) (head_of c.args.heading) (clauses_of c.args.clauses.now)) c.loop-clause-test.true c.clause-item.is l.invariant c.in_ok-heading.ensures
+    each_more clause_step clause_of c.args.clauses.now l.clause-index c.clause-item.result (head_of l.heading) (head_of c.in_ok-heading.heading) (each clause_step (head_of c.args.heading) (clauses_of c.args.clauses.now)) c.loop-clause-test.true c.clause-item.is l.invariant c.in_ok-heading.ensures
 
 pub returns : goal.returns
 returns c =
     let l = c.loop-clause in
-    each_last (clause_step c.args.start) clause_of c.args.clauses.now l.clause-index (head_of l.heading) (each (clause_step c.args.start) (head_of c.args.heading) (clauses_of c.args.clauses.now)) c.loop-clause-test.false l.invariant
+    each_last clause_step clause_of c.args.clauses.now l.clause-index (head_of l.heading) (each clause_step (head_of c.args.heading) (clauses_of c.args.clauses.now)) c.loop-clause-test.false l.invariant

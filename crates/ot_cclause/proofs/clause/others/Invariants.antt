@@ -6,4 +6,4 @@ use Rattle.ot_cclause.proofs.clause.others.Given as goal
 
 -- those that are left complete what there is
 abbrev pub invariant-loop-clause : goal.invariant-loop-clause
-invariant-loop-clause l = each (clause_step l.start) (head_of l.heading) (clauses_of (drop l.clause-index l.clauses)) ≡ each (clause_step l.start) (head_of l.fn.heading) (clauses_of l.clauses)
+invariant-loop-clause l = each clause_step (head_of l.heading) (clauses_of (drop l.clause-index l.clauses)) ≡ each clause_step (head_of l.fn.heading) (clauses_of l.clauses)

@@ -6,4 +6,4 @@ use Rattle.ot_cdeclare.proofs.arrays.numbers.Given as goal
 
 -- those that are left complete what there is
 abbrev pub invariant-loop-expr : goal.invariant-loop-expr
-invariant-loop-expr l = each (number_step l.scope l.start l.kind) l.cells.items (exprs_of (drop l.expr-index l.exprs)) ≡ numbers l.scope l.start l.kind (exprs_of l.exprs)
+invariant-loop-expr l = each (number_step l.scope l.kind) l.cells.items (exprs_of (drop l.expr-index l.exprs)) ≡ numbers l.scope l.kind (exprs_of l.exprs)

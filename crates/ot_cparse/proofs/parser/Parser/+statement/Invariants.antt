@@ -20,3 +20,6 @@ decreases-counted l = l.depth
 
 abbrev pub decreases-construct : goal.decreases-construct
 decreases-construct l = l.depth
+
+abbrev pub decreases-labelled : goal.decreases-labelled
+decreases-labelled l = l.depth
