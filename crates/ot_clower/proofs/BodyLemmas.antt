@@ -32,7 +32,7 @@ module _ (o : Origin) (a : Around) where
 
   pub body_fails : (ss : List Stmt) (i : ℕ) (x : Stmt) (l : L) (whole : Lowered) (e : CFault) → i < length ss → x ≡ get_or ss i x → body_from o a l (body_of (list_of (drop i ss))) ≡ whole → Fails e (behind l (statement o a (stmt_of x))) → Fails e whole
   body_fails ss i x l whole errors.Memory h at is fails = tt
-  body_fails ss i x l whole (errors.Outside start why) h at is fails = sym is ∙ ap (body_from o a l) (viewed ss i x h at) ∙ one_fails l (stmt_of x) (body_of (list_of (drop (i + 1) ss))) (start, why) fails
+  body_fails ss i x l whole (errors.Outside left why) h at is fails = sym is ∙ ap (body_from o a l) (viewed ss i x h at) ∙ one_fails l (stmt_of x) (body_of (list_of (drop (i + 1) ss))) (left, why) fails
 
   pub body_last : (ss : List Stmt) (i : ℕ) (l : L) (whole : Lowered) → length ss ≤ i → body_from o a l (body_of (list_of (drop i ss))) ≡ whole → whole ≡ Ok l
   body_last ss i l whole past is = sym is ∙ ap (λ xs. body_from o a l (body_of (list_of xs))) (drop_all i ss past) ∙ none_left l

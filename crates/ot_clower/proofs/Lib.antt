@@ -1,3 +1,4 @@
 pub mod BodyLemmas
 pub mod KnownLemmas
+pub mod MainLemmas
 pub mod TurnLemmas

@@ -11,7 +11,6 @@ use Rattle.ot_cscope.specs.Results.{Refusal, Fails}
 use Rattle.ot_cscope.specs.Scopes.{Around, text_of, with_turn}
 use Rattle.ot_cdeclare.specs.Each.{each}
 use Rattle.ot_cdeclare.proofs.EachLemmas.{front}
-use Rattle.ot_cdeclare.specs.Places.{byte_of}
 use Rattle.ot_clower.specs.Lines.{L, Lowered, none}
 use Rattle.ot_clower.specs.Statements.{Origin, Range, behind, bounds, turn}
 use Rattle.ot_clower.specs.Turns.{has_branch, has_branch_one, turn_step, turned, turned_from, turns_of}
@@ -74,7 +73,7 @@ module _ {A : Type 0} (step : A → ℕ → Result A Refusal) where
 
   pub turn_fails : (k end : ℕ) (a : A) (whole : Result A Refusal) (e : CFault) → k < end → each step a (range_with_len k (end - k)) ≡ whole → Fails e (step a k) → Fails e whole
   turn_fails k end a whole errors.Memory below is fails = tt
-  turn_fails k end a whole (errors.Outside start why) below is fails = sym is ∙ ap (each step a) (turns_front k end below) ∙ one_fails a k _ (start, why) fails
+  turn_fails k end a whole (errors.Outside left why) below is fails = sym is ∙ ap (each step a) (turns_front k end below) ∙ one_fails a k _ (left, why) fails
 
   pub turn_last : (k end : ℕ) (a : A) (whole : Result A Refusal) → end ≤ k → each step a (range_with_len k (end - k)) ≡ whole → whole ≡ Ok a
   turn_last k end a whole past is =
@@ -82,11 +81,11 @@ module _ {A : Type 0} (step : A → ℕ → Result A Refusal) where
       sym is ∙ ap (λ n. each step a (range_with_len k n)) none ∙ none_more a
 
 -- a loop whose first turn and end are known is its turns
-pub for_turns : (o : Origin) (v : Bindings) (a around : Around) (s : S) (left at : ℕ) (c : Course) (b : Body) (r : Range) (range : ℕ × ℕ) (name : List ℕ)
-    → s ≡ For left c b → at ≡ byte_of o.starts left → around ≡ with_turn a (turn c true) → name ≡ text_of a.names c.variable → bounds a at c ≡ Ok r → turns_of (has_branch b) v r ≡ Some range
-    → turned o v a s ≡ each (turn_step (length o.starts) at r (λ k. turned_from o ((name, k) ∷ v) around none b)) none (range_with_len range.0 (range.1 - range.0))
+pub for_turns : (o : Origin) (v : Bindings) (a around : Around) (s : S) (left : ℕ) (c : Course) (b : Body) (r : Range) (range : ℕ × ℕ) (name : List ℕ)
+    → s ≡ For left c b → around ≡ with_turn a (turn c true) → name ≡ text_of a.names c.variable → bounds a c ≡ Ok r → turns_of (has_branch b) v r ≡ Some range
+    → turned o v a s ≡ each (turn_step o.words left r (λ k. turned_from o ((name, k) ∷ v) around none b)) none (range_with_len range.0 (range.1 - range.0))
 unfolding turned
-for_turns o v a around s left at c b r range name is at_is around_is name_is bounded known = rw (is, at_is, around_is, name_is, sym at_is, bounded, known) refl
+for_turns o v a around s left c b r range name is around_is name_is bounded known = rw (is, around_is, name_is, bounded, known) refl
 
 -- ---- statements one after another
 
@@ -108,7 +107,7 @@ module _ (o : Origin) (v : Bindings) (a : Around) where
 
   pub body_fails : (ss : List Stmt) (i : ℕ) (x : Stmt) (l : L) (whole : Lowered) (e : CFault) → i < length ss → x ≡ get_or ss i x → turned_from o v a l (body_of (list_of (drop i ss))) ≡ whole → Fails e (behind l (turned o v a (stmt_of x))) → Fails e whole
   body_fails ss i x l whole errors.Memory h at is fails = tt
-  body_fails ss i x l whole (errors.Outside start why) h at is fails = sym is ∙ ap (turned_from o v a l) (viewed ss i x h at) ∙ stmt_fails l (stmt_of x) (body_of (list_of (drop (i + 1) ss))) (start, why) fails
+  body_fails ss i x l whole (errors.Outside left why) h at is fails = sym is ∙ ap (turned_from o v a l) (viewed ss i x h at) ∙ stmt_fails l (stmt_of x) (body_of (list_of (drop (i + 1) ss))) (left, why) fails
 
   pub body_last : (ss : List Stmt) (i : ℕ) (l : L) (whole : Lowered) → length ss ≤ i → turned_from o v a l (body_of (list_of (drop i ss))) ≡ whole → whole ≡ Ok l
   body_last ss i l whole past is = sym is ∙ ap (λ xs. turned_from o v a l (body_of (list_of xs))) (drop_all i ss past) ∙ none_left l

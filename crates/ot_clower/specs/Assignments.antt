@@ -14,6 +14,7 @@ use Rattle.ot_cscope.specs.declared.scope.Pointee.{Pointee}
 use Rattle.ot_cscope.specs.declared.scope.Sense.{Sense}
 use Rattle.ot_cscope.specs.declared.scope.Sense.TheVariants as s
 use Rattle.ot_cscope.specs.Forms.{nat, form}
+use Rattle.ot_cscope.specs.Kinds.{is_word}
 use Rattle.ot_cscope.specs.Results.{Refusal, ◌>>=◌}
 use Rattle.ot_cscope.specs.Scopes.{Around, sense, name_text, array_text}
 use Rattle.ot_cscope.specs.Sizes.{size}
@@ -31,13 +32,13 @@ Stated = Result Data Refusal
 -- a cell of what has so many: a place in an array, or a variable's own cell
 abbrev pub cell_of : Around → ℕ → Name → Option ℕ → Option E → Stated
 cell_of a at x None None = Ok (form (codes "c") (string (name_text a x) ∷ nat 0 ∷ []))
-cell_of a at x (Some n) (Some i) = size a at i >>= λ p. Ok (form (codes "c") (string (name_text a x) ∷ p.0 ∷ []))
+cell_of a at x (Some n) (Some i) = size a i >>= λ p. Ok (form (codes "c") (string (name_text a x) ∷ p.0 ∷ []))
 cell_of a at x None (Some i) = Err (at, why.NoArray)
 cell_of a at x (Some n) None = Err (at, why.WholeArray)
 
 -- the cell itself that a pointer points to
 unfoldable pub is_start : Option E → Bool
-is_start (Some (Literal n k)) = n == 0
+is_start (Some (Literal l n k)) = n == 0
 is_start i = false
 
 abbrev pub pointed_cell : Around → ℕ → Pointee → Option E → Stated
@@ -83,8 +84,8 @@ cell_at a at x p index None = free a at x index >>= λ u. if is_copied a x p ind
 cell_at a at x p index (Some cell) = pointed_cell a at cell index
 
 -- the cell that is assigned to
-abbrev pub cell_aimed : Around → ℕ → Aim → Place → Stated
-cell_aimed a at t p = cell_at a at t.array p t.index p.pointee
+abbrev pub cell_aimed : Around → Aim → Place → Stated
+cell_aimed a t p = cell_at a t.left t.array p t.index p.pointee
 
 -- ---- folds
 
@@ -106,7 +107,7 @@ Folds = Option Operation × Bool
 
 abbrev pub change_by : Around → ℕ → Option Operation → IntegerType → Data → Option Operation → Bool → E → Stated
 change_by a at own k cell None minus e = Err (at, why.OwnCopy)
-change_by a at own k cell (Some op) minus e = if may_fold own op then (changed a at k op minus e >>= λ d. Ok (fold op cell (taken minus d))) else Err (at, why.OwnCopy)
+change_by a at own k cell (Some op) minus e = if may_fold own op then (changed a k op minus e >>= λ d. Ok (fold op cell (taken minus d))) else Err (at, why.OwnCopy)
 
 -- `cell op= value`, of a cell of type k
 abbrev pub change : Around → ℕ → Option Operation → IntegerType → Data → Folds → E → Stated
@@ -114,13 +115,13 @@ change a at own k cell folds e = change_by a at own k cell folds.0 folds.1 e
 
 -- whether two places are the same number, or the same name
 unfoldable pub same_place : E → E → Bool
-same_place (Literal i j) (Literal l m) = i == l
-same_place (Variable (n.Other i)) (Variable (n.Other j)) = i == j
+same_place (Literal l i j) (Literal m k h) = i == k
+same_place (Variable l (n.Other i)) (Variable m (n.Other j)) = i == j
 same_place e f = false
 
 unfoldable pub is_target_by : Name → Option E → E → Bool
-is_target_by (n.Other i) None (Variable (n.Other j)) = i == j
-is_target_by (n.Other i) (Some p) (CellAt (n.Other j) q) = i == j && same_place p q
+is_target_by (n.Other i) None (Variable l (n.Other j)) = i == j
+is_target_by (n.Other i) (Some p) (CellAt l (n.Other j) q) = i == j && same_place p q
 is_target_by x index e = false
 
 -- whether a value is what is assigned to
@@ -129,23 +130,33 @@ is_target t e = is_target_by t.array t.index e
 
 -- `x = x op e`, `x = min(x, e)` or `x = max(x, e)`, where a task has a copy of x of its own
 abbrev pub own_set : Around → ℕ → Operation → IntegerType → Data → Aim → E → Stated
-own_set a at own k cell t (Apply sign e f) = if is_target t e then change a at (Some own) k cell (fold_of sign, is_minus sign) f else Err (at, why.OwnCopy)
-own_set a at own k cell t (Called call e f) = if is_target t e then change a at (Some own) k cell (Some (call_fold call), false) f else Err (at, why.OwnCopy)
-own_set a at own k cell t (Literal n j) = Err (at, why.OwnCopy)
-own_set a at own k cell t (Variable y) = Err (at, why.OwnCopy)
-own_set a at own k cell t (CellAt y i) = Err (at, why.OwnCopy)
+own_set a at own k cell t (Apply l sign e f) = if is_target t e then change a at (Some own) k cell (fold_of sign, is_minus sign) f else Err (at, why.OwnCopy)
+own_set a at own k cell t (Called l call e f) = if is_target t e then change a at (Some own) k cell (Some (call_fold call), false) f else Err (at, why.OwnCopy)
+own_set a at own k cell t (Literal l n j) = Err (at, why.OwnCopy)
+own_set a at own k cell t (Variable l y) = Err (at, why.OwnCopy)
+own_set a at own k cell t (CellAt l y i) = Err (at, why.OwnCopy)
 own_set a at own k cell t (Unsigned e) = Err (at, why.OwnCopy)
-own_set a at own k cell t (Signed sign e) = Err (at, why.OwnCopy)
-own_set a at own k cell t (Choose t0 e f) = Err (at, why.OwnCopy)
+own_set a at own k cell t (Signed l sign e) = Err (at, why.OwnCopy)
+own_set a at own k cell t (Choose l t0 e f) = Err (at, why.OwnCopy)
 
-abbrev pub set : Around → ℕ → IntegerType → Data → E → Stated
-set a at k cell e = assigned a at k e >>= λ d. Ok (form (codes "set") (cell ∷ d ∷ []))
+-- `x = min(x, e)` or `x = max(x, e)` of a `uint64_t`: by which operation e is folded into x
+unfoldable pub called_fold : IntegerType → Aim → E → Option (Operation × E)
+called_fold k t (Called l call e f) = if is_word k && is_target t e then Some (call_fold call, f) else None
+called_fold k t e = None
+
+abbrev pub set_by : Around → IntegerType → Data → Aim → E → Option (Operation × E) → Stated
+set_by a k cell t e None = assigned a k e >>= λ d. Ok (form (codes "set") (cell ∷ d ∷ []))
+set_by a k cell t e (Some x) = change a t.left None k cell (Some x.0, false) x.1
+
+-- `cell = value`, of a cell of type k
+abbrev pub set : Around → IntegerType → Data → Aim → E → Stated
+set a k cell t e = set_by a k cell t e (called_fold k t e)
 
 abbrev pub assignment_by : Around → ℕ → Option Operation → IntegerType → Data → Aim → Option Sign → E → Stated
 assignment_by a at own k cell t (Some sign) e = change a at own k cell (fold_of sign, is_minus sign) e
-assignment_by a at None k cell t None e = set a at k cell e
+assignment_by a at None k cell t None e = set a k cell t e
 assignment_by a at (Some own) k cell t None e = own_set a at own k cell t e
 
 -- an assignment
-abbrev pub assignment : Around → ℕ → Aim → Option Sign → E → Stated
-assignment a at t sign e = aimed at (sense a t.array) >>= λ p. cell_aimed a at t p >>= λ cell. assignment_by a at p.own p.kind cell t sign e
+abbrev pub assignment : Around → Aim → Option Sign → E → Stated
+assignment a t sign e = aimed t.left (sense a t.array) >>= λ p. cell_aimed a t p >>= λ cell. assignment_by a t.left p.own p.kind cell t sign e

@@ -1,6 +1,6 @@
 -- A greatest or least number that an `if` keeps. Where a task has a copy of x of its own, `if (x < e) x = e;` is
 -- `x = max(x, e);`, and `if (x > e) x = e;` is `x = min(x, e);`.
-use Rattle.std.specs.Prelude.{ℕ, Bool, false, ◌&&◌, Option, Some, None, option_and_then, if◌then◌else◌}
+use Rattle.std.specs.Prelude.{Bool, false, ◌&&◌, Option, Some, None, option_and_then, if◌then◌else◌}
 use Rattle.ot_cread.specs.declared.sign.Sign.TheVariants as s
 use Rattle.ot_cread.specs.declared.tree.Operation.{Operation}
 use Rattle.ot_cread.specs.declared.tree.Operation.TheVariants as o
@@ -34,8 +34,8 @@ kept_below t one other e =
 
 -- `if (test) t = e;`, of which `x > y` is `y < x`
 unfoldable pub kept_by : E → Aim → E → Option Kept
-kept_by (Apply s.Less x y) t e = kept_below t x y e
-kept_by (Apply s.More x y) t e = kept_below t y x e
+kept_by (Apply l s.Less x y) t e = kept_below t x y e
+kept_by (Apply l s.More x y) t e = kept_below t y x e
 kept_by test t e = None
 
 -- whether a task has a copy of its own
@@ -74,5 +74,5 @@ abbrev pub kept_if : Around → E → Body → Body → Option Kept
 kept_if a test b c = kept_set a test (only_set b c)
 
 -- the fold
-abbrev pub folded : Around → ℕ → Kept → Stated
-folded a at k = aimed at (sense a k.aim.array) >>= λ p. cell_aimed a at k.aim p >>= λ cell. change a at p.own p.kind cell (Some k.operation, false) k.value
+abbrev pub folded : Around → Kept → Stated
+folded a k = aimed k.aim.left (sense a k.aim.array) >>= λ p. cell_aimed a k.aim p >>= λ cell. change a k.aim.left p.own p.kind cell (Some k.operation, false) k.value

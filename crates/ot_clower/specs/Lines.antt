@@ -7,12 +7,12 @@ use Rattle.ot_cscope.specs.Results.{Refusal}
 use Rattle.ot_cclause.specs.declared.own.Taking.{Taking}
 use Rattle.ot_clower.specs.declared.lines.Lines.{Lines}
 
--- how a task takes part in a reduction, and the byte at which it begins
+-- how a task takes part in a reduction, and how many words are left where it begins
 abbrev pub Took : Type 0
 Took = ℕ × Taking
 
--- statements, and the byte at which each of them and of those in their bodies begins, a statement before those in its
--- bodies; and in the same order how the tasks among them take part in reductions, one by one
+-- statements, and how many words are left where each of them and of those in their bodies begins, a statement before those in
+-- its bodies; and in the same order how the tasks among them take part in reductions, one by one
 pub record L : Type 0 where
   pub texts : List Data
   pub places : List ℕ
@@ -24,7 +24,7 @@ lines_of l = record { texts = map view l.statements.items; places = l.places.ite
 abbrev pub none : L
 none = record { texts = []; places = []; taking = [] }
 
--- a statement that has those of these bytes in its bodies
+-- a statement that begins there, and has those that begin at these places in its bodies
 abbrev pub one : ℕ → Data → List ℕ → L
 one at d within = record { texts = d ∷ []; places = at ∷ within; taking = [] }
 

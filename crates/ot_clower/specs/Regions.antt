@@ -1,6 +1,6 @@
 -- Parallel regions, of which one thread does what stands in them: groups over nothing, since all tasks have ended at their ends
--- (OpenMP API 5.2, section 15.3.2).
-use Rattle.std.specs.Prelude.{ℕ, nat_lt, Bool, true, false, List, [], ◌∷◌, length, map, Option, Some, None, Ok, Err, slice_get, slice_set, String, if◌then◌else◌}
+-- (OpenMP API 5.2, section 15.3.2). The end of the last one orders nothing: so that one is a group only where it has taskgroups.
+use Rattle.std.specs.Prelude.{ℕ, nat_lt, Bool, true, false, not, ◌&&◌, ◌||◌, List, [], ◌∷◌, length, map, Option, Some, None, Ok, Err, slice_get, slice_set, String, if◌then◌else◌}
 use Rattle.std.specs.List.{list_any}
 use Rattle.std.specs.declared.alloc.Global.{Global}
 use Rattle.ot_words.specs.declared.word.Name.{Name}
@@ -9,7 +9,7 @@ use Rattle.ot_cread.specs.declared.tree.Operation.TheVariants as op
 use Rattle.ot_cread.specs.declared.tree.Role.{Role}
 use Rattle.ot_cread.specs.declared.tree.Role.TheVariants as r
 use Rattle.ot_cread.specs.Tree.{Entry, Claim}
-use Rattle.ot_cstatement.specs.Tree.{Body}
+use Rattle.ot_cstatement.specs.Tree.{S, Block, Assign, If, For, Task, Wait, Group, Yield, Call, Print, Show, Point, Body, End, Next}
 use Rattle.ot_cscope.specs.declared.reason.Reason.{Reason}
 use Rattle.ot_cscope.specs.declared.reason.Reason.TheVariants as why
 use Rattle.ot_cscope.specs.declared.scope.Meaning.{Meaning}
@@ -17,8 +17,8 @@ use Rattle.ot_cscope.specs.declared.scope.Meaning.TheVariants as m
 use Rattle.ot_cscope.specs.Results.{◌>>=◌}
 use Rattle.ot_cclause.specs.Clauses.{heading}
 use Rattle.ot_cdeclare.specs.Arrays.{outside}
-use Rattle.ot_clower.specs.Lines.{Lowered}
-use Rattle.ot_clower.specs.Statements.{Origin, group}
+use Rattle.ot_clower.specs.Lines.{L, Lowered}
+use Rattle.ot_clower.specs.Statements.{Origin, name_at, group}
 use Rattle.ot_clower.specs.Turns.{written_body}
 
 abbrev pub Names : Type 0
@@ -85,6 +85,32 @@ within_by names o meanings cs b = if are_strict cs then strictly (within names o
 
 abbrev pub region : Names → Origin → List Meaning → ℕ → List Claim → Body → Lowered
 region names o meanings at cs b =
-    heading at (outside names meanings true) cs >>= λ h.
-    within_by names o meanings cs b >>= λ x.
-    Ok (group at op.Plus [] x)
+    heading (name_at at) (outside names meanings true) cs >>= λ h.
+    within_by names o meanings cs b
+
+-- ---- the end of a region
+
+-- Whether a taskgroup may stand in a statement, in a body, outside of the tasks in it: in its text, or in a function that it calls.
+abbrev mutual
+  pub has_group_one : S → Bool
+  has_group_one (Block left b) = has_group b
+  has_group_one (Assign left t sign e) = false
+  has_group_one (If left test b c) = has_group b || has_group c
+  has_group_one (For left c b) = has_group b
+  has_group_one (Task left cs b) = false
+  has_group_one (Wait left cs) = false
+  has_group_one (Group left cs b) = true
+  has_group_one (Yield left) = false
+  has_group_one (Call left f es) = true
+  has_group_one (Print left es) = false
+  has_group_one (Show left c n) = false
+  has_group_one (Point left p c) = false
+
+  pub has_group : Body → Bool
+  has_group End = false
+  has_group (Next s rest) = has_group_one s || has_group rest
+
+-- What becomes of a region that this stands in, which is the last of the program or isn't. A group of the program's own body stands
+-- for a region, whose tasks are no siblings of others: so a region in which a taskgroup may stand is a group even if it is the last.
+abbrev pub ended : ℕ → Bool → Body → L → L
+ended at last b x = if last && not (has_group b) then x else group at op.Plus [] x

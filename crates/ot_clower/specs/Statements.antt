@@ -1,5 +1,5 @@
 -- Statements.
-use Rattle.std.specs.Prelude.{ℕ, Bool, true, false, List, [], ◌∷◌, ◌++◌, map, Option, Some, None, Result, Ok, Err, slice_get, codes, if◌then◌else◌}
+use Rattle.std.specs.Prelude.{ℕ, ◌-◌, Bool, true, false, List, [], ◌∷◌, ◌++◌, map, Option, Some, None, Result, Ok, Err, slice_get, codes, if◌then◌else◌}
 use Rattle.serde_json.specs.Data.{Data, string}
 use Rattle.serde_json.specs.View.{view}
 use Rattle.ot_words.specs.declared.word.IntegerType.{IntegerType}
@@ -8,8 +8,8 @@ use Rattle.ot_words.specs.declared.word.Name.{Name}
 use Rattle.ot_program.specs.Meanings.{is_name}
 use Rattle.ot_cread.specs.declared.sign.Sign.{Sign}
 use Rattle.ot_cread.specs.declared.tree.Operation.{Operation}
-use Rattle.ot_cread.specs.Tree.{E, Claim}
-use Rattle.ot_cstatement.specs.Tree.{Aim, Course, S, Block, Assign, If, For, Task, Wait, Group, Yield, Call, Print, Show, Point, Body, End, Next}
+use Rattle.ot_cread.specs.Tree.{E, Claim, left_of}
+use Rattle.ot_cstatement.specs.Tree.{Aim, Course, Site, S, Block, Assign, If, For, Task, Wait, Group, Yield, Call, Print, Show, Point, Body, End, Next}
 use Rattle.ot_cscope.specs.declared.reason.Reason.TheVariants as why
 use Rattle.ot_cscope.specs.declared.scope.Sense.{Sense}
 use Rattle.ot_cscope.specs.declared.scope.Sense.TheVariants as means
@@ -26,7 +26,6 @@ use Rattle.ot_clower.specs.declared.statements.Became.TheVariants as got
 use Rattle.ot_clower.specs.declared.statements.Called.{Called}
 use Rattle.ot_clower.specs.declared.statements.Loops.{Loops}
 use Rattle.ot_clower.specs.declared.statements.Source.{Source}
-use Rattle.ot_cdeclare.specs.Places.{byte_of}
 use Rattle.ot_clower.specs.Assignments.{assignment}
 use Rattle.ot_clower.specs.Extremes.{Kept, kept_if, folded}
 use Rattle.ot_cclause.specs.Clauses.{Head, heading, group_operation}
@@ -47,14 +46,14 @@ pub record Twice : Type 0 where
 abbrev pub called_of : Called → Twice
 called_of c = record { inside = became_of c.inside; outside = became_of c.outside }
 
--- where words begin, what functions are, by their numbers, and how loops are written
+-- how many words the file has, what functions are, by their numbers, and how loops are written
 pub record Origin : Type 0 where
-  pub starts : List ℕ
+  pub words : ℕ
   pub functions : List Twice
   pub loops : Loops
 
 abbrev pub source_of : Source → Origin
-source_of x = record { starts = x.starts.now; functions = map called_of x.functions.now; loops = x.loops }
+source_of x = record { words = x.words; functions = map called_of x.functions.now; loops = x.loops }
 
 abbrev pub behind : L → Lowered → Lowered
 behind lines more = more >>= λ l. joined lines l
@@ -63,7 +62,7 @@ behind lines more = more >>= λ l. joined lines l
 
 -- a value is read, and nothing else is done
 abbrev pub read : Around → ℕ → E → Lowered
-read a at e = value a at e >>= λ v. Ok (one at (form (codes "if") (v.text ∷ listed [] ∷ listed [] ∷ [])) [])
+read a at e = value a e >>= λ v. Ok (one at (form (codes "if") (v.text ∷ listed [] ∷ listed [] ∷ [])) [])
 
 abbrev pub read_step : Around → ℕ → L → E → Lowered
 read_step a at lines e = behind lines (read a at e)
@@ -71,6 +70,10 @@ read_step a at lines e = behind lines (read a at e)
 -- values that are printed are read, one after another
 abbrev pub print : Around → ℕ → List E → Lowered
 print a at es = each (read_step a at) none es
+
+-- where the name of a directive stands that begins there, with the one word `#pragma omp`
+abbrev pub name_at : ℕ → ℕ
+name_at left = left - 1
 
 -- tasks, waits and groups stand in a parallel region
 abbrev pub region_at : Around → ℕ → Result (Unit {0}) Refusal
@@ -80,7 +83,7 @@ abbrev pub wait_for_all : ℕ → Lowered
 wait_for_all at = Ok (one at (form (codes "wait") []) [])
 
 abbrev pub wait_for : Around → ℕ → List Claim → Lowered
-wait_for a at cs = heading at a cs >>= λ h. Ok (one at (form (codes "wait") (listed h.clauses ∷ [])) [])
+wait_for a at cs = heading (name_at at) a cs >>= λ h. Ok (one at (form (codes "wait") (listed h.clauses ∷ [])) [])
 
 abbrev pub waits : Around → ℕ → List Claim → Lowered
 waits a at [] = wait_for_all at
@@ -88,7 +91,7 @@ waits a at (c ∷ cs) = wait_for a at (c ∷ cs)
 
 -- a wait, with clauses or without (OpenMP API 5.2, section 15.5)
 abbrev pub wait : Around → ℕ → List Claim → Lowered
-wait a at cs = region_at a at >>= λ x. waits a at cs
+wait a at cs = region_at a (name_at at) >>= λ x. waits a at cs
 
 -- cells of an array, to which `show` has a pointer: they are of type `uint64_t`
 abbrev pub shown_by : ℕ → Sense → Lowered
@@ -103,8 +106,8 @@ shown_by at (means.Pointer x p) = Err (at, why.Pointer)
 shown_by at (means.Function i) = Err (at, why.Function)
 
 -- cells that are shown outside of regions: all are, whatever is called for
-abbrev pub show : Around → ℕ → Name → Lowered
-show a at x = if a.inside then Err (at, why.Function) else shown_by at (sense a x)
+abbrev pub show : Around → ℕ → Site → Lowered
+show a at c = if a.inside then Err (at, why.Function) else shown_by c.left (sense a c.array)
 
 -- ---- calls
 
@@ -159,15 +162,15 @@ bounds_of b = record { name = view b.name; first = view b.first; end = view b.en
 abbrev pub turn : Course → Bool → Turn
 turn c begun = record { variable = c.variable; kind = c.kind; begun = begun }
 
-abbrev pub range_by : Around → ℕ → Course → Data × IntegerType → Data → Result Range Refusal
-range_by a at c first end = if may_begin c.kind first.1 then Ok (record { name = string (text_of a.names c.variable); first = first.0; end = end_of c.through end }) else Err (at, why.Narrow)
+abbrev pub range_by : Around → Course → Data × IntegerType → Data → Result Range Refusal
+range_by a c first end = if may_begin c.kind first.1 then Ok (record { name = string (text_of a.names c.variable); first = first.0; end = end_of c.through end }) else Err (left_of c.start, why.Narrow)
 
 -- both bounds are computed outside of the loop, and don't name its variable
-abbrev pub sizes : Around → Around → ℕ → Course → Result Range Refusal
-sizes a inner at c = size inner at c.start >>= λ f. size inner at c.end >>= λ e. range_by a at c f e.0
+abbrev pub sizes : Around → Around → Course → Result Range Refusal
+sizes a inner c = size inner c.start >>= λ f. size inner c.end >>= λ e. range_by a c f e.0
 
-abbrev pub bounds : Around → ℕ → Course → Result Range Refusal
-bounds a at c = if is_name (text_of a.names c.variable) then sizes a (with_turn a (turn c false)) at c else Err (at, why.NoName)
+abbrev pub bounds : Around → Course → Result Range Refusal
+bounds a c = if is_name (text_of a.names c.variable) then sizes a (with_turn a (turn c false)) c else Err (c.left, why.NoName)
 
 -- ---- statements with bodies
 
@@ -179,7 +182,7 @@ repeated at r x = one_with at (form (codes "for") (r.name ∷ r.first ∷ r.end 
 
 -- what the clauses of a task say (OpenMP API 5.2, section 12.5)
 abbrev pub task_head : Around → ℕ → List Claim → Result Head Refusal
-task_head a at cs = region_at a at >>= λ u. heading at (within_task a) cs
+task_head a at cs = region_at a (name_at at) >>= λ u. heading (name_at at) (within_task a) cs
 
 -- a task that takes part in reductions so
 abbrev pub task : ℕ → List Data → List Taking → L → L
@@ -187,39 +190,39 @@ task at clauses taking x = one_with at (form (codes "task") (listed clauses ∷ 
 
 -- by which operation a group combines, and what its clauses say (OpenMP API 5.2, section 15.4)
 abbrev pub group_head : Around → ℕ → List Claim → Result (Operation × Head) Refusal
-group_head a at cs = region_at a at >>= λ u. group_operation at cs >>= λ op. heading at a cs >>= λ h. Ok (op, h)
+group_head a at cs = region_at a (name_at at) >>= λ u. group_operation cs >>= λ op. heading (name_at at) a cs >>= λ h. Ok (op, h)
 
 abbrev pub group : ℕ → Operation → List Data → L → L
 group at op sections x = one_with at (form (codes "group") (string (operation_word op) ∷ listed sections ∷ listed x.texts ∷ [])) x.places x.taking
 
 abbrev pub assigned : Around → ℕ → Aim → Option Sign → E → Lowered
-assigned a at t sign e = assignment a at t sign e >>= λ d. Ok (one at d [])
+assigned a at t sign e = assignment a t sign e >>= λ d. Ok (one at d [])
 
 -- what an `if` keeps in a task's own copy is folded into it
 abbrev pub kept : Around → ℕ → Kept → Lowered
-kept a at k = folded a at k >>= λ d. Ok (one at d [])
+kept a at k = folded a k >>= λ d. Ok (one at d [])
 
 -- an `if`, whose bodies become these unless it keeps something
 abbrev pub branched : Around → ℕ → E → Option Kept → Lowered → Lowered → Lowered
 branched a at test (Some k) b c = kept a at k
-branched a at test None b c = value a at test >>= λ v. b >>= λ x. c >>= λ y. Ok (branch at v.text x y)
+branched a at test None b c = value a test >>= λ v. b >>= λ x. c >>= λ y. Ok (branch at v.text x y)
 
 -- ---- statements
 
 unfoldable mutual
   pub statement : Origin → Around → S → Lowered
   statement o a (Block left b) = body_from o a none b
-  statement o a (Assign left t sign e) = assigned a (byte_of o.starts left) t sign e
-  statement o a (If left test b c) = branched a (byte_of o.starts left) test (kept_if a test b c) (body_from o a none b) (body_from o a none c)
-  statement o a (For left c b) = bounds a (byte_of o.starts left) c >>= λ r. body_from o (with_turn a (turn c true)) none b >>= λ x. Ok (repeated (byte_of o.starts left) r x)
-  statement o a (Task left cs b) = task_head a (byte_of o.starts left) cs >>= λ h. body_from o h.around none b >>= λ x. Ok (task (byte_of o.starts left) h.clauses h.taking x)
-  statement o a (Wait left cs) = wait a (byte_of o.starts left) cs
-  statement o a (Group left cs b) = group_head a (byte_of o.starts left) cs >>= λ g. body_from o g.1.around none b >>= λ x. Ok (group (byte_of o.starts left) g.0 g.1.clauses x)
+  statement o a (Assign left t sign e) = assigned a left t sign e
+  statement o a (If left test b c) = branched a left test (kept_if a test b c) (body_from o a none b) (body_from o a none c)
+  statement o a (For left c b) = bounds a c >>= λ r. body_from o (with_turn a (turn c true)) none b >>= λ x. Ok (repeated left r x)
+  statement o a (Task left cs b) = task_head a left cs >>= λ h. body_from o h.around none b >>= λ x. Ok (task left h.clauses h.taking x)
+  statement o a (Wait left cs) = wait a left cs
+  statement o a (Group left cs b) = group_head a left cs >>= λ g. body_from o g.1.around none b >>= λ x. Ok (group left g.0 g.1.clauses x)
   statement o a (Yield left) = Ok none
-  statement o a (Call left f es) = call o.functions a (byte_of o.starts left) f es
-  statement o a (Print left es) = print a (byte_of o.starts left) es
-  statement o a (Show left x i n) = show a (byte_of o.starts left) x
-  statement o a (Point left p x i) = Ok none
+  statement o a (Call left f es) = call o.functions a left f es
+  statement o a (Print left es) = print a left es
+  statement o a (Show left c n) = show a left c
+  statement o a (Point left p c) = Ok none
 
   -- statements behind others
   pub body_from : Origin → Around → L → Body → Lowered

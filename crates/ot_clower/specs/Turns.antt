@@ -15,7 +15,6 @@ use Rattle.ot_cscope.specs.Results.{◌>>=◌}
 use Rattle.ot_cscope.specs.Scopes.{Around, text_of, with_turn}
 use Rattle.ot_cmeaning.specs.Values.{value}
 use Rattle.ot_cdeclare.specs.Each.{each}
-use Rattle.ot_cdeclare.specs.Places.{byte_of}
 use Rattle.ot_clower.specs.declared.statements.Loops.{Loops}
 use Rattle.ot_clower.specs.declared.statements.Loops.TheVariants.{AsTheyStand, ByTurns}
 use Rattle.ot_clower.specs.Extremes.{Kept, kept_if}
@@ -56,8 +55,8 @@ unfoldable mutual
   has_branch_one (Yield left) = false
   has_branch_one (Call left f es) = false
   has_branch_one (Print left es) = false
-  has_branch_one (Show left x i n) = false
-  has_branch_one (Point left p x i) = false
+  has_branch_one (Show left c n) = false
+  has_branch_one (Point left p c) = false
 
   pub has_branch : Body → Bool
   has_branch End = false
@@ -111,26 +110,26 @@ parted_by at test n b c = unless_left (leaves_first n) b >>= λ x. unless_left (
 -- an `if`, of which only the body that it takes is there, where its condition is known
 abbrev pub parted : Bindings → Around → ℕ → E → Option Kept → Lowered → Lowered → Lowered
 parted v a at test (Some k) b c = kept a at k
-parted v a at test None b c = value a at test >>= λ x. parted_by at x.text (known v x.text) b c
+parted v a at test None b c = value a test >>= λ x. parted_by at x.text (known v x.text) b c
 
 unfoldable mutual
   -- a statement where variables have these numbers
   pub turned : Origin → Bindings → Around → S → Lowered
   turned o v a (Block left b) = turned_from o v a none b
-  turned o v a (If left test b c) = parted v a (byte_of o.starts left) test (kept_if a test b c) (turned_from o v a none b) (turned_from o v a none c)
+  turned o v a (If left test b c) = parted v a left test (kept_if a test b c) (turned_from o v a none b) (turned_from o v a none c)
   turned o v a (For left c b) =
-      bounds a (byte_of o.starts left) c >>= λ r.
-      looped (length o.starts) (byte_of o.starts left) r (body_from o (with_turn a (turn c true)) none b)
+      bounds a c >>= λ r.
+      looped o.words left r (body_from o (with_turn a (turn c true)) none b)
       (λ k. turned_from o ((text_of a.names c.variable, k) ∷ v) (with_turn a (turn c true)) none b) (turns_of (has_branch b) v r)
-  turned o v a (Task left cs b) = task_head a (byte_of o.starts left) cs >>= λ h. turned_from o v h.around none b >>= λ x. Ok (task (byte_of o.starts left) h.clauses h.taking x)
-  turned o v a (Group left cs b) = group_head a (byte_of o.starts left) cs >>= λ g. turned_from o v g.1.around none b >>= λ x. Ok (group (byte_of o.starts left) g.0 g.1.clauses x)
+  turned o v a (Task left cs b) = task_head a left cs >>= λ h. turned_from o v h.around none b >>= λ x. Ok (task left h.clauses h.taking x)
+  turned o v a (Group left cs b) = group_head a left cs >>= λ g. turned_from o v g.1.around none b >>= λ x. Ok (group left g.0 g.1.clauses x)
   turned o v a (Assign left t sign e) = statement o a (Assign left t sign e)
   turned o v a (Wait left cs) = statement o a (Wait left cs)
   turned o v a (Yield left) = statement o a (Yield left)
   turned o v a (Call left f es) = statement o a (Call left f es)
   turned o v a (Print left es) = statement o a (Print left es)
-  turned o v a (Show left x i n) = statement o a (Show left x i n)
-  turned o v a (Point left p x i) = statement o a (Point left p x i)
+  turned o v a (Show left c n) = statement o a (Show left c n)
+  turned o v a (Point left p c) = statement o a (Point left p c)
 
   -- statements behind others
   pub turned_from : Origin → Bindings → Around → L → Body → Lowered

@@ -1,5 +1,5 @@
 //! Assignments.
-ghost use Rattle.std.specs.Prelude.{◌≡◌};
+ghost use Rattle.std.specs.Prelude.{◌≡◌, option_map};
 ghost use Rattle.serde_json.specs.View.{view};
 ghost use Rattle.ot_cread.specs.Tree.{expr_of};
 ghost use Rattle.ot_cstatement.specs.Tree.{aim_of, index_of};
@@ -10,6 +10,7 @@ ghost use Rattle.ot_clower.specs.Assignments as meant;
 use ot_cclause::{call_fold, fold_of, has_copy, is_minus, is_same, no_cells, operation_word};
 use ot_cmeaning::{assigned, changed};
 use ot_cread::{Expr, Operation, Sign};
+use ot_cscope::kind::is_word;
 use ot_cscope::{CFault, Pointee, Reason, Scope, Sense, json, size, untouched};
 use ot_cstatement::Target;
 use ot_words::{IntegerType, Name};
@@ -20,22 +21,22 @@ use std::alloc::Global;
 fn cell_of(
     alloc: Global,
     scope: &Scope<'_>,
-    start: usize,
+    left: usize,
     array: Name,
     length: Option<usize>,
     index: &Option<Expr>,
 ) -> Result<Value, CFault>
-    ensures { Gives (λ v. view v) result (meant.cell_of scope.now start array length (index_of index.now)) }
+    ensures { Gives (λ v. view v) result (meant.cell_of scope.now left array length (index_of index.now)) }
 {
     let name = scope.named(alloc, array)?;
     match (length, index) {
         (None, None) => Ok(json::form2(alloc, "c", name, Value::from(0u64))?),
         (Some(_), Some(index)) => {
-            let (index, _) = size(alloc, scope, start, index)?;
+            let (index, _) = size(alloc, scope, index)?;
             Ok(json::form2(alloc, "c", name, index)?)
         }
-        (None, Some(_)) => Err(CFault::Outside(start, Reason::NoArray)),
-        (Some(_), None) => Err(CFault::Outside(start, Reason::WholeArray)),
+        (None, Some(_)) => Err(CFault::Outside(left, Reason::NoArray)),
+        (Some(_), None) => Err(CFault::Outside(left, Reason::WholeArray)),
     }
 }
 
@@ -45,7 +46,7 @@ fn is_start(index: &Option<Expr>) -> bool
     ensures { result ≡ meant.is_start (index_of index.now) }
 {
     match index {
-        Some(Expr::Number(number, _)) => *number == 0,
+        Some(Expr::Number(_, number, _)) => *number == 0,
         _ => false,
     }
 }
@@ -53,14 +54,14 @@ fn is_start(index: &Option<Expr>) -> bool
 fn pointed_cell(
     alloc: Global,
     scope: &Scope<'_>,
-    start: usize,
+    left: usize,
     cell: Pointee,
     index: &Option<Expr>,
 ) -> Result<Value, CFault>
-    ensures { Gives (λ v. view v) result (meant.pointed_cell scope.now start cell (index_of index.now)) }
+    ensures { Gives (λ v. view v) result (meant.pointed_cell scope.now left cell (index_of index.now)) }
 {
     if !is_start(index) {
-        return Err(CFault::Outside(start, Reason::Pointee));
+        return Err(CFault::Outside(left, Reason::Pointee));
     }
     let name = scope.named(alloc, Name::Other(cell.array))?;
     Ok(json::form2(alloc, "c", name, Value::from(cell.place))?)
@@ -76,8 +77,8 @@ pub(crate) struct Placed {
     pub(crate) own: Option<Operation>,
 }
 
-pub(crate) fn aimed(start: usize, sense: Sense) -> Result<Placed, CFault>
-    ensures { Gives place_of result (meant.aimed start sense) }
+pub(crate) fn aimed(left: usize, sense: Sense) -> Result<Placed, CFault>
+    ensures { Gives place_of result (meant.aimed left sense) }
 {
     match sense {
         Sense::Cells(kind, length) => {
@@ -97,19 +98,19 @@ pub(crate) fn aimed(start: usize, sense: Sense) -> Result<Placed, CFault>
                     own: Some(opening.operation),
                 })
             } else {
-                Err(CFault::Outside(start, Reason::Combined))
+                Err(CFault::Outside(left, Reason::Combined))
             }
         }
-        other => Err(CFault::Outside(start, no_cells(other))),
+        other => Err(CFault::Outside(left, no_cells(other))),
     }
 }
 
 /// No open group combines by a pointer over an array's cell that is assigned to.
-fn free(scope: &Scope<'_>, start: usize, array: Name, index: &Option<Expr>) -> Result<(), CFault>
-    ensures { Gives (λ x. x) result (meant.free scope.now start array (index_of index.now)) }
+fn free(scope: &Scope<'_>, left: usize, array: Name, index: &Option<Expr>) -> Result<(), CFault>
+    ensures { Gives (λ x. x) result (meant.free scope.now left array (index_of index.now)) }
 {
     match index {
-        Some(index) => untouched(scope, start, array, index),
+        Some(index) => untouched(scope, left, array, index),
         None => Ok(()),
     }
 }
@@ -128,22 +129,22 @@ fn is_copied(scope: &Scope<'_>, array: Name, placed: Placed, index: &Option<Expr
 pub(crate) fn cell_aimed(
     alloc: Global,
     scope: &Scope<'_>,
-    start: usize,
     target: &Target,
     placed: Placed,
 ) -> Result<Value, CFault>
-    ensures { Gives (λ v. view v) result (meant.cell_aimed scope.now start (aim_of target.now) (place_of placed)) }
+    ensures { Gives (λ v. view v) result (meant.cell_aimed scope.now (aim_of target.now) (place_of placed)) }
 {
+    let left = target.left;
     match placed.pointee {
         None => {
-            free(scope, start, target.array, &target.index)?;
+            free(scope, left, target.array, &target.index)?;
             if !is_copied(scope, target.array, placed, &target.index) {
-                return Err(CFault::Outside(start, Reason::Combined));
+                return Err(CFault::Outside(left, Reason::Combined));
             }
             let length = placed.length;
-            cell_of(alloc, scope, start, target.array, length, &target.index)
+            cell_of(alloc, scope, left, target.array, length, &target.index)
         }
-        Some(cell) => pointed_cell(alloc, scope, start, cell, &target.index),
+        Some(cell) => pointed_cell(alloc, scope, left, cell, &target.index),
     }
 }
 
@@ -180,22 +181,22 @@ fn may_fold(own: Option<Operation>, operation: Operation) -> bool
 pub(crate) fn change(
     alloc: Global,
     scope: &Scope<'_>,
-    start: usize,
+    left: usize,
     own: Option<Operation>,
     kind: IntegerType,
     cell: Value,
     folds: (Option<Operation>, bool),
     expr: &Expr,
 ) -> Result<Value, CFault>
-    ensures { Gives (λ v. view v) result (meant.change scope.now start own kind (view cell) folds (expr_of expr.now)) }
+    ensures { Gives (λ v. view v) result (meant.change scope.now left own kind (view cell) folds (expr_of expr.now)) }
 {
     let (Some(operation), minus) = folds else {
-        return Err(CFault::Outside(start, Reason::OwnCopy));
+        return Err(CFault::Outside(left, Reason::OwnCopy));
     };
     if !may_fold(own, operation) {
-        return Err(CFault::Outside(start, Reason::OwnCopy));
+        return Err(CFault::Outside(left, Reason::OwnCopy));
     }
-    let value = changed(alloc, scope, start, kind, operation, minus, expr)?;
+    let value = changed(alloc, scope, kind, operation, minus, expr)?;
     let value = taken(alloc, minus, value)?;
     fold(alloc, operation, cell, value)
 }
@@ -206,8 +207,10 @@ fn same_place(one: &Expr, two: &Expr) -> bool
     ensures { result ≡ meant.same_place (expr_of one.now) (expr_of two.now) }
 {
     match (one, two) {
-        (Expr::Number(one, _), Expr::Number(two, _)) => *one == *two,
-        (Expr::Variable(Name::Other(one)), Expr::Variable(Name::Other(two))) => *one == *two,
+        (Expr::Number(_, one, _), Expr::Number(_, two, _)) => *one == *two,
+        (Expr::Variable(_, Name::Other(one)), Expr::Variable(_, Name::Other(two))) => {
+            *one == *two
+        }
         _ => false,
     }
 }
@@ -217,8 +220,8 @@ fn is_target_by(array: Name, index: &Option<Expr>, expr: &Expr) -> bool
     ensures { result ≡ meant.is_target_by array (index_of index.now) (expr_of expr.now) }
 {
     match (array, index, expr) {
-        (Name::Other(one), None, Expr::Variable(Name::Other(two))) => one == *two,
-        (Name::Other(one), Some(place), Expr::Cell(Name::Other(two), other)) => {
+        (Name::Other(one), None, Expr::Variable(_, Name::Other(two))) => one == *two,
+        (Name::Other(one), Some(place), Expr::Cell(_, Name::Other(two), other)) => {
             one == *two && same_place(place, other)
         }
         _ => false,
@@ -236,35 +239,58 @@ pub(crate) fn is_target(target: &Target, expr: &Expr) -> bool
 fn own_set(
     alloc: Global,
     scope: &Scope<'_>,
-    start: usize,
+    left: usize,
     own: Operation,
     kind: IntegerType,
     cell: Value,
     target: &Target,
     expr: &Expr,
 ) -> Result<Value, CFault>
-    ensures { Gives (λ v. view v) result (meant.own_set scope.now start own kind (view cell) (aim_of target.now) (expr_of expr.now)) }
+    ensures { Gives (λ v. view v) result (meant.own_set scope.now left own kind (view cell) (aim_of target.now) (expr_of expr.now)) }
 {
     let own = Some(own);
     match expr {
-        Expr::Op(sign, one, two) => {
+        Expr::Op(_, sign, one, two) => {
             if !is_target(target, one) {
-                return Err(CFault::Outside(start, Reason::OwnCopy));
+                return Err(CFault::Outside(left, Reason::OwnCopy));
             }
             let folds = (fold_of(*sign), is_minus(*sign));
-            change(alloc, scope, start, own, kind, cell, folds, two)
+            change(alloc, scope, left, own, kind, cell, folds, two)
         }
-        Expr::Call(call, one, two) => {
+        Expr::Call(_, call, one, two) => {
             if !is_target(target, one) {
-                return Err(CFault::Outside(start, Reason::OwnCopy));
+                return Err(CFault::Outside(left, Reason::OwnCopy));
             }
             let folds = (Some(call_fold(*call)), false);
-            change(alloc, scope, start, own, kind, cell, folds, two)
+            change(alloc, scope, left, own, kind, cell, folds, two)
         }
-        Expr::Number(_, _) | Expr::Variable(_) | Expr::Cell(_, _) | Expr::Cast(_) => {
-            Err(CFault::Outside(start, Reason::OwnCopy))
+        Expr::Number(_, _, _) | Expr::Variable(_, _) | Expr::Cell(_, _, _) | Expr::Cast(_) => {
+            Err(CFault::Outside(left, Reason::OwnCopy))
         }
-        Expr::Unary(_, _) | Expr::Choice(_, _, _) => Err(CFault::Outside(start, Reason::OwnCopy)),
+        Expr::Unary(_, _, _) | Expr::Choice(_, _, _, _) => {
+            Err(CFault::Outside(left, Reason::OwnCopy))
+        }
+    }
+}
+
+/// `x = min(x, e)` or `x = max(x, e)` of a `uint64_t`: by which operation e is folded into x.
+#[tactic(auto, unfolding(crate::specs::Assignments::called_fold))]
+fn called_fold<'a>(
+    kind: IntegerType,
+    target: &Target,
+    expr: &'a Expr,
+) -> Option<(Operation, &'a Expr)>
+    ensures { option_map (λ x. (x.0, expr_of x.1.now)) result ≡ meant.called_fold kind (aim_of target.now) (expr_of expr.now) }
+{
+    match expr {
+        Expr::Call(_, call, one, two) => {
+            if is_word(kind) && is_target(target, one) {
+                Some((call_fold(*call), &**two))
+            } else {
+                None
+            }
+        }
+        _ => None,
     }
 }
 
@@ -272,37 +298,45 @@ fn own_set(
 fn set(
     alloc: Global,
     scope: &Scope<'_>,
-    start: usize,
     kind: IntegerType,
     cell: Value,
+    target: &Target,
     expr: &Expr,
 ) -> Result<Value, CFault>
-    ensures { Gives (λ v. view v) result (meant.set scope.now start kind (view cell) (expr_of expr.now)) }
+    ensures { Gives (λ v. view v) result (meant.set scope.now kind (view cell) (aim_of target.now) (expr_of expr.now)) }
 {
-    let value = assigned(alloc, scope, start, kind, expr)?;
-    Ok(json::form2(alloc, "set", cell, value)?)
+    match called_fold(kind, target, expr) {
+        Some((operation, more)) => {
+            let folds = (Some(operation), false);
+            change(alloc, scope, target.left, None, kind, cell, folds, more)
+        }
+        None => {
+            let value = assigned(alloc, scope, kind, expr)?;
+            Ok(json::form2(alloc, "set", cell, value)?)
+        }
+    }
 }
 
 /// An assignment.
 pub(crate) fn assignment(
     alloc: Global,
     scope: &Scope<'_>,
-    start: usize,
     target: &Target,
     sign: Option<Sign>,
     expr: &Expr,
 ) -> Result<Value, CFault>
-    ensures { Gives (λ v. view v) result (meant.assignment scope.now start (aim_of target.now) sign (expr_of expr.now)) }
+    ensures { Gives (λ v. view v) result (meant.assignment scope.now (aim_of target.now) sign (expr_of expr.now)) }
 {
-    let placed = aimed(start, scope.sense(target.array))?;
-    let cell = cell_aimed(alloc, scope, start, target, placed)?;
+    let left = target.left;
+    let placed = aimed(left, scope.sense(target.array))?;
+    let cell = cell_aimed(alloc, scope, target, placed)?;
     let kind = placed.kind;
     match (sign, placed.own) {
         (Some(sign), own) => {
             let folds = (fold_of(sign), is_minus(sign));
-            change(alloc, scope, start, own, kind, cell, folds, expr)
+            change(alloc, scope, left, own, kind, cell, folds, expr)
         }
-        (None, None) => set(alloc, scope, start, kind, cell, expr),
-        (None, Some(own)) => own_set(alloc, scope, start, own, kind, cell, target, expr),
+        (None, None) => set(alloc, scope, kind, cell, target, expr),
+        (None, Some(own)) => own_set(alloc, scope, left, own, kind, cell, target, expr),
     }
 }

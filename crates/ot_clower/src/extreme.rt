@@ -56,8 +56,8 @@ fn kept_by<'a>(test: &Expr, target: &'a Target, expr: &'a Expr) -> Option<Extrem
     ensures { option_map kept_of result ≡ meant.kept_by (expr_of test.now) (aim_of target.now) (expr_of expr.now) }
 {
     match test {
-        Expr::Op(Sign::Less, one, other) => kept_below(target, one, other, expr),
-        Expr::Op(Sign::More, one, other) => kept_below(target, other, one, expr),
+        Expr::Op(_, Sign::Less, one, other) => kept_below(target, one, other, expr),
+        Expr::Op(_, Sign::More, one, other) => kept_below(target, other, one, expr),
         _ => None,
     }
 }
@@ -125,19 +125,19 @@ pub(crate) fn kept_if<'a>(
 pub(crate) fn folded(
     alloc: Global,
     scope: &Scope<'_>,
-    start: usize,
     extreme: &Extreme<'_>,
 ) -> Result<Value, CFault>
-    ensures { Gives (λ v. view v) result (meant.folded scope.now start (kept_of extreme.now)) }
+    ensures { Gives (λ v. view v) result (meant.folded scope.now (kept_of extreme.now)) }
 {
     let target = extreme.target;
-    let placed = aimed(start, scope.sense(target.array))?;
-    let cell = cell_aimed(alloc, scope, start, target, placed)?;
+    let left = target.left;
+    let placed = aimed(left, scope.sense(target.array))?;
+    let cell = cell_aimed(alloc, scope, target, placed)?;
     let folds = (Some(extreme.operation), false);
     change(
         alloc,
         scope,
-        start,
+        left,
         placed.own,
         placed.kind,
         cell,

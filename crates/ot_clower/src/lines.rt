@@ -10,9 +10,9 @@ use ot_cscope::{CFault, Reason};
 use serde_json::Value;
 use std::alloc::{AllocError, Global};
 
-/// Statements, each whole, and the byte at which each of them and of those in their bodies begins, a statement before
-/// those in its bodies; and how the tasks among them take part in reductions, one by one, each with the byte at which
-/// the task begins.
+/// Statements, each whole, and how many words are left where each of them and of those in their bodies begins, a statement
+/// before those in its bodies; and how the tasks among them take part in reductions, one by one, each with how many words
+/// are left where the task begins.
 #[derive(Debug, Drop)]
 pub(crate) struct Lines {
     pub(crate) statements: Vec<Value>,
@@ -31,32 +31,32 @@ pub(crate) fn no_lines(alloc: Global) -> Lines
     }
 }
 
-/// A statement that begins at this byte, and has those that begin at these in its bodies.
+/// A statement that begins where so many words are left, and has those that begin at these places in its bodies.
 pub(crate) fn one_line(
     alloc: Global,
-    start: usize,
+    left: usize,
     statement: Value,
     within: Vec<usize>,
 ) -> Result<Lines, AllocError>
-    ensures { IfOk result (λ l. lines_of l ≡ meant.one start (view statement) within.items) }
+    ensures { IfOk result (λ l. lines_of l ≡ meant.one left (view statement) within.items) }
 {
-    one_line_with(alloc, start, statement, within, Vec::new(alloc))
+    one_line_with(alloc, left, statement, within, Vec::new(alloc))
 }
 
 /// The same, of which tasks take part in reductions so.
 pub(crate) fn one_line_with(
     alloc: Global,
-    start: usize,
+    left: usize,
     statement: Value,
     within: Vec<usize>,
     taking: Vec<(usize, Taking)>,
 ) -> Result<Lines, AllocError>
-    ensures { IfOk result (λ l. lines_of l ≡ meant.one_with start (view statement) within.items taking.items) }
+    ensures { IfOk result (λ l. lines_of l ≡ meant.one_with left (view statement) within.items taking.items) }
 {
     let mut statements = Vec::new(alloc);
     statements.push(statement)?;
     let mut places = Vec::new(alloc);
-    places.push(start)?;
+    places.push(left)?;
     let mut within = within;
     places.append(&mut within)?;
     Ok(Lines {

@@ -1,5 +1,5 @@
 //! A file whole.
-ghost use Rattle.std.specs.Prelude.{◌≡◌, ◌<◌, ◌^◌, false, find, map, Ok};
+ghost use Rattle.std.specs.Prelude.{◌≡◌, ◌<◌, ◌^◌, false, find, length, map, IfOk, Ok};
 ghost use Rattle.serde_json.specs.View.{view, items_view};
 ghost use Rattle.ot_cread.specs.Tree.{expr_of};
 ghost use Rattle.ot_cstatement.specs.Tree.{list_of, body_of, stmt_of};
@@ -7,24 +7,25 @@ ghost use Rattle.ot_cfile.specs.Program.{top_of, tops_of, step_of, main_of, file
 ghost use Rattle.ot_cscope.specs.Results.{Gives};
 ghost use Rattle.ot_cscope.specs.Constants as constants;
 ghost use Rattle.ot_cdeclare.specs.Arrays.{declared_of, array_of, outside};
+ghost use Rattle.ot_cdeclare.specs.Places as sites;
 ghost use Rattle.ot_clower.specs.Lines.{lines_of};
 ghost use Rattle.ot_clower.specs.Statements.{became_of, called_of, source_of};
 ghost use Rattle.ot_clower.specs.Files.{before_of, progress_of, lowered_of};
 ghost use Rattle.ot_clower.specs.Files as meant;
 
 use crate::lines::{Lines, joined, no_lines};
-use crate::region::region;
+use crate::region::{ended, region};
 use crate::statements::{Became, Called, Loops, Source};
 use crate::turns::{written, written_body};
 use ot_cclause::Taking;
 use ot_cdeclare::{CArray, Declared, byte_of, cell_count, declaration, named, number_of, pointers};
 use ot_cfile::{File, Step, Top};
-use ot_cread::Expr;
+use ot_cread::{Expr, left_of};
 use ot_cscope::{CFault, Meaning, Reason, Scope, constant, json};
 use ot_cstatement::Stmt;
 use ot_words::{IntegerType, Name, Words};
 use serde_json::Value;
-use std::alloc::Global;
+use std::alloc::{AllocError, Global};
 
 /// How many statements the functions of a file have together at most.
 const MAX_TOGETHER: usize = 20_000;
@@ -85,17 +86,17 @@ fn fixed(
 fn define(
     alloc: Global,
     words: &Words,
-    start: usize,
+    left: usize,
     declared: Declared,
     name: usize,
     expr: &Expr,
 ) -> Result<Declared, CFault>
-    ensures { Gives declared_of result (meant.define words.now.names.keys start (declared_of declared) name (expr_of expr.now)) }
+    ensures { Gives declared_of result (meant.define words.now.names.keys left (declared_of declared) name (expr_of expr.now)) }
 {
     let Some((number, kind)) = fixed(alloc, words, &declared.meanings, expr) else {
-        return Err(CFault::Outside(start, Reason::NoConstant));
+        return Err(CFault::Outside(left_of(expr), Reason::NoConstant));
     };
-    named(start, declared, name, Meaning::Constant(number, kind))
+    named(left, declared, name, Meaning::Constant(number, kind))
 }
 
 /// What becomes of a function's body where names mean this, in regions or outside of them.
@@ -106,23 +107,23 @@ fn function_body(
     inside: bool,
     stmts: &[Stmt],
 ) -> Result<Became, CFault>
-    ensures { Gives (λ b. became_of b) result (Ok (meant.function_body words.now.names.keys words.now.starts.items (before_of before.now) inside (body_of (list_of stmts.now)))) }
+    ensures { Gives (λ b. became_of b) result (Ok (meant.function_body words.now.names.keys (length words.now.starts.items) (before_of before.now) inside (body_of (list_of stmts.now)))) }
 {
     let source = Source {
-        starts: &words.starts,
+        words: words.starts.len(),
         functions: &before.functions,
         loops: before.loops,
     };
     let scope = Scope::new(alloc, &words.names, &before.declared.meanings, inside);
     match written_body(alloc, &source, &scope, stmts) {
         Ok(lines) => Ok(Became::Lines(lines)),
-        Err(CFault::Outside(start, reason)) => Ok(Became::Outside(start, reason)),
+        Err(CFault::Outside(left, reason)) => Ok(Became::Outside(left, reason)),
         Err(CFault::Memory) => Err(CFault::Memory),
     }
 }
 
 /// How many statements a function has.
-fn length(became: &Became) -> usize
+fn count_of(became: &Became) -> usize
     ensures counts { result ≡ meant.length_of (became_of became.now) }
     ensures bounded { result < 2 ^ 63 }
 {
@@ -133,29 +134,24 @@ fn length(became: &Became) -> usize
 }
 
 /// How many statements functions have with one more, both in regions and outside of them.
-fn counted(start: usize, count: usize, called: &Called) -> Result<usize, CFault>
-    ensures { Gives (λ n. n) result (meant.counted start count (called_of called.now)) }
+fn counted(left: usize, count: usize, called: &Called) -> Result<usize, CFault>
+    ensures { Gives (λ n. n) result (meant.counted left count (called_of called.now)) }
 {
-    let more = length(&called.inside) + length(&called.outside);
+    let more = count_of(&called.inside) + count_of(&called.outside);
     if count > MAX_TOGETHER || more > MAX_TOGETHER || count + more > MAX_TOGETHER {
-        Err(CFault::Outside(start, Reason::TooMany))
+        Err(CFault::Outside(left, Reason::TooMany))
     } else {
         Ok(count + more)
     }
 }
 
 /// A function, behind others.
-fn with_function(
-    start: usize,
-    before: Before,
-    name: usize,
-    called: Called,
-) -> Result<Before, CFault>
-    ensures { Gives before_of result (meant.with_function start (before_of before) name (called_of called)) }
+fn with_function(left: usize, before: Before, name: usize, called: Called) -> Result<Before, CFault>
+    ensures { Gives before_of result (meant.with_function left (before_of before) name (called_of called)) }
 {
-    let count = counted(start, before.count, &called)?;
+    let count = counted(left, before.count, &called)?;
     let meaning = Meaning::Function(before.functions.len());
-    let declared = named(start, before.declared, name, meaning)?;
+    let declared = named(left, before.declared, name, meaning)?;
     let mut functions = before.functions;
     functions.push(called)?;
     Ok(Before {
@@ -170,33 +166,32 @@ fn with_function(
 fn function(
     alloc: Global,
     words: &Words,
-    start: usize,
+    left: usize,
     before: Before,
     name: Name,
     stmts: &[Stmt],
 ) -> Result<Before, CFault>
-    ensures { Gives before_of result (meant.function words.now.names.keys words.now.starts.items start (before_of before) name (body_of (list_of stmts.now))) }
+    ensures { Gives before_of result (meant.function words.now.names.keys (length words.now.starts.items) left (before_of before) name (body_of (list_of stmts.now))) }
 {
-    let number = number_of(start, name)?;
+    let number = number_of(left, name)?;
     let before = Before {
-        declared: pointers(alloc, words, before.declared, stmts)?,
+        declared: pointers(alloc, &words.names, before.declared, stmts)?,
         functions: before.functions,
         count: before.count,
         loops: before.loops,
     };
     let inside = function_body(alloc, words, &before, true, stmts)?;
     let outside = function_body(alloc, words, &before, false, stmts)?;
-    with_function(start, before, number, Called { inside, outside })
+    with_function(left, before, number, Called { inside, outside })
 }
 
 /// What stands before `main`, behind others.
 fn top_step(alloc: Global, words: &Words, before: Before, top: &Top) -> Result<Before, CFault>
-    ensures { Gives before_of result (meant.top_step words.now.names.keys words.now.starts.items (before_of before) (top_of top.now)) }
+    ensures { Gives before_of result (meant.top_step words.now.names.keys (length words.now.starts.items) (before_of before) (top_of top.now)) }
 {
     match top {
         Top::Constant(left, name, expr) => {
-            let start = byte_of(&words.starts, *left);
-            let declared = define(alloc, words, start, before.declared, *name, expr)?;
+            let declared = define(alloc, words, *left, before.declared, *name, expr)?;
             Ok(Before {
                 declared,
                 functions: before.functions,
@@ -205,8 +200,7 @@ fn top_step(alloc: Global, words: &Words, before: Before, top: &Top) -> Result<B
             })
         }
         Top::Declares(given) => {
-            let start = byte_of(&words.starts, given.left);
-            let declared = declaration(alloc, &words.names, start, before.declared, given)?;
+            let declared = declaration(alloc, &words.names, before.declared, given)?;
             Ok(Before {
                 declared,
                 functions: before.functions,
@@ -214,15 +208,12 @@ fn top_step(alloc: Global, words: &Words, before: Before, top: &Top) -> Result<B
                 loops: before.loops,
             })
         }
-        Top::Function(left, name, stmts) => {
-            let start = byte_of(&words.starts, *left);
-            function(alloc, words, start, before, *name, stmts)
-        }
+        Top::Function(left, name, stmts) => { function(alloc, words, *left, before, *name, stmts) }
     }
 }
 
 fn tops(alloc: Global, words: &Words, loops: Loops, tops: &[Top]) -> Result<Before, CFault>
-    ensures { Gives before_of result (meant.tops loops words.now.names.keys words.now.starts.items (tops_of tops.now)) }
+    ensures { Gives before_of result (meant.tops loops words.now.names.keys (length words.now.starts.items) (tops_of tops.now)) }
 {
     let mut before = Before {
         declared: Declared {
@@ -263,37 +254,71 @@ fn behind(declared: Declared, lines: Lines, more: Lines) -> Result<Progress, CFa
     })
 }
 
-/// What `main` does next.
+/// Whether nothing of the program stands for a statement outside of regions.
+#[tactic(auto, unfolding(crate::specs::Files::is_silent))]
+fn is_silent(stmt: &Stmt) -> bool
+    ensures { result ≡ meant.is_silent (stmt_of stmt.now) }
+{
+    match stmt {
+        Stmt::Print(_, values) => values.is_empty(),
+        Stmt::Yield(_) | Stmt::Show(_, _, _) | Stmt::Point(_, _, _) => true,
+        _ => false,
+    }
+}
+
+fn adds_nothing(step: &Step) -> bool
+    ensures { result ≡ meant.adds_nothing (step_of step.now) }
+{
+    match step {
+        Step::Declares(_) => true,
+        Step::Region(_, _, _) => false,
+        Step::Does(stmt) => is_silent(stmt),
+    }
+}
+
+/// Whether nothing of the program stands for what `main` does so.
+fn add_nothing(steps: &[Step]) -> bool
+    ensures { result ≡ meant.add_nothing (main_of steps.now) }
+{
+    for step in steps {
+        if !adds_nothing(step) {
+            return false;
+        }
+    }
+    true
+}
+
+/// What `main` does next, with what stands behind it.
 fn main_step(
     alloc: Global,
     words: &Words,
     source: &Source<'_>,
     progress: Progress,
     step: &Step,
+    rest: &[Step],
 ) -> Result<Progress, CFault>
-    ensures { Gives progress_of result (meant.main_step words.now.names.keys words.now.starts.items (source_of source.now) (progress_of progress) (step_of step.now)) }
+    ensures { Gives progress_of result (meant.main_step words.now.names.keys (source_of source.now) (progress_of progress) (step_of step.now) (main_of rest.now)) }
 {
     match step {
         Step::Declares(given) => {
-            let start = byte_of(&words.starts, given.left);
-            let declared = declaration(alloc, &words.names, start, progress.declared, given)?;
+            let declared = declaration(alloc, &words.names, progress.declared, given)?;
             Ok(Progress {
                 declared,
                 lines: progress.lines,
             })
         }
         Step::Region(left, clauses, stmts) => {
-            let start = byte_of(&words.starts, *left);
-            let declared = pointers(alloc, words, progress.declared, stmts)?;
-            let lines = region(
+            let declared = pointers(alloc, &words.names, progress.declared, stmts)?;
+            let inner = region(
                 alloc,
                 words,
                 source,
                 &declared.meanings,
-                start,
+                *left,
                 clauses,
                 stmts,
             )?;
+            let lines = ended(alloc, *left, add_nothing(rest), stmts, inner)?;
             behind(declared, progress.lines, lines)
         }
         Step::Does(stmt) => {
@@ -310,14 +335,15 @@ fn main_body(
     declared: Declared,
     steps: &[Step],
 ) -> Result<Progress, CFault>
-    ensures { Gives progress_of result (meant.main_body words.now.names.keys words.now.starts.items (source_of source.now) (declared_of declared) (main_of steps.now)) }
+    ensures { Gives progress_of result (meant.main_body words.now.names.keys (source_of source.now) (declared_of declared) (main_of steps.now)) }
 {
     let mut progress = Progress {
         declared,
         lines: no_lines(alloc),
     };
-    for step in steps {
-        progress = main_step(alloc, words, source, progress, step)?;
+    for number in 0..steps.len() {
+        let rest = &steps[number + 1..];
+        progress = main_step(alloc, words, source, progress, &steps[number], rest)?;
     }
     Ok(progress)
 }
@@ -371,17 +397,29 @@ fn all_by(way: Taking) -> Reductions
     }
 }
 
-/// How tasks take part in reductions, each with the byte at which it begins.
-fn reductions_of(taking: &[(usize, Taking)]) -> Reductions
-    ensures { result ≡ meant.reductions_of taking.now }
+/// How tasks take part in reductions, each with how many words are left where it begins, in a file whose words begin at these
+/// bytes.
+fn reductions_of(starts: &[usize], taking: &[(usize, Taking)]) -> Reductions
+    ensures { result ≡ meant.reductions_of starts.now taking.now }
 {
     match taking {
         [] => Reductions::ByNames,
         [(_, way), rest @ ..] => match other(*way, rest) {
             None => all_by(*way),
-            Some((start, _)) => Reductions::Mixed(start),
+            Some((left, _)) => Reductions::Mixed(byte_of(starts, left)),
         },
     }
+}
+
+/// The bytes at which begins what so many words are left from.
+fn bytes_of(alloc: Global, starts: &[usize], places: &[usize]) -> Result<Vec<usize>, AllocError>
+    ensures { IfOk result (λ v. v.items ≡ map (sites.byte_of starts.now) places.now) }
+{
+    let mut bytes = Vec::new(alloc);
+    for left in places {
+        bytes.push(byte_of(starts, *left))?;
+    }
+    Ok(bytes)
 }
 
 /// The program of a file that these words say.
@@ -409,19 +447,20 @@ fn lower_with(alloc: Global, words: &Words, loops: Loops, file: &File) -> Result
         ..
     } = tops(alloc, words, loops, &file.tops)?;
     let source = Source {
-        starts: &words.starts,
+        words: words.starts.len(),
         functions: &functions,
         loops,
     };
     let Progress { declared, lines } = main_body(alloc, words, &source, declared, &file.main)?;
-    let reductions = reductions_of(&lines.taking);
+    let reductions = reductions_of(&words.starts, &lines.taking);
+    let places = bytes_of(alloc, &words.starts, &lines.places)?;
     let shows = json::list(shows(alloc, &declared.arrays)?);
     let list = json::list(lines.statements);
     let program = json::form2(alloc, "program2", shows, list)?;
     Ok(Lowered {
         arrays: declared.arrays,
         program,
-        places: lines.places,
+        places,
         reductions,
     })
 }

@@ -1,15 +1,15 @@
 //! Parallel regions.
-ghost use Rattle.std.specs.Prelude.{◌≡◌, IfOk, map};
+ghost use Rattle.std.specs.Prelude.{◌≡◌, IfOk, Ok, map};
 ghost use Rattle.std.specs.List.{list_any};
 ghost use Rattle.ot_cread.specs.Tree.{items_of, clause_of, clauses_of};
-ghost use Rattle.ot_cstatement.specs.Tree.{list_of, body_of};
+ghost use Rattle.ot_cstatement.specs.Tree.{stmt_of, list_of, body_of};
 ghost use Rattle.ot_cscope.specs.Results.{Gives};
 ghost use Rattle.ot_clower.specs.Lines.{lines_of};
 ghost use Rattle.ot_clower.specs.Statements.{source_of};
 ghost use Rattle.ot_clower.specs.Regions as meant;
 
 use crate::lines::Lines;
-use crate::statements::{Source, group};
+use crate::statements::{Source, group, name_at};
 use crate::turns::written_body;
 use ot_cclause::headed;
 use ot_cread::{Clause, Item, Operation, Role};
@@ -153,7 +153,7 @@ fn strictly(
     match within(alloc, words, source, meanings, stmts) {
         Ok(lines) => Ok(lines),
         Err(CFault::Memory) => Err(CFault::Memory),
-        Err(CFault::Outside(start, reason)) => Err(CFault::Outside(start, unlisted(reason))),
+        Err(CFault::Outside(left, reason)) => Err(CFault::Outside(left, unlisted(reason))),
     }
 }
 
@@ -175,20 +175,65 @@ fn within_by(
     }
 }
 
-/// A parallel region: a group over nothing, since all tasks have ended at its end.
+/// What stands in a parallel region.
 pub(crate) fn region(
     alloc: Global,
     words: &Words,
     source: &Source<'_>,
     meanings: &[Meaning],
-    start: usize,
+    left: usize,
     clauses: &[Clause],
     stmts: &[Stmt],
 ) -> Result<Lines, CFault>
-    ensures { Gives lines_of result (meant.region words.now.names.keys (source_of source.now) meanings.now start (clauses_of clauses.now) (body_of (list_of stmts.now))) }
+    ensures { Gives lines_of result (meant.region words.now.names.keys (source_of source.now) meanings.now left (clauses_of clauses.now) (body_of (list_of stmts.now))) }
 {
     let scope = Scope::new(alloc, &words.names, meanings, true);
-    let _heading = headed(alloc, start, scope, clauses)?;
-    let inner = within_by(alloc, words, source, meanings, clauses, stmts)?;
-    group(alloc, start, Operation::Plus, Vec::new(alloc), inner)
+    let _heading = headed(alloc, name_at(left), scope, clauses)?;
+    within_by(alloc, words, source, meanings, clauses, stmts)
+}
+
+/// Whether a taskgroup may stand in a body outside of its tasks.
+#[cycle(groups)]
+fn has_group(stmts: &[Stmt]) -> bool
+    ensures { result ≡ meant.has_group (body_of (list_of stmts.now)) }
+{
+    for stmt in stmts {
+        if has_group_one(stmt) {
+            return true;
+        }
+    }
+    false
+}
+
+/// Whether one may stand in a statement.
+#[cycle(groups)]
+fn has_group_one(stmt: &Stmt) -> bool
+    ensures { result ≡ meant.has_group_one (stmt_of stmt.now) }
+{
+    match stmt {
+        Stmt::Group(_, _, _) | Stmt::Call(_, _, _) => true,
+        Stmt::Block(_, inner) | Stmt::For(_, _, inner) => has_group(inner),
+        Stmt::If(_, _, one, two) => has_group(one) || has_group(two),
+        Stmt::Task(_, _, _) | Stmt::Assign(_, _, _, _) => false,
+        Stmt::Wait(_, _) | Stmt::Yield(_) | Stmt::Print(_, _) => false,
+        Stmt::Show(_, _, _) | Stmt::Point(_, _, _) => false,
+    }
+}
+
+/// What becomes of a region in which this stands: a group over nothing, since all tasks have ended at its end. The last region of the
+/// program is none, unless a taskgroup may stand in it.
+pub(crate) fn ended(
+    alloc: Global,
+    left: usize,
+    last: bool,
+    stmts: &[Stmt],
+    inner: Lines,
+) -> Result<Lines, CFault>
+    ensures { Gives lines_of result (Ok (meant.ended left last (body_of (list_of stmts.now)) (lines_of inner))) }
+{
+    if last && !has_group(stmts) {
+        Ok(inner)
+    } else {
+        group(alloc, left, Operation::Plus, Vec::new(alloc), inner)
+    }
 }

@@ -2,7 +2,7 @@
 ghost use Rattle.std.specs.Prelude.{◌≡◌, ◌++◌, map, IfOk};
 ghost use Rattle.serde_json.specs.View.{view};
 ghost use Rattle.ot_cread.specs.Tree.{expr_of, clauses_of};
-ghost use Rattle.ot_cstatement.specs.Tree.{aim_of, course_of, exprs_of, stmt_of, list_of, body_of};
+ghost use Rattle.ot_cstatement.specs.Tree.{aim_of, course_of, exprs_of, site_of, stmt_of, list_of, body_of};
 ghost use Rattle.ot_cscope.specs.Results.{Gives};
 ghost use Rattle.ot_cclause.specs.Clauses.{head_of};
 ghost use Rattle.ot_clower.specs.Extremes.{kept_of};
@@ -14,12 +14,11 @@ use crate::assignment::assignment;
 use crate::extreme::{Extreme, folded, kept_if};
 use crate::lines::{Lines, copy, joined, no_lines, one_line, one_line_with};
 use ot_cclause::{Heading, Taking, group_operation, headed, no_cells, operation_word};
-use ot_cdeclare::byte_of;
 use ot_cmeaning::value;
-use ot_cread::{Clause, Expr, Operation, Sign};
+use ot_cread::{Clause, Expr, Operation, Sign, left_of};
 use ot_cscope::kind::is_word;
 use ot_cscope::{CFault, Reason, Scope, Sense, Turn, json, size};
-use ot_cstatement::{Stmt, Target, Turns};
+use ot_cstatement::{Spot, Stmt, Target, Turns};
 use ot_program::is_name;
 use ot_words::{IntegerType, Name};
 use serde_json::Value;
@@ -48,46 +47,46 @@ pub enum Loops {
     ByTurns,
 }
 
-/// Where words begin, what functions are, by their numbers, and how loops are written.
+/// How many words the file has, what functions are, by their numbers, and how loops are written.
 #[derive(Clone, Copy)]
 pub(crate) struct Source<'a> {
-    pub(crate) starts: &'a [usize],
+    pub(crate) words: usize,
     pub(crate) functions: &'a [Called],
     pub(crate) loops: Loops,
 }
 
 /// A value is read: `["if", value, [], []]`.
-fn read(alloc: Global, scope: &Scope<'_>, start: usize, expr: &Expr) -> Result<Lines, CFault>
-    ensures { Gives lines_of result (meant.read scope.now start (expr_of expr.now)) }
+fn read(alloc: Global, scope: &Scope<'_>, left: usize, expr: &Expr) -> Result<Lines, CFault>
+    ensures { Gives lines_of result (meant.read scope.now left (expr_of expr.now)) }
 {
-    let worth = value(alloc, scope, start, expr)?;
+    let worth = value(alloc, scope, expr)?;
     let none = json::list(Vec::new(alloc));
     let nothing = json::list(Vec::new(alloc));
     let statement = json::form3(alloc, "if", worth.value, none, nothing)?;
-    Ok(one_line(alloc, start, statement, Vec::new(alloc))?)
+    Ok(one_line(alloc, left, statement, Vec::new(alloc))?)
 }
 
 /// A value is read behind others.
 fn read_step(
     alloc: Global,
     scope: &Scope<'_>,
-    start: usize,
+    left: usize,
     lines: Lines,
     expr: &Expr,
 ) -> Result<Lines, CFault>
-    ensures { Gives lines_of result (meant.read_step scope.now start (lines_of lines) (expr_of expr.now)) }
+    ensures { Gives lines_of result (meant.read_step scope.now left (lines_of lines) (expr_of expr.now)) }
 {
-    let more = read(alloc, scope, start, expr)?;
+    let more = read(alloc, scope, left, expr)?;
     joined(lines, more)
 }
 
 /// Values that are printed are read.
-fn print(alloc: Global, scope: &Scope<'_>, start: usize, exprs: &[Expr]) -> Result<Lines, CFault>
-    ensures { Gives lines_of result (meant.print scope.now start (exprs_of exprs.now)) }
+fn print(alloc: Global, scope: &Scope<'_>, left: usize, exprs: &[Expr]) -> Result<Lines, CFault>
+    ensures { Gives lines_of result (meant.print scope.now left (exprs_of exprs.now)) }
 {
     let mut lines = no_lines(alloc);
     for expr in exprs {
-        lines = read_step(alloc, scope, start, lines, expr)?;
+        lines = read_step(alloc, scope, left, lines, expr)?;
     }
     Ok(lines)
 }
@@ -96,58 +95,65 @@ fn print(alloc: Global, scope: &Scope<'_>, start: usize, exprs: &[Expr]) -> Resu
 fn wait<'a>(
     alloc: Global,
     scope: &Scope<'a>,
-    start: usize,
+    left: usize,
     clauses: &'a [Clause],
 ) -> Result<Lines, CFault>
-    ensures { Gives lines_of result (meant.wait scope.now start (clauses_of clauses.now)) }
+    ensures { Gives lines_of result (meant.wait scope.now left (clauses_of clauses.now)) }
 {
-    region_at(scope, start)?;
-    waits(alloc, scope, start, clauses)
+    region_at(scope, name_at(left))?;
+    waits(alloc, scope, left, clauses)
 }
 
 /// The same, wherever it stands.
 fn waits<'a>(
     alloc: Global,
     scope: &Scope<'a>,
-    start: usize,
+    left: usize,
     clauses: &'a [Clause],
 ) -> Result<Lines, CFault>
-    ensures { Gives lines_of result (meant.waits scope.now start (clauses_of clauses.now)) }
+    ensures { Gives lines_of result (meant.waits scope.now left (clauses_of clauses.now)) }
 {
     match clauses {
-        [] => wait_for_all(alloc, start),
-        _ => wait_for(alloc, scope, start, clauses),
+        [] => wait_for_all(alloc, left),
+        _ => wait_for(alloc, scope, left, clauses),
     }
 }
 
-fn wait_for_all(alloc: Global, start: usize) -> Result<Lines, CFault>
-    ensures { Gives lines_of result (meant.wait_for_all start) }
+fn wait_for_all(alloc: Global, left: usize) -> Result<Lines, CFault>
+    ensures { Gives lines_of result (meant.wait_for_all left) }
 {
     let statement = json::form0(alloc, "wait")?;
-    Ok(one_line(alloc, start, statement, Vec::new(alloc))?)
+    Ok(one_line(alloc, left, statement, Vec::new(alloc))?)
 }
 
 fn wait_for<'a>(
     alloc: Global,
     scope: &Scope<'a>,
-    start: usize,
+    left: usize,
     clauses: &'a [Clause],
 ) -> Result<Lines, CFault>
-    ensures { Gives lines_of result (meant.wait_for scope.now start (clauses_of clauses.now)) }
+    ensures { Gives lines_of result (meant.wait_for scope.now left (clauses_of clauses.now)) }
 {
-    let heading = headed(alloc, start, scope.again(alloc)?, clauses)?;
+    let heading = headed(alloc, name_at(left), scope.again(alloc)?, clauses)?;
     let statement = json::form1(alloc, "wait", json::list(heading.clauses))?;
-    Ok(one_line(alloc, start, statement, Vec::new(alloc))?)
+    Ok(one_line(alloc, left, statement, Vec::new(alloc))?)
+}
+
+/// Where the name of a directive stands that begins where so many words are left, with the one word `#pragma omp`.
+pub(crate) fn name_at(left: usize) -> usize
+    ensures { result ≡ meant.name_at left }
+{
+    left.saturating_sub(1)
 }
 
 /// Tasks, waits and groups stand in a parallel region.
-fn region_at(scope: &Scope<'_>, start: usize) -> Result<(), CFault>
-    ensures { Gives (λ x. x) result (meant.region_at scope.now start) }
+fn region_at(scope: &Scope<'_>, left: usize) -> Result<(), CFault>
+    ensures { Gives (λ x. x) result (meant.region_at scope.now left) }
 {
     if scope.inside() {
         Ok(())
     } else {
-        Err(CFault::Outside(start, Reason::NoRegion))
+        Err(CFault::Outside(left, Reason::NoRegion))
     }
 }
 
@@ -191,22 +197,17 @@ pub(crate) fn turn_of(turns: &Turns, begun: bool) -> Turn
     }
 }
 
-pub(crate) fn bounded(
-    alloc: Global,
-    scope: &Scope<'_>,
-    start: usize,
-    turns: &Turns,
-) -> Result<Bounds, CFault>
-    ensures { Gives bounds_of result (meant.bounds scope.now start (course_of turns.now)) }
+pub(crate) fn bounded(alloc: Global, scope: &Scope<'_>, turns: &Turns) -> Result<Bounds, CFault>
+    ensures { Gives bounds_of result (meant.bounds scope.now (course_of turns.now)) }
 {
     if !is_name(scope.text(turns.variable)) {
-        return Err(CFault::Outside(start, Reason::NoName));
+        return Err(CFault::Outside(turns.left, Reason::NoName));
     }
     let around = scope.with_turn(alloc, turn_of(turns, false))?;
-    let (first, first_kind) = size(alloc, &around, start, &turns.start)?;
-    let (end, _) = size(alloc, &around, start, &turns.end)?;
+    let (first, first_kind) = size(alloc, &around, &turns.start)?;
+    let (end, _) = size(alloc, &around, &turns.end)?;
     if !may_begin(turns.kind, first_kind) {
-        return Err(CFault::Outside(start, Reason::Narrow));
+        return Err(CFault::Outside(left_of(&turns.start), Reason::Narrow));
     }
     let end = end_of(alloc, turns.through, end)?;
     let name = json::text(alloc, scope.text(turns.variable))?;
@@ -216,12 +217,12 @@ pub(crate) fn bounded(
 /// `if`
 pub(crate) fn branch(
     alloc: Global,
-    start: usize,
+    left: usize,
     test: Value,
     one: Lines,
     two: Lines,
 ) -> Result<Lines, CFault>
-    ensures { Gives lines_of result (Ok (meant.branch start (view test) (lines_of one) (lines_of two))) }
+    ensures { Gives lines_of result (Ok (meant.branch left (view test) (lines_of one) (lines_of two))) }
 {
     let first = json::list(one.statements);
     let second = json::list(two.statements);
@@ -232,48 +233,49 @@ pub(crate) fn branch(
     let mut taking = one.taking;
     let mut others = two.taking;
     taking.append(&mut others)?;
-    Ok(one_line_with(alloc, start, statement, places, taking)?)
+    Ok(one_line_with(alloc, left, statement, places, taking)?)
 }
 
 /// `for`
 pub(crate) fn repeated(
     alloc: Global,
-    start: usize,
+    left: usize,
     bounds: Bounds,
     inner: Lines,
 ) -> Result<Lines, CFault>
-    ensures { Gives lines_of result (Ok (meant.repeated start (bounds_of bounds) (lines_of inner))) }
+    ensures { Gives lines_of result (Ok (meant.repeated left (bounds_of bounds) (lines_of inner))) }
 {
     let list = json::list(inner.statements);
     let statement = json::form4(alloc, "for", bounds.name, bounds.first, bounds.end, list)?;
-    Ok(one_line_with(alloc, start, statement, inner.places, inner.taking)?)
+    Ok(one_line_with(alloc, left, statement, inner.places, inner.taking)?)
 }
 
 /// What the clauses of a task say, in whose body the scope is that of the task.
 pub(crate) fn task_heading<'a>(
     alloc: Global,
     scope: &Scope<'a>,
-    start: usize,
+    left: usize,
     clauses: &'a [Clause],
 ) -> Result<Heading<'a>, CFault>
-    ensures { Gives head_of result (meant.task_head scope.now start (clauses_of clauses.now)) }
+    ensures { Gives head_of result (meant.task_head scope.now left (clauses_of clauses.now)) }
 {
-    region_at(scope, start)?;
-    headed(alloc, start, scope.within_task(alloc)?, clauses)
+    let name = name_at(left);
+    region_at(scope, name)?;
+    headed(alloc, name, scope.within_task(alloc)?, clauses)
 }
 
-/// How a task that begins at this byte takes part in reductions, before those in it.
+/// How a task that begins where so many words are left takes part in reductions, before those in it.
 fn taking_of(
     alloc: Global,
-    start: usize,
+    left: usize,
     own: &[Taking],
     within: Vec<(usize, Taking)>,
 ) -> Result<Vec<(usize, Taking)>, AllocError>
-    ensures { IfOk result (λ v. v.items ≡ map (λ t. (start, t)) own.now ++ within.items) }
+    ensures { IfOk result (λ v. v.items ≡ map (λ t. (left, t)) own.now ++ within.items) }
 {
     let mut taking = Vec::new(alloc);
     for way in own {
-        taking.push((start, *way))?;
+        taking.push((left, *way))?;
     }
     let mut others = within;
     taking.append(&mut others)?;
@@ -283,77 +285,78 @@ fn taking_of(
 /// A task that takes part in reductions so.
 pub(crate) fn task(
     alloc: Global,
-    start: usize,
+    left: usize,
     clauses: Vec<Value>,
     taking: &[Taking],
     inner: Lines,
 ) -> Result<Lines, CFault>
-    ensures { Gives lines_of result (Ok (meant.task start (map view clauses.items) taking.now (lines_of inner))) }
+    ensures { Gives lines_of result (Ok (meant.task left (map view clauses.items) taking.now (lines_of inner))) }
 {
     let clauses = json::list(clauses);
     let list = json::list(inner.statements);
     let statement = json::form2(alloc, "task", clauses, list)?;
-    let taking = taking_of(alloc, start, taking, inner.taking)?;
-    Ok(one_line_with(alloc, start, statement, inner.places, taking)?)
+    let taking = taking_of(alloc, left, taking, inner.taking)?;
+    Ok(one_line_with(alloc, left, statement, inner.places, taking)?)
 }
 
 /// By which operation a group combines, and what its clauses say.
 pub(crate) fn group_heading<'a>(
     alloc: Global,
     scope: &Scope<'a>,
-    start: usize,
+    left: usize,
     clauses: &'a [Clause],
 ) -> Result<(Operation, Heading<'a>), CFault>
-    ensures { Gives (λ x. (x.0, head_of x.1)) result (meant.group_head scope.now start (clauses_of clauses.now)) }
+    ensures { Gives (λ x. (x.0, head_of x.1)) result (meant.group_head scope.now left (clauses_of clauses.now)) }
 {
-    region_at(scope, start)?;
-    let operation = group_operation(start, clauses)?;
-    let heading = headed(alloc, start, scope.again(alloc)?, clauses)?;
+    let name = name_at(left);
+    region_at(scope, name)?;
+    let operation = group_operation(clauses)?;
+    let heading = headed(alloc, name, scope.again(alloc)?, clauses)?;
     Ok((operation, heading))
 }
 
 /// A group.
 pub(crate) fn group(
     alloc: Global,
-    start: usize,
+    left: usize,
     operation: Operation,
     sections: Vec<Value>,
     inner: Lines,
 ) -> Result<Lines, CFault>
-    ensures { Gives lines_of result (Ok (meant.group start operation (map view sections.items) (lines_of inner))) }
+    ensures { Gives lines_of result (Ok (meant.group left operation (map view sections.items) (lines_of inner))) }
 {
     let word = json::text(alloc, operation_word(operation))?;
     let sections = json::list(sections);
     let list = json::list(inner.statements);
     let statement = json::form3(alloc, "group", word, sections, list)?;
-    Ok(one_line_with(alloc, start, statement, inner.places, inner.taking)?)
+    Ok(one_line_with(alloc, left, statement, inner.places, inner.taking)?)
 }
 
 /// Cells of an array, to which `show` has a pointer.
-fn shown_by(alloc: Global, start: usize, sense: Sense) -> Result<Lines, CFault>
-    ensures { Gives lines_of result (meant.shown_by start sense) }
+fn shown_by(alloc: Global, left: usize, sense: Sense) -> Result<Lines, CFault>
+    ensures { Gives lines_of result (meant.shown_by left sense) }
 {
     match sense {
-        Sense::Cells(_, None) => Err(CFault::Outside(start, Reason::NoArray)),
+        Sense::Cells(_, None) => Err(CFault::Outside(left, Reason::NoArray)),
         Sense::Cells(kind, Some(_)) => {
             if is_word(kind) {
                 Ok(no_lines(alloc))
             } else {
-                Err(CFault::Outside(start, Reason::OtherType))
+                Err(CFault::Outside(left, Reason::OtherType))
             }
         }
-        other => Err(CFault::Outside(start, no_cells(other))),
+        other => Err(CFault::Outside(left, no_cells(other))),
     }
 }
 
 /// Cells that are shown outside of regions: all are, whatever is called for.
-fn show(alloc: Global, scope: &Scope<'_>, start: usize, array: Name) -> Result<Lines, CFault>
-    ensures { Gives lines_of result (meant.show scope.now start array) }
+fn show(alloc: Global, scope: &Scope<'_>, left: usize, spot: &Spot) -> Result<Lines, CFault>
+    ensures { Gives lines_of result (meant.show scope.now left (site_of spot.now)) }
 {
     if scope.inside() {
-        Err(CFault::Outside(start, Reason::Function))
+        Err(CFault::Outside(left, Reason::Function))
     } else {
-        shown_by(alloc, start, scope.sense(array))
+        shown_by(alloc, spot.left, scope.sense(spot.array))
     }
 }
 
@@ -363,33 +366,33 @@ fn once_more(alloc: Global, became: &Became) -> Result<Lines, CFault>
 {
     match became {
         Became::Lines(lines) => Ok(copy(alloc, lines)?),
-        Became::Outside(start, reason) => Err(CFault::Outside(*start, *reason)),
+        Became::Outside(left, reason) => Err(CFault::Outside(*left, *reason)),
     }
 }
 
 /// Which function it is, if it is one.
-fn function_by(start: usize, sense: Sense) -> Result<usize, CFault>
-    ensures { Gives (λ n. n) result (meant.function_by start sense) }
+fn function_by(left: usize, sense: Sense) -> Result<usize, CFault>
+    ensures { Gives (λ n. n) result (meant.function_by left sense) }
 {
     match sense {
         Sense::Function(number) => Ok(number),
-        _ => Err(CFault::Outside(start, Reason::Function)),
+        _ => Err(CFault::Outside(left, Reason::Function)),
     }
 }
 
 /// Which function a name is that is called here.
-fn function_at(scope: &Scope<'_>, start: usize, name: Name, exprs: &[Expr]) -> Result<usize, CFault>
-    ensures { Gives (λ n. n) result (meant.function_at scope.now start name (exprs_of exprs.now)) }
+fn function_at(scope: &Scope<'_>, left: usize, name: Name, exprs: &[Expr]) -> Result<usize, CFault>
+    ensures { Gives (λ n. n) result (meant.function_at scope.now left name (exprs_of exprs.now)) }
 {
     match exprs {
         [] => {
             if scope.combines() {
-                Err(CFault::Outside(start, Reason::CallInGroup))
+                Err(CFault::Outside(left, Reason::CallInGroup))
             } else {
-                function_by(start, scope.sense(name))
+                function_by(left, scope.sense(name))
             }
         }
-        _ => Err(CFault::Outside(start, Reason::Function)),
+        _ => Err(CFault::Outside(left, Reason::Function)),
     }
 }
 
@@ -398,15 +401,15 @@ fn call(
     alloc: Global,
     functions: &[Called],
     scope: &Scope<'_>,
-    start: usize,
+    left: usize,
     name: Name,
     exprs: &[Expr],
 ) -> Result<Lines, CFault>
-    ensures { Gives lines_of result (meant.call (map called_of functions.now) scope.now start name (exprs_of exprs.now)) }
+    ensures { Gives lines_of result (meant.call (map called_of functions.now) scope.now left name (exprs_of exprs.now)) }
 {
-    let number = function_at(scope, start, name, exprs)?;
+    let number = function_at(scope, left, name, exprs)?;
     match functions.get(number) {
-        None => Err(CFault::Outside(start, Reason::Function)),
+        None => Err(CFault::Outside(left, Reason::Function)),
         Some(called) => {
             if scope.inside() {
                 once_more(alloc, &called.inside)
@@ -421,28 +424,28 @@ fn call(
 fn assigned(
     alloc: Global,
     scope: &Scope<'_>,
-    start: usize,
+    left: usize,
     target: &Target,
     sign: Option<Sign>,
     expr: &Expr,
 ) -> Result<Lines, CFault>
-    ensures { Gives lines_of result (meant.assigned scope.now start (aim_of target.now) sign (expr_of expr.now)) }
+    ensures { Gives lines_of result (meant.assigned scope.now left (aim_of target.now) sign (expr_of expr.now)) }
 {
-    let statement = assignment(alloc, scope, start, target, sign, expr)?;
-    Ok(one_line(alloc, start, statement, Vec::new(alloc))?)
+    let statement = assignment(alloc, scope, target, sign, expr)?;
+    Ok(one_line(alloc, left, statement, Vec::new(alloc))?)
 }
 
 /// What an `if` keeps in a task's own copy is folded into it.
 pub(crate) fn kept(
     alloc: Global,
     scope: &Scope<'_>,
-    start: usize,
+    left: usize,
     extreme: &Extreme<'_>,
 ) -> Result<Lines, CFault>
-    ensures { Gives lines_of result (meant.kept scope.now start (kept_of extreme.now)) }
+    ensures { Gives lines_of result (meant.kept scope.now left (kept_of extreme.now)) }
 {
-    let statement = folded(alloc, scope, start, extreme)?;
-    Ok(one_line(alloc, start, statement, Vec::new(alloc))?)
+    let statement = folded(alloc, scope, extreme)?;
+    Ok(one_line(alloc, left, statement, Vec::new(alloc))?)
 }
 
 /// A statement.
@@ -459,54 +462,40 @@ pub(crate) fn statement<'a>(
     match stmt {
         Stmt::Block(_, inner) => body(alloc, source, scope, inner),
         Stmt::Assign(left, target, sign, expr) => {
-            assigned(
-                alloc,
-                scope,
-                byte_of(source.starts, *left),
-                target,
-                *sign,
-                expr,
-            )
+            assigned(alloc, scope, *left, target, *sign, expr)
         }
         Stmt::If(left, test, one, two) => {
-            let start = byte_of(source.starts, *left);
             if let Some(extreme) = kept_if(scope, test, one, two) {
-                return kept(alloc, scope, start, &extreme);
+                return kept(alloc, scope, *left, &extreme);
             }
-            let test = value(alloc, scope, start, test)?;
+            let test = value(alloc, scope, test)?;
             let one = body(alloc, source, scope, one)?;
             let two = body(alloc, source, scope, two)?;
-            branch(alloc, start, test.value, one, two)
+            branch(alloc, *left, test.value, one, two)
         }
         Stmt::For(left, turns, inner) => {
-            let start = byte_of(source.starts, *left);
-            let bounds = bounded(alloc, scope, start, turns)?;
+            let bounds = bounded(alloc, scope, turns)?;
             let around = scope.with_turn(alloc, turn_of(turns, true))?;
             let inner = body(alloc, source, &around, inner)?;
-            repeated(alloc, start, bounds, inner)
+            repeated(alloc, *left, bounds, inner)
         }
         Stmt::Task(left, clauses, inner) => {
-            let start = byte_of(source.starts, *left);
-            let heading = task_heading(alloc, scope, start, clauses)?;
+            let heading = task_heading(alloc, scope, *left, clauses)?;
             let inner = body(alloc, source, &heading.scope, inner)?;
-            task(alloc, start, heading.clauses, &heading.taking, inner)
+            task(alloc, *left, heading.clauses, &heading.taking, inner)
         }
-        Stmt::Wait(left, clauses) => wait(alloc, scope, byte_of(source.starts, *left), clauses),
+        Stmt::Wait(left, clauses) => wait(alloc, scope, *left, clauses),
         Stmt::Group(left, clauses, inner) => {
-            let start = byte_of(source.starts, *left);
-            let (operation, heading) = group_heading(alloc, scope, start, clauses)?;
+            let (operation, heading) = group_heading(alloc, scope, *left, clauses)?;
             let inner = body(alloc, source, &heading.scope, inner)?;
-            group(alloc, start, operation, heading.clauses, inner)
+            group(alloc, *left, operation, heading.clauses, inner)
         }
-        Stmt::Yield(_) | Stmt::Point(_, _, _, _) => Ok(no_lines(alloc)),
+        Stmt::Yield(_) | Stmt::Point(_, _, _) => Ok(no_lines(alloc)),
         Stmt::Call(left, name, exprs) => {
-            let start = byte_of(source.starts, *left);
-            call(alloc, source.functions, scope, start, *name, exprs)
+            call(alloc, source.functions, scope, *left, *name, exprs)
         }
-        Stmt::Print(left, exprs) => print(alloc, scope, byte_of(source.starts, *left), exprs),
-        Stmt::Show(left, array, _, _) => {
-            show(alloc, scope, byte_of(source.starts, *left), *array)
-        }
+        Stmt::Print(left, exprs) => print(alloc, scope, *left, exprs),
+        Stmt::Show(left, spot, _) => show(alloc, scope, *left, spot),
     }
 }
 

@@ -1,5 +1,5 @@
 //! Loops that are written out turn by turn.
-ghost use Rattle.std.specs.Prelude.{◌≡◌, [], ◌∷◌, ◌+◌, ◌-◌, ◌<◌, ◌^◌, ℕ, IfOk, IfSome, length};
+ghost use Rattle.std.specs.Prelude.{◌≡◌, [], ◌∷◌, ◌+◌, ◌-◌, ◌<◌, ◌^◌, ℕ, IfOk, IfSome};
 ghost use Rattle.std.specs.List.{range_with_len};
 ghost use Rattle.ot_cstatement.specs.Tree.{stmt_of, list_of, body_of};
 ghost use Rattle.ot_cscope.specs.Results.{Gives};
@@ -16,7 +16,6 @@ use crate::statements::{
     Bounds, Loops, Source, body, bounded, branch, group, group_heading, kept, repeated, statement,
     task, task_heading, turn_of,
 };
-use ot_cdeclare::byte_of;
 use ot_cmeaning::value;
 use ot_cscope::{CFault, Reason, Scope};
 use ot_cstatement::Stmt;
@@ -58,7 +57,7 @@ fn has_branch_one(stmt: &Stmt) -> bool
         Stmt::Task(_, _, inner) | Stmt::Group(_, _, inner) => has_branch(inner),
         Stmt::Assign(_, _, _, _) | Stmt::Wait(_, _) | Stmt::Yield(_) => false,
         Stmt::Call(_, _, _) | Stmt::Print(_, _) => false,
-        Stmt::Show(_, _, _, _) | Stmt::Point(_, _, _, _) => false,
+        Stmt::Show(_, _, _) | Stmt::Point(_, _, _) => false,
     }
 }
 
@@ -148,28 +147,26 @@ fn turned<'a>(
     match stmt {
         Stmt::Block(_, inner) => turned_body(alloc, course, scope, inner),
         Stmt::If(left, test, one, two) => {
-            let start = byte_of(source.starts, *left);
             if let Some(extreme) = kept_if(scope, test, one, two) {
-                return kept(alloc, scope, start, &extreme);
+                return kept(alloc, scope, *left, &extreme);
             }
-            let test = value(alloc, scope, start, test)?.value;
+            let test = value(alloc, scope, test)?.value;
             let number = known(&test, &course.numbers);
             let one = unless_left(alloc, course, scope, leaves_first(number), one)?;
             let two = unless_left(alloc, course, scope, leaves_second(number), two)?;
-            branch(alloc, start, test, one, two)
+            branch(alloc, *left, test, one, two)
         }
         Stmt::For(left, turns, inner) => {
-            let start = byte_of(source.starts, *left);
-            let bounds = bounded(alloc, scope, start, turns)?;
+            let bounds = bounded(alloc, scope, turns)?;
             let around = scope.with_turn(alloc, turn_of(turns, true))?;
             match turns_of(has_branch(inner), &course.numbers, &bounds) {
                 None => {
                     let inner = body(alloc, source, &around, inner)?;
-                    repeated(alloc, start, bounds, inner)
+                    repeated(alloc, *left, bounds, inner)
                 }
                 Some(range) => {
                     let whole = Loop {
-                        start,
+                        left: *left,
                         name: scope.text(turns.variable),
                         bounds: &bounds,
                     };
@@ -178,22 +175,20 @@ fn turned<'a>(
             }
         }
         Stmt::Task(left, clauses, inner) => {
-            let start = byte_of(source.starts, *left);
-            let heading = task_heading(alloc, scope, start, clauses)?;
+            let heading = task_heading(alloc, scope, *left, clauses)?;
             let inner = turned_body(alloc, course, &heading.scope, inner)?;
-            task(alloc, start, heading.clauses, &heading.taking, inner)
+            task(alloc, *left, heading.clauses, &heading.taking, inner)
         }
         Stmt::Group(left, clauses, inner) => {
-            let start = byte_of(source.starts, *left);
-            let (operation, heading) = group_heading(alloc, scope, start, clauses)?;
+            let (operation, heading) = group_heading(alloc, scope, *left, clauses)?;
             let inner = turned_body(alloc, course, &heading.scope, inner)?;
-            group(alloc, start, operation, heading.clauses, inner)
+            group(alloc, *left, operation, heading.clauses, inner)
         }
         Stmt::Assign(_, _, _, _) | Stmt::Wait(_, _) | Stmt::Yield(_) => {
             statement(alloc, source, scope, stmt)
         }
         Stmt::Call(_, _, _) | Stmt::Print(_, _) => statement(alloc, source, scope, stmt),
-        Stmt::Show(_, _, _, _) | Stmt::Point(_, _, _, _) => statement(alloc, source, scope, stmt),
+        Stmt::Show(_, _, _) | Stmt::Point(_, _, _) => statement(alloc, source, scope, stmt),
     }
 }
 
@@ -215,10 +210,10 @@ fn unless_left<'a>(
     }
 }
 
-/// A loop that is written out: the byte at which it begins, its variable, and its bounds.
+/// A loop that is written out: how many words are left where it begins, its variable, and its bounds.
 #[derive(Clone, Copy)]
 struct Loop<'t> {
-    start: usize,
+    left: usize,
     name: &'t str,
     bounds: &'t Bounds,
 }
@@ -234,7 +229,7 @@ fn looped<'a>(
     stmts: &'a [Stmt],
 ) -> Result<Lines, CFault>
     requires { range.1 < 2 ^ 32 }
-    ensures { Gives lines_of result (each (meant.turn_step (length course.now.source.starts.now) whole.entry.start (bounds_of whole.entry.bounds.now)
+    ensures { Gives lines_of result (each (meant.turn_step course.now.source.words whole.entry.left (bounds_of whole.entry.bounds.now)
         (λ k. meant.turned_from (source_of course.now.source) ((whole.entry.name.now, k) ∷ bindings_of course.now.numbers) around.now none (body_of (list_of stmts.now))))
         none (range_with_len range.0 (range.1 - range.0))) }
 {
@@ -257,7 +252,7 @@ fn turn_step<'a>(
     stmts: &'a [Stmt],
 ) -> Result<Lines, CFault>
     requires { number + 1 < 2 ^ 32 }
-    ensures { Gives lines_of result (meant.turn_step (length course.now.source.starts.now) whole.entry.start (bounds_of whole.entry.bounds.now)
+    ensures { Gives lines_of result (meant.turn_step course.now.source.words whole.entry.left (bounds_of whole.entry.bounds.now)
         (λ k. meant.turned_from (source_of course.now.source) ((whole.entry.name.now, k) ∷ bindings_of course.now.numbers) around.now none (body_of (list_of stmts.now)))
         (lines_of lines) number) }
 {
@@ -268,8 +263,8 @@ fn turn_step<'a>(
     };
     let inner = turned_body(alloc, &inner, around, stmts)?;
     let turn = one_turn(whole.bounds, number)?;
-    let turn = repeated(alloc, whole.start, turn, inner)?;
-    within_words(course.source.starts.len(), lines, turn)
+    let turn = repeated(alloc, whole.left, turn, inner)?;
+    within_words(course.source.words, lines, turn)
 }
 
 /// A statement behind others.

@@ -5,8 +5,8 @@ use Rattle.ot_model.specs.Tree.{S, Set, Fold, If, Task, Wait, Group, Body, End, 
 use Rattle.ot_model.specs.View.{stmt_of, stmts_of}
 use Rattle.ot_model.specs.declared.stmt.Stmt.{Stmt}
 use Rattle.ot_model.specs.declared.stmt.Use.{Use}
-use Rattle.ot_c.specs.Laws.{is_nothing, normal, normal_statement}
-use Rattle.ot_cprinted.specs.Apart.{Apart, ApartAt, TellsOne}
+use Rattle.ot_c.specs.Laws.{is_nothing}
+use Rattle.ot_cprinted.specs.Apart.{Apart, ApartAt, TellsOne, told, told_statement}
 use Rattle.ot_cprinted.specs.declared.fault.NoC.{NoC}
 use Rattle.ot_cprinted.specs.declared.fault.NoC.TheVariants as no
 
@@ -29,17 +29,17 @@ apart_nothing : (own : List Use) (k : ℕ) (s : S) (left rest : Body) (n : ℕ) 
 apart_nothing own k s left End n h a = inl (h, a)
 apart_nothing own k s left (Next t others) n h a = inl (h, a)
 
-normal_nothing : (own : List Use) (s : S) (left : Body) → is_nothing s ≡ true → normal own (Next s left) ≡ normal own left
-normal_nothing own s left h = rw h refl
+told_nothing : (own : List Use) (s : S) (left : Body) → is_nothing s ≡ true → told own (Next s left) ≡ told own left
+told_nothing own s left h = rw h refl
 
-normal_something : (own : List Use) (s : S) (left : Body) → is_nothing s ≡ false → normal own (Next s left) ≡ Next (normal_statement own s) (normal own left)
-normal_something own s left h = rw h refl
+told_something : (own : List Use) (s : S) (left : Body) → is_nothing s ≡ false → told own (Next s left) ≡ Next (told_statement own s) (told own left)
+told_something own s left h = rw h refl
 
 -- what holds of those that are left, of which the first has a number, holds of all
 pub record Holds (own : List Use) (number : ℕ) (left rest : Body) (first : ℕ) (whole back : Body) : Type 0 where
   pub count : number + size left ≡ first + size whole
   pub apart : (n : ℕ) → Apart own number left rest n → Apart own first whole back n
-  pub same : normal own left ≡ rest → normal own whole ≡ back
+  pub same : told own left ≡ rest → told own whole ≡ back
 
 pub past_nothing : (own : List Use) (number : ℕ) (s : S) (left rest : Body) (first : ℕ) (whole back : Body) → is_nothing s ≡ true
     → Holds own number (Next s left) rest first whole back → Holds own (number + 1) left rest first whole back
@@ -48,15 +48,15 @@ past_nothing own number s left rest first whole back h holds =
     record {
       count = omega (arith, one, holds.count);
       apart = λ n a. holds.apart n (apart_nothing own number s left rest n h a);
-      same = λ e. holds.same (normal_nothing own s left h ∙ e);
+      same = λ e. holds.same (told_nothing own s left h ∙ e);
     }
 
 pub past_one : (own : List Use) (number : ℕ) (s : S) (left : Body) (t : S) (others : Body) (first : ℕ) (whole back : Body) (next : ℕ) → is_nothing s ≡ false
-    → next ≡ number + size_one s → normal_statement own s ≡ t → Holds own number (Next s left) (Next t others) first whole back → Holds own next left others first whole back
+    → next ≡ number + size_one s → told_statement own s ≡ t → Holds own number (Next s left) (Next t others) first whole back → Holds own next left others first whole back
 past_one own number s left t others first whole back next h counted same holds = record {
   count = omega (arith, counted, holds.count);
   apart = λ n a. holds.apart n (inr (h, inr (same, subst (λ k. Apart own k left others n) counted a)));
-  same = λ e. holds.same (normal_something own s left h ∙ ap₂ Next same e);
+  same = λ e. holds.same (told_something own s left h ∙ ap₂ Next same e);
 }
 
 -- another came back

@@ -1,28 +1,46 @@
 -- What a text means, compared; and why there is no C.
-use Rattle.std.proofs.Common.{◌≡◌, ◌≢◌, ◌∙◌, ℕ, ◌+◌, List, sym, ap}
+use Rattle.std.proofs.Common.{◌≡◌, Bool, true, false, ℕ, List, sym}
 use Rattle.std.specs.Prelude.{MatchResult, Result, Ok, Err}
 use Rattle.ot_model.specs.Programs.{Expanded}
 use Rattle.ot_print.specs.Shown.{Text}
-use Rattle.ot_c.specs.Laws.{normal}
 use Rattle.ot_c.specs.Programs.{IsProgram}
 use Rattle.ot_program.specs.Programs.{program_of}
 use Rattle.ot_clower.specs.Files.{Program}
 use Rattle.ot_ctext.specs.Reading.{Means}
-use Rattle.ot_cprinted.specs.Apart.{ComparesRegion}
+use Rattle.ot_model.specs.Tree.{Body}
+use Rattle.ot_cprinted.specs.Apart.{ApartBy, ComparesBy, ComparesWhole, TellsOne, has_group, told_by}
 use Rattle.ot_cprinted.specs.Printed.{Differs, IsPrinted, IsSame, NotBack, ReadsBack, WhyNot, named, over}
 use Rattle.ot_cprinted.specs.declared.fault.NoC.{NoC}
 use Rattle.ot_cprinted.specs.declared.fault.NoC.TheVariants as no
 
--- a program that was read, compared
-pub region_compared : (arrays : List (Text × ℕ)) (numbers : List (List ℕ)) (p : Expanded) (back : Program) (read : Expanded) (result : Result (Unit {0}) NoC) → back.arrays ≡ named arrays numbers p
-    → program_of (over arrays) back.program ≡ Ok read → ComparesRegion p.body read.body result
+-- what is told of a body, whether its region becomes a group or doesn't
+Tells : Bool → Body → Body → Result (Unit {0}) NoC → Type 0
+Tells group b back (Ok u) = back ≡ told_by group b
+Tells group b back (Err fault) = TellsOne (ApartBy group b back) fault
+
+tells : (group : Bool) (b back : Body) (result : Result (Unit {0}) NoC) → ComparesBy group b back result → Tells group b back result
+unfolding Tells
+tells true b back (Ok u) m = m
+tells true b back (Err fault) m = m
+tells false b back (Ok u) m = sym m
+tells false b back (Err fault) m = m
+
+read_compared : (arrays : List (Text × ℕ)) (numbers : List (List ℕ)) (p : Expanded) (back : Program) (read : Expanded) (result : Result (Unit {0}) NoC) → back.arrays ≡ named arrays numbers p
+    → program_of (over arrays) back.program ≡ Ok read → Tells (has_group p.body) p.body read.body result
     → MatchResult result (λ u. IsSame arrays numbers p back) (λ fault. Differs arrays numbers p back fault)
-region_compared arrays numbers p back read (Ok u) same reads m = record { named = same; read = read; reads = reads; body = m }
-region_compared arrays numbers p back read (Err (no.OtherProgram n)) same reads m = (read, reads, m)
-region_compared arrays numbers p back read (Err no.Memory) same reads m = tt
-region_compared arrays numbers p back read (Err (no.NotReadBack byte reason)) same reads m = absurd m
-region_compared arrays numbers p back read (Err (no.Refused refusal)) same reads m = absurd m
-region_compared arrays numbers p back read (Err no.OtherArrays) same reads m = absurd m
+unfolding Tells
+read_compared arrays numbers p back read (Ok u) same reads m = record { named = same; read = read; reads = reads; body = m }
+read_compared arrays numbers p back read (Err (no.OtherProgram n)) same reads m = (read, reads, m)
+read_compared arrays numbers p back read (Err no.Memory) same reads m = tt
+read_compared arrays numbers p back read (Err (no.NotReadBack byte reason)) same reads m = absurd m
+read_compared arrays numbers p back read (Err (no.Refused refusal)) same reads m = absurd m
+read_compared arrays numbers p back read (Err no.OtherArrays) same reads m = absurd m
+
+-- a program that was read, compared
+pub whole_compared : (arrays : List (Text × ℕ)) (numbers : List (List ℕ)) (p : Expanded) (back : Program) (read : Expanded) (result : Result (Unit {0}) NoC) → back.arrays ≡ named arrays numbers p
+    → program_of (over arrays) back.program ≡ Ok read → ComparesWhole p.body read.body result
+    → MatchResult result (λ u. IsSame arrays numbers p back) (λ fault. Differs arrays numbers p back fault)
+whole_compared arrays numbers p back read result same reads m = read_compared arrays numbers p back read result same reads (tells (has_group p.body) p.body read.body result m)
 
 -- what a text means, compared
 pub meaning_compared : (arrays : List (Text × ℕ)) (numbers : List (List ℕ)) (p : Expanded) (text : Text) (back : Program) (result : Result (Unit {0}) NoC) → Means text (Ok back)

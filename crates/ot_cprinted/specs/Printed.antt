@@ -2,13 +2,12 @@
 use Rattle.std.specs.Prelude.{◌≡◌, ◌≢◌, ℕ, List, [], map, Result, Ok, Err}
 use Rattle.ot_model.specs.Programs.{Arrays, Expanded}
 use Rattle.ot_print.specs.Shown.{Text}
-use Rattle.ot_c.specs.Laws.{normal}
 use Rattle.ot_c.specs.Programs.{Declared, IsProgram, declared_from}
 use Rattle.ot_program.specs.Programs.{program_of}
 use Rattle.ot_cdeclare.specs.Arrays.{Arr}
 use Rattle.ot_clower.specs.Files.{Program}
 use Rattle.ot_ctext.specs.Reading.{Means}
-use Rattle.ot_cprinted.specs.Apart.{ApartInRegion, in_region}
+use Rattle.ot_cprinted.specs.Apart.{ApartWhole, told_whole}
 use Rattle.ot_cprinted.specs.declared.fault.NoC.{NoC}
 use Rattle.ot_cprinted.specs.declared.fault.NoC.TheVariants as no
 
@@ -27,12 +26,12 @@ abbrev pub over : List (Text × ℕ) → Arrays
 over arrays = record { arrays = arrays; tasks = 20000 }
 
 -- What a text means is this program, over arrays that begin with these numbers: its arrays are those that the program names, and its
--- body is the program's as far as C tells it, in the region's group.
+-- body is the program's as far as C tells it (`told`), in the region's group where the region becomes one.
 pub record IsSame (arrays : List (Text × ℕ)) (numbers : List (List ℕ)) (p : Expanded) (back : Program) : Type 0 where
   pub named : back.arrays ≡ named arrays numbers p
   pub read : Expanded
   pub reads : program_of (over arrays) back.program ≡ Ok read
-  pub body : read.body ≡ in_region (normal [] p.body)
+  pub body : read.body ≡ told_whole p.body
 
 pub record ReadsBack (arrays : List (Text × ℕ)) (numbers : List (List ℕ)) (p : Expanded) (text : Text) : Type 0 where
   pub back : Program
@@ -49,7 +48,7 @@ IsPrinted arrays numbers p text = IsProgram arrays numbers p text × ReadsBack a
 abbrev pub Differs : List (Text × ℕ) → List (List ℕ) → Expanded → Program → NoC → Type 0
 Differs arrays numbers p back no.OtherArrays = back.arrays ≢ named arrays numbers p
 Differs arrays numbers p back (no.Refused refusal) = program_of (over arrays) back.program ≡ Err refusal
-Differs arrays numbers p back (no.OtherProgram n) = (read : Expanded) × (program_of (over arrays) back.program ≡ Ok read) × ApartInRegion p.body read.body n
+Differs arrays numbers p back (no.OtherProgram n) = (read : Expanded) × (program_of (over arrays) back.program ≡ Ok read) × ApartWhole p.body read.body n
 Differs arrays numbers p back (no.NotReadBack byte reason) = ⊥
 Differs arrays numbers p back no.Memory = Unit {0}
 

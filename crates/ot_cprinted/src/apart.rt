@@ -1,10 +1,12 @@
 //! The first statement of a program that comes back as another one.
-ghost use Rattle.std.specs.Prelude.{◌≡◌, ◌↔◌, ◌+◌, ◌<◌, ◌^◌, [], IfOk, IsTrue, MatchResult, true, false};
-ghost use Rattle.ot_model.specs.Tree.{Apply, CellAt, End, Group, Next, Set, Task, size, size_one};
+ghost use Rattle.std.specs.Prelude.{◌≡◌, ◌↔◌, ◌+◌, ◌<◌, ◌^◌, [], IfOk, IsTrue, MatchResult, option_map, true, false};
+ghost use Rattle.ot_model.specs.Cells.{same_cell};
+ghost use Rattle.ot_model.specs.Tree.{End, Group, Next, Set, Task, size, size_one};
 ghost use Rattle.ot_model.specs.declared.fold.Fold.TheVariants.{Plus};
 ghost use Rattle.ot_model.specs.View.{expr_of, stmt_of, stmts_of};
-ghost use Rattle.ot_c.specs.Laws.{is_nothing, normal_fold, normal_group};
-ghost use Rattle.ot_cprinted.specs.Apart.{Compares, ComparesOne, ComparesRegion};
+ghost use Rattle.ot_c.specs.Laws.{is_nothing, normal_group};
+ghost use Rattle.ot_cprinted.specs.Apart.{Compares, ComparesFirst, ComparesGroup, ComparesOne, ComparesWhole};
+ghost use Rattle.ot_cprinted.specs.Apart as meant;
 ghost use Rattle.ot_cprinted.specs.declared.fault.NoC.TheVariants.{OtherProgram};
 
 use crate::fault::NoC;
@@ -12,10 +14,58 @@ use ot_c::{each_once, only_folds};
 use ot_model::{Cell, Decl, Expr, Fold, Op, Stmt};
 use std::alloc::{AllocError, Global};
 
-/// Whether what came back is a program's body as far as C tells it, in the region's group.
-pub(crate) fn compare_region(alloc: Global, body: &[Stmt], back: &[Stmt]) -> Result<(), NoC>
+/// Whether what came back is a program's body as far as C tells it, in the region's group where the region becomes one.
+pub(crate) fn compare_whole(alloc: Global, body: &[Stmt], back: &[Stmt]) -> Result<(), NoC>
     requires { 1 + size (stmts_of body.now) < 2 ^ 32 }
-    ensures { ComparesRegion (stmts_of body.now) (stmts_of back.now) result }
+    ensures { ComparesWhole (stmts_of body.now) (stmts_of back.now) result }
+{
+    if has_group(body) {
+        compare_region(alloc, body, back)
+    } else {
+        compare_first(alloc, body, back)
+    }
+}
+
+/// Whether a group stands in a body outside of its tasks.
+#[cycle(groups)]
+fn has_group(stmts: &[Stmt]) -> bool
+    ensures { result ≡ meant.has_group (stmts_of stmts.now) }
+{
+    for stmt in stmts {
+        if has_group_one(stmt) {
+            return true;
+        }
+    }
+    false
+}
+
+/// Whether one stands in a statement.
+#[cycle(groups)]
+fn has_group_one(stmt: &Stmt) -> bool
+    ensures { result ≡ meant.has_group_one (stmt_of stmt.now) }
+{
+    match stmt {
+        Stmt::If(_, one, two) => has_group(one) || has_group(two),
+        Stmt::Group(_, _, _) => true,
+        Stmt::Set(_, _) | Stmt::Fold(_, _, _) => false,
+        Stmt::Task(_, _) | Stmt::Wait(_) => false,
+    }
+}
+
+/// Whether what came back is a program's body as far as C tells it.
+fn compare_first(alloc: Global, body: &[Stmt], back: &[Stmt]) -> Result<(), NoC>
+    requires { 1 + size (stmts_of body.now) < 2 ^ 32 }
+    ensures { ComparesFirst (stmts_of body.now) (stmts_of back.now) result }
+{
+    let nothing = Decl::new(Vec::new(alloc));
+    let _behind = compare(alloc, &nothing, 1, body, back)?;
+    Ok(())
+}
+
+/// The same, in the region's group.
+fn compare_region(alloc: Global, body: &[Stmt], back: &[Stmt]) -> Result<(), NoC>
+    requires { 1 + size (stmts_of body.now) < 2 ^ 32 }
+    ensures { ComparesGroup (stmts_of body.now) (stmts_of back.now) result }
 {
     if back.len() != 1 {
         return Err(NoC::OtherProgram(0));
@@ -25,15 +75,14 @@ pub(crate) fn compare_region(alloc: Global, body: &[Stmt], back: &[Stmt]) -> Res
 
 fn compare_inside(alloc: Global, body: &[Stmt], region: &Stmt) -> Result<(), NoC>
     requires { 1 + size (stmts_of body.now) < 2 ^ 32 }
-    ensures { ComparesRegion (stmts_of body.now) (Next (stmt_of region.now) End) result }
+    ensures { ComparesGroup (stmts_of body.now) (Next (stmt_of region.now) End) result }
 {
     match region {
         Stmt::Group(op, cells, inside) => {
             if !is_plain(*op, cells) {
                 return Err(NoC::OtherProgram(0));
             }
-            let nothing = Decl::new(Vec::new(alloc));
-            let _behind = compare(alloc, &nothing, 1, body, inside)?;
+            compare_first(alloc, body, inside)?;
             Ok(())
         }
         _ => Err(NoC::OtherProgram(0)),
@@ -100,9 +149,9 @@ fn compare_one(
     ensures { ComparesOne own.now number (stmt_of stmt.now) (stmt_of other.now) result }
 {
     match stmt {
-        Stmt::Set(_, _) | Stmt::Wait(_) => numbered(number, stmt.same_as(other)),
-        Stmt::Fold(op, cell, expr) => {
-            let told = told_fold(alloc, own, *op, *cell, expr)?;
+        Stmt::Fold(_, _, _) | Stmt::Wait(_) => numbered(number, stmt.same_as(other)),
+        Stmt::Set(cell, expr) => {
+            let told = told_set(alloc, own, *cell, expr)?;
             numbered(number, told.same_as(other))
         }
         Stmt::If(expr, one, two) => match other {
@@ -201,31 +250,69 @@ fn same_cells(ones: &[Cell], others: &[Cell]) -> bool
     ones == others
 }
 
-/// A fold as C tells it: by `min` or `max`, where the task doesn't only fold into the cell by it, it is the set that does the same.
-fn told_fold(
-    alloc: Global,
-    own: &Decl,
-    op: Fold,
-    cell: Cell,
-    expr: &Expr,
-) -> Result<Stmt, AllocError>
-    ensures { IfOk result (λ told. stmt_of told ≡ normal_fold own.now op cell (expr_of expr.now)) }
+/// Whether both are one cell.
+fn is_cell(cell: Cell, other: Cell) -> bool
+    ensures { result ≡ same_cell cell other }
 {
-    if only_folds(own, op, cell) {
-        return Ok(Stmt::Fold(op, cell, expr.copy(alloc)?));
-    }
+    cell.array == other.array && cell.index == other.index
+}
+
+/// The operation of a fold that is a function.
+#[tactic(auto, unfolding(crate::specs::Apart::fold_of))]
+fn fold_of(op: Op) -> Option<Fold>
+    ensures { result ≡ meant.fold_of op }
+{
     match op {
-        Fold::Min => called(alloc, Op::Min, cell, expr),
-        Fold::Max => called(alloc, Op::Max, cell, expr),
-        _ => Ok(Stmt::Fold(op, cell, expr.copy(alloc)?)),
+        Op::Min => Some(Fold::Min),
+        Op::Max => Some(Fold::Max),
+        _ => None,
     }
 }
 
-/// The set of a cell to what a function gives of it and a value.
-fn called(alloc: Global, op: Op, cell: Cell, expr: &Expr) -> Result<Stmt, AllocError>
-    ensures { IfOk result (λ told. stmt_of told ≡ Set cell (Apply op (CellAt cell) (expr_of expr.now))) }
+/// By which operation a value is folded into a cell, unless the task only folds into its own copy by it.
+fn unless_own<'a>(
+    own: &Decl,
+    cell: Cell,
+    expr: &'a Expr,
+    op: Option<Fold>,
+) -> Option<(Fold, &'a Expr)>
+    ensures { option_map (λ x. (x.0, expr_of x.1.now)) result ≡ meant.unless_own own.now cell (expr_of expr.now) op }
 {
-    let one = Box::new(alloc, Expr::Cell(cell))?;
-    let two = Box::new(alloc, expr.copy(alloc)?)?;
-    Ok(Stmt::Set(cell, Expr::Op(op, one, two)))
+    let op = op?;
+    if only_folds(own, op, cell) {
+        None
+    } else {
+        Some((op, expr))
+    }
+}
+
+/// What is folded into a cell that is set to the least or greatest of itself and a value. C has one text for that and for the
+/// fold that does the same, which is read as the fold.
+#[tactic(auto, unfolding(crate::specs::Apart::fold_in))]
+fn fold_in<'a>(own: &Decl, cell: Cell, expr: &'a Expr) -> Option<(Fold, &'a Expr)>
+    ensures { option_map (λ x. (x.0, expr_of x.1.now)) result ≡ meant.fold_in own.now cell (expr_of expr.now) }
+{
+    match expr {
+        Expr::Op(op, one, two) => match &**one {
+            Expr::Cell(other) => {
+                if is_cell(cell, *other) {
+                    unless_own(own, cell, two, fold_of(*op))
+                } else {
+                    None
+                }
+            }
+            _ => None,
+        },
+        _ => None,
+    }
+}
+
+/// What comes back of a set.
+fn told_set(alloc: Global, own: &Decl, cell: Cell, expr: &Expr) -> Result<Stmt, AllocError>
+    ensures { IfOk result (λ told. stmt_of told ≡ meant.told_statement own.now (Set cell (expr_of expr.now))) }
+{
+    match fold_in(own, cell, expr) {
+        Some((op, more)) => Ok(Stmt::Fold(op, cell, more.copy(alloc)?)),
+        None => Ok(Stmt::Set(cell, expr.copy(alloc)?)),
+    }
 }

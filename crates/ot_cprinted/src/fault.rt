@@ -16,7 +16,8 @@ pub enum NoC {
     Refused(Refusal),
     /// It has other arrays, or arrays that begin with other numbers.
     OtherArrays,
-    /// This is the first statement that comes back as another one, counted from 1. Number 0 says that no region came back.
+    /// This is the first statement that comes back as another one, counted from 1. Number 0 says that the group of the region didn't
+    /// come back.
     OtherProgram(u32),
 }
 

@@ -5,7 +5,7 @@ ghost use Rattle.ot_c.specs.Programs.{lists_of};
 ghost use Rattle.ot_clower.specs.Files.{lowered_of};
 ghost use Rattle.ot_cprinted.specs.Printed.{Differs, IsPrinted, IsSame, NotBack, ReadsBack, WhyNot};
 
-use crate::apart::compare_region;
+use crate::apart::compare_whole;
 use crate::arrays::{same_arrays, shape_of};
 use crate::fault::NoC;
 use ot_c::c_text;
@@ -69,7 +69,7 @@ fn compare(
     }
     let shape = shape_of(alloc, arrays)?;
     match read_program(alloc, &lowered.program, &shape) {
-        Ok(read) => compare_region(alloc, &program.body, &read.body),
+        Ok(read) => compare_whole(alloc, &program.body, &read.body),
         Err(ProgramFault::Refused(refusal)) => Err(NoC::Refused(refusal)),
         Err(ProgramFault::Memory) => Err(NoC::Memory),
     }

@@ -22,16 +22,16 @@ Meant = Result Program (ℕ × List ℕ)
 abbrev pub byte_at : List ℕ → ℕ → ℕ → ℕ
 byte_at starts size left = unwrap_or (slice_get starts (length starts - left)) size
 
-abbrev pub reasoned : Result Program Refusal → Meant
-reasoned (Ok program) = Ok program
-reasoned (Err e) = Err (e.0, program_reason e.1)
+abbrev pub reasoned : List ℕ → ℕ → Result Program Refusal → Meant
+reasoned starts size (Ok program) = Ok program
+reasoned starts size (Err e) = Err (byte_at starts size e.0, program_reason e.1)
 
--- of a file whose names are these, and whose words begin at these bytes, where `if` is among them or isn't
-abbrev pub meaning_of_file : List (String Global) → List ℕ → Bool → Whole → Meant
-meaning_of_file names starts guards file = reasoned (settled guards (lowered names starts file) (lowered_by_turns names starts file))
+-- of a file of so many bytes whose names are these, and whose words begin at these bytes, where `if` is among them or isn't
+abbrev pub meaning_of_file : List (String Global) → List ℕ → ℕ → Bool → Whole → Meant
+meaning_of_file names starts size guards file = reasoned starts size (settled guards (lowered names starts file) (lowered_by_turns names starts file))
 
 abbrev pub meaning_read : List (String Global) → List ℕ → ℕ → Bool → Result Whole Fault → Meant
-meaning_read names starts size guards (Ok file) = meaning_of_file names starts guards file
+meaning_read names starts size guards (Ok file) = meaning_of_file names starts size guards file
 meaning_read names starts size guards (Err fault) = Err (byte_at starts size (words_left fault), file_reason fault)
 
 -- of the words of a text of so many bytes

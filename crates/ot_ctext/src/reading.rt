@@ -39,7 +39,7 @@ fn meaning_of_words(alloc: Global, size: usize, words: &Words) -> Result<Meaning
     ensures { IfOk result (λ meaning. seen meaning ≡ meant.meaning_of_words words.now.names.keys words.now.starts.items size words.now.words.items) }
 {
     match read_file(alloc, words.words.as_slice()) {
-        Ok(file) => meaning_of_file(alloc, words, &file),
+        Ok(file) => meaning_of_file(alloc, size, words, &file),
         Err(ot_cstatement::ReadError::Fault(fault)) => {
             let byte = byte_at(words.starts.as_slice(), size, words_left(fault));
             Ok(Meaning::Outside(byte, file_reason(fault)))
@@ -48,13 +48,21 @@ fn meaning_of_words(alloc: Global, size: usize, words: &Words) -> Result<Meaning
     }
 }
 
-/// What a file means that these words say.
-fn meaning_of_file(alloc: Global, words: &Words, file: &File) -> Result<Meaning, AllocError>
-    ensures { IfOk result (λ meaning. seen meaning ≡ meant.meaning_of_file words.now.names.keys words.now.starts.items (has_guards words.now.words.items) (file_of file.now)) }
+/// What a file of so many bytes means that these words say.
+fn meaning_of_file(
+    alloc: Global,
+    size: usize,
+    words: &Words,
+    file: &File,
+) -> Result<Meaning, AllocError>
+    ensures { IfOk result (λ meaning. seen meaning ≡ meant.meaning_of_file words.now.names.keys words.now.starts.items size (has_guards words.now.words.items) (file_of file.now)) }
 {
     match lower(alloc, words, file) {
         Ok(lowered) => Ok(Meaning::Program(settled(alloc, words, file, lowered)?)),
-        Err(CFault::Outside(byte, reason)) => Ok(Meaning::Outside(byte, program_reason(reason))),
+        Err(CFault::Outside(left, reason)) => {
+            let byte = byte_at(words.starts.as_slice(), size, left);
+            Ok(Meaning::Outside(byte, program_reason(reason)))
+        }
         Err(CFault::Memory) => Err(AllocError),
     }
 }

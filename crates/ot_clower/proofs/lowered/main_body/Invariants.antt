@@ -1,11 +1,10 @@
 use Rattle.std.proofs.Common.{◌≡◌, drop}
 use Rattle.ot_cfile.specs.Program.{main_of}
-use Rattle.ot_cdeclare.specs.Each.{each}
 use Rattle.ot_cdeclare.specs.Arrays.{declared_of}
 use Rattle.ot_clower.specs.Statements.{source_of}
-use Rattle.ot_clower.specs.Files.{progress_of, main_step, main_body}
+use Rattle.ot_clower.specs.Files.{progress_of, main_from, main_body}
 use Rattle.ot_clower.proofs.lowered.main_body.Given as goal
 
 -- those that are left complete what there is
-abbrev pub invariant-loop-step : goal.invariant-loop-step
-invariant-loop-step l = each (main_step l.words.names.keys l.words.starts.items (source_of l.source)) (progress_of l.progress) (main_of (drop l.step-index l.steps)) ≡ main_body l.words.names.keys l.words.starts.items (source_of l.source) (declared_of l.fn.declared) (main_of l.steps)
+abbrev pub invariant-loop-number : goal.invariant-loop-number
+invariant-loop-number l = main_from l.words.names.keys (source_of l.source) (progress_of l.progress) (main_of (drop l.number l.steps)) ≡ main_body l.words.names.keys (source_of l.source) (declared_of l.fn.declared) (main_of l.steps)

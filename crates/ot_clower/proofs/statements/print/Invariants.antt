@@ -7,4 +7,4 @@ use Rattle.ot_clower.proofs.statements.print.Given as goal
 
 -- those that are left complete what there is
 abbrev pub invariant-loop-expr : goal.invariant-loop-expr
-invariant-loop-expr l = each (read_step l.scope l.start) (lines_of l.lines) (exprs_of (drop l.expr-index l.exprs)) ≡ print l.scope l.start (exprs_of l.exprs)
+invariant-loop-expr l = each (read_step l.scope l.left) (lines_of l.lines) (exprs_of (drop l.expr-index l.exprs)) ≡ print l.scope l.left (exprs_of l.exprs)

@@ -39,7 +39,7 @@ pub looped-returns-in_err-lines : goal.looped-returns-in_err-lines
 looped-returns-in_err-lines t c =
     let l = c.loop-number in
     let inner = λ (k : ℕ). turned_from (source_of c.args.course.now.source) ((c.args.whole.name.now, k) ∷ bindings_of c.args.course.now.numbers) c.args.around.now none (body_of (list_of c.args.stmts.now)) in
-    let step = turn_step (length c.args.course.now.source.starts.now) c.args.whole.start (bounds_of c.args.whole.bounds.now) inner in
+    let step = turn_step c.args.course.now.source.words c.args.whole.left (bounds_of c.args.whole.bounds.now) inner in
     let p = err_from_is_err_and c.from_residual.result c.from_residual.ensures.1 in
     rw (p.1, p.2) (turn_fails step l.number c.args.range.1 (lines_of l.lines) (each step none (range_with_len c.args.range.0 (c.args.range.1 - c.args.range.0))) c.in_err-lines.field-0.0 c.loop-number-test.true l.invariant c.in_err-lines.ensures)
 
@@ -47,14 +47,14 @@ pub looped-loop-number-preserved : goal.looped-loop-number-preserved
 looped-loop-number-preserved t c =
     let l = c.loop-number in
     let inner = λ (k : ℕ). turned_from (source_of c.args.course.now.source) ((c.args.whole.name.now, k) ∷ bindings_of c.args.course.now.numbers) c.args.around.now none (body_of (list_of c.args.stmts.now)) in
-    let step = turn_step (length c.args.course.now.source.starts.now) c.args.whole.start (bounds_of c.args.whole.bounds.now) inner in
+    let step = turn_step c.args.course.now.source.words c.args.whole.left (bounds_of c.args.whole.bounds.now) inner in
     turn_more step l.number c.args.range.1 (lines_of l.lines) (lines_of c.in_ok-lines.lines) (each step none (range_with_len c.args.range.0 (c.args.range.1 - c.args.range.0))) c.loop-number-test.true l.invariant c.in_ok-lines.ensures
 
 pub looped-returns : goal.looped-returns
 looped-returns t c =
     let l = c.loop-number in
     let inner = λ (k : ℕ). turned_from (source_of c.args.course.now.source) ((c.args.whole.name.now, k) ∷ bindings_of c.args.course.now.numbers) c.args.around.now none (body_of (list_of c.args.stmts.now)) in
-    let step = turn_step (length c.args.course.now.source.starts.now) c.args.whole.start (bounds_of c.args.whole.bounds.now) inner in
+    let step = turn_step c.args.course.now.source.words c.args.whole.left (bounds_of c.args.whole.bounds.now) inner in
     turn_last step l.number c.args.range.1 (lines_of l.lines) (each step none (range_with_len c.args.range.0 (c.args.range.1 - c.args.range.0))) c.loop-number-test.false l.invariant
 
 pub turned-returns-in-Some-turns_of : goal.turned-returns-in-Some-turns_of
@@ -69,12 +69,12 @@ turned-returns-in-Some-turns_of t c =
     let around : c.in_ok-around-in-For.around ≡ with_turn c.args.scope.now (turn (course_of c.in-For.turns) true) =
     c.in_ok-around-in-For.ensures ∙ ap (with_turn c.args.scope.now) c.turn_of.ensures in
     subst (Gives lines_of c.looped.result)
-    (sym (for_turns o v c.args.scope.now c.in_ok-around-in-For.around (stmt_of c.args.stmt.now) c.in-For.left c.byte_of-start-in-For.result (course_of c.in-For.turns) b
-    (bounds_of c.in_ok-bounds-in-For.bounds) c.in-Some-turns_of.range c.text.result.now is c.byte_of-start-in-For.ensures around c.text.ensures c.in_ok-bounds-in-For.ensures known))
+    (sym (for_turns o v c.args.scope.now c.in_ok-around-in-For.around (stmt_of c.args.stmt.now) c.in-For.left (course_of c.in-For.turns) b
+    (bounds_of c.in_ok-bounds-in-For.bounds) c.in-Some-turns_of.range c.text.result.now is around c.text.ensures c.in_ok-bounds-in-For.ensures known))
     (subst
     (λ ss. Gives lines_of c.looped.result
     (each
-    (turn_step (length c.args.course.now.source.starts.now) c.byte_of-start-in-For.result (bounds_of c.in_ok-bounds-in-For.bounds)
+    (turn_step c.args.course.now.source.words c.in-For.left (bounds_of c.in_ok-bounds-in-For.bounds)
     (λ k. turned_from o ((c.text.result.now, k) ∷ v) c.in_ok-around-in-For.around none (body_of (list_of ss))))
     none (range_with_len c.in-Some-turns_of.range.0 (c.in-Some-turns_of.range.1 - c.in-Some-turns_of.range.0))))
     c.deref-in-Some-turns_of.ensures.value c.looped.ensures)

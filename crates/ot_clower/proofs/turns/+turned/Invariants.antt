@@ -17,6 +17,6 @@ invariant-turned_body-loop-stmt l =
 -- the turns that are left complete the loop
 abbrev pub invariant-looped-loop-number : goal.invariant-looped-loop-number
 invariant-looped-loop-number l =
-    let step = turn_step (length l.course.source.starts.now) l.whole.start (bounds_of l.whole.bounds.now)
+    let step = turn_step l.course.source.words l.whole.left (bounds_of l.whole.bounds.now)
     (λ k. turned_from (source_of l.course.source) ((l.whole.name.now, k) ∷ bindings_of l.course.numbers) l.around none (body_of (list_of l.stmts))) in
     each step (lines_of l.lines) (range_with_len l.number (l.fn.range.1 - l.number)) ≡ each step none (range_with_len l.fn.range.0 (l.fn.range.1 - l.fn.range.0))

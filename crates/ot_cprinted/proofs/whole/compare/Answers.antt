@@ -6,9 +6,9 @@ use Rattle.ot_c.specs.Programs.{lists_of}
 use Rattle.ot_clower.specs.Files.{lowered_of}
 use Rattle.ot_cdeclare.specs.Arrays.{array_of}
 use Rattle.ot_program.specs.Programs.{program_of}
-use Rattle.ot_cprinted.specs.Apart.{ComparesRegion}
+use Rattle.ot_cprinted.specs.Apart.{ComparesWhole}
 use Rattle.ot_cprinted.specs.Printed.{named, over}
-use Rattle.ot_cprinted.proofs.PrintedLemmas.{region_compared}
+use Rattle.ot_cprinted.proofs.PrintedLemmas.{whole_compared}
 use Rattle.ot_cprinted.proofs.whole.compare.Goals as goal
 
 pub returns-in-Ok : goal.returns-in-Ok
@@ -20,6 +20,6 @@ returns-in-Ok c =
     let read = expanded_of c.in-Ok.read in
     let same : back.arrays ≡ named arrays numbers p = ap (map array_of) (sym c.deref.ensures.value) ∙ c.same_arrays.ensures.0 c.if-not-same_arrays.false in
     let reads : program_of (over arrays) back.program ≡ Ok read = subst (λ s. program_of s back.program ≡ Ok read) c.in_ok-shape.ensures c.in-Ok.ensures.read in
-    region_compared arrays numbers p back read c.compare_region.result same reads
-    (subst (λ ss. ComparesRegion (stmts_of ss) (stmts_of c.in-Ok.read.body.items) c.compare_region.result) c.deref-in-Ok.ensures.value
-    (subst (λ ss. ComparesRegion (stmts_of c.deref-in-Ok.result.now) (stmts_of ss) c.compare_region.result) c.deref-in-Ok-2.ensures.value c.compare_region.ensures))
+    whole_compared arrays numbers p back read c.compare_whole.result same reads
+    (subst (λ ss. ComparesWhole (stmts_of ss) (stmts_of c.in-Ok.read.body.items) c.compare_whole.result) c.deref-in-Ok.ensures.value
+    (subst (λ ss. ComparesWhole (stmts_of c.deref-in-Ok.result.now) (stmts_of ss) c.compare_whole.result) c.deref-in-Ok-2.ensures.value c.compare_whole.ensures))
