@@ -1,6 +1,9 @@
 //! Calls.
+use crate::at::at_of;
 use crate::fault::{Fault, Why};
 use crate::maker::{Maker, Val, below};
+use crate::unions::stands_apart;
+use crate::value::DEEPEST;
 use ot_clayout::Sort;
 use ot_code::Form;
 use ot_ctree::{Expr, Type};
@@ -54,10 +57,37 @@ impl<'a> Maker<'a> {
                 }
                 _ => self.expression(less, argument)?,
             };
+            stands_apart(at_of(argument), value.within)?;
             self.arguments.push(value)?;
             number = number.saturating_add(1);
         }
         Ok(())
+    }
+
+    /// Arguments of a function of the text in slots one after another, behind all others: the first one.
+    pub(crate) fn argument_slots(
+        &mut self,
+        at: u32,
+        function: u32,
+        arguments: &[Expr],
+    ) -> Result<u32, Fault> {
+        let base = self.arguments.len();
+        self.pass(DEEPEST, Callee::Own(function), arguments)?;
+        let first = self.frame.next;
+        for place in base..self.arguments.len() {
+            if let Some(value) = self.arguments.get(place).copied() {
+                self.copy(value.slot)?;
+            }
+        }
+        self.arguments.truncate(base);
+        let wanted = match self.unit.functions.get(function as usize) {
+            Some(function) => function.parameters.len(),
+            None => 0,
+        };
+        if arguments.len() < wanted {
+            return Err(Fault::Refused(at, Why::Arguments));
+        }
+        Ok(first)
     }
 
     /// What a name that is called says. None for another expression.
@@ -144,11 +174,7 @@ impl<'a> Maker<'a> {
             .unwrap_or(Sort::INT);
         let first = self.placed(base)?;
         self.emit(Form::Call(at, function, first))?;
-        Ok(Val {
-            slot: first,
-            sort: gives,
-            own: false,
-        })
+        Ok(self.value(first, gives))
     }
 
     /// Arguments in slots one after another, behind all others.

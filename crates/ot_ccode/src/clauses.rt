@@ -1,6 +1,7 @@
 //! Clauses.
 use crate::fault::{Fault, Why};
 use crate::maker::{ALONE, Aim, FINAL, Held, LONG, Maker, WORD};
+use crate::unions::stands_apart;
 use crate::value::DEEPEST;
 use ot_clayout::{Class, Sort};
 use ot_code::{Depends, Folded, Form, Item, Operation};
@@ -169,6 +170,7 @@ impl<'a> Maker<'a> {
                 continue;
             }
             let place = self.item_place(64, item)?;
+            stands_apart(place.site, place.within)?;
             self.items.push(Item {
                 mode,
                 slot: place.slot,
@@ -288,6 +290,7 @@ impl<'a> Maker<'a> {
                 continue;
             }
             let place = self.item_place(64, item)?;
+            stands_apart(place.site, place.within)?;
             if let Some(one) = self.items.get(first.saturating_add(number)).copied() {
                 self.emit(Form::Copy(one.slot, place.slot))?;
             }
@@ -322,6 +325,7 @@ impl<'a> Maker<'a> {
     fn folds_by(&mut self, at: u32, fold: Fold, items: &[Expr]) -> Result<(), Fault> {
         for item in items {
             let aim = self.item_place(64, item)?;
+            stands_apart(aim.site, aim.within)?;
             let cells = self.item_cells(at, item, aim)?;
             self.folded.push(Folded {
                 fold,
@@ -349,6 +353,7 @@ impl<'a> Maker<'a> {
     fn joins_by(&mut self, at: u32, fold: Fold, items: &[Expr], base: usize) -> Result<(), Fault> {
         for item in items {
             let aim = self.item_place(64, item)?;
+            stands_apart(aim.site, aim.within)?;
             let cells = self.item_cells(at, item, aim)?;
             let slot = self.passes(aim.slot, base)?;
             self.joined.push(Joined { fold, slot, cells })?;

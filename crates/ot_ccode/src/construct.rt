@@ -1,6 +1,6 @@
 //! Constructs.
 use crate::fault::{Fault, Why};
-use crate::maker::{ACTIVE, ALONE, Around, Maker, WORD, below};
+use crate::maker::{ACTIVE, ALONE, Around, Maker, Returns, WORD, below};
 use crate::team::{Team, Thread, Whose};
 use crate::value::DEEPEST;
 use ot_code::{Form, Operation};
@@ -14,10 +14,11 @@ pub(crate) struct Region {
     live: usize,
     was: usize,
     around: Around,
-    returns: bool,
+    returns: Returns,
     next: u32,
     team: Team,
     whose: Whose,
+    text: u32,
 }
 
 impl<'a> Maker<'a> {
@@ -30,10 +31,11 @@ impl<'a> Maker<'a> {
             next: self.frame.next,
             team: self.team,
             whose: self.whose,
+            text: self.labels.begins(),
         };
         self.around = Around::NOTHING;
         self.team = Team::Nothing;
-        self.frame.returns = false;
+        self.frame.returns = Returns::Nowhere;
         region
     }
 
@@ -45,6 +47,7 @@ impl<'a> Maker<'a> {
         self.frame.next = region.next;
         self.team = region.team;
         self.whose = region.whose;
+        self.labels.goes_on(region.text);
         Ok(())
     }
 
@@ -173,6 +176,7 @@ impl<'a> Maker<'a> {
                 if let Team::Pieces(pieces) = self.team {
                     return self.single(depth, at, clauses, body, pieces);
                 }
+                self.is_by_caller(at)?;
                 let waits = !has(clauses, Role::Nowait);
                 self.region(depth, at, waits, rest, clauses, body)
             }
@@ -263,6 +267,7 @@ impl<'a> Maker<'a> {
     ) -> Result<(), Fault> {
         let depth = below(depth, at)?;
         let Team::Pieces(pieces) = self.team else {
+            self.is_by_caller(at)?;
             return self.region(depth, at, false, rest, clauses, body);
         };
         let out = self.repeat(at, pieces.is_first)?;

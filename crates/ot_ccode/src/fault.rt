@@ -7,6 +7,7 @@ use std::fmt;
 /// What isn't translated.
 #[derive(Clone, Copy, Debug, PartialEq, Eq)]
 pub enum Why {
+    /// A `goto` into a block, or past what begins a variable; or there are too many.
     Goto,
     /// It nests too deep.
     Nesting,
@@ -19,6 +20,8 @@ pub enum Why {
     Orphan,
     /// A loop with `nowait` and with what may say which thread has which turn.
     Schedule,
+    /// Work that threads share, with a thread's variable that it shares with tasks.
+    Lent,
     /// `default(none)`, and no clause names this variable.
     Unsaid(u32),
     /// A clause of a form that isn't translated.
@@ -30,6 +33,8 @@ pub enum Why {
     Jump,
     /// A label that isn't in the block of its `switch`.
     Label,
+    /// No such label is in the same construct.
+    NoLabel,
     NotConstant,
     NotDeclared,
     NoPlace,
@@ -41,6 +46,8 @@ pub enum Why {
     /// A type that isn't complete, or whose length isn't known.
     Incomplete,
     Section,
+    /// A pointer to a member of a union that has bytes in common with others, or an item that is one.
+    Union,
     /// Too few arguments.
     Arguments,
     /// A function of the library that isn't modelled.
@@ -107,7 +114,9 @@ fn directive_name(directive: Directive) -> &'static str {
 
 fn words(why: Why) -> &'static str {
     match why {
-        Why::Goto => "`goto` isn't executed yet",
+        Why::Goto =>
+            "a `goto` into a block, or past the begin of a variable, or one of more than 256, isn't executed yet",
+        Why::NoLabel => "this label isn't there, or a construct stands between",
         Why::Nesting => "this nests too deep",
         Why::Length => "this is too long",
         Why::Directive(_) => "this construct isn't executed yet",
@@ -115,6 +124,8 @@ fn words(why: Why) -> &'static str {
         Why::Orphan =>
             "what a team does together isn't executed yet in a function, a task or a construct within its region",
         Why::Schedule => "`schedule` and its kin beside `nowait` aren't executed yet",
+        Why::Lent =>
+            "what threads do together isn't executed yet with a thread's variable that tasks share",
         Why::Unsaid(_) => "`default(none)`, and a variable is in no clause",
         Why::Clause => "this form of a clause isn't executed yet",
         Why::Iterator =>
@@ -131,6 +142,8 @@ fn words(why: Why) -> &'static str {
         Why::Operation => "an operation on such values isn't executed",
         Why::Incomplete => "a type whose size isn't known",
         Why::Section => "an array section has no value",
+        Why::Union =>
+            "a member of a `union` whose members aren't all of one size isn't executed yet where it is pointed to, or named by a clause",
         Why::Arguments => "too few arguments",
         Why::Library => "this function of the library isn't executed yet",
         Why::Atomic => "`_Atomic` isn't executed yet",

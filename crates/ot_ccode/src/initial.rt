@@ -2,7 +2,7 @@
 use crate::fault::{Fault, Why};
 use crate::maker::{Aim, Maker, Way, below};
 use crate::value::DEEPEST;
-use ot_clayout::{Class, Sort, type_of};
+use ot_clayout::{Class, Sort, is_uneven, type_of};
 use ot_code::Form;
 use ot_ctree::{Designator, Entry, Expr, Initial};
 
@@ -24,7 +24,9 @@ fn path_of(entry: &Entry, passed: usize) -> &[Designator] {
 
 impl<'a> Maker<'a> {
     /// To this place its initial value.
+    #[cycle(value)]
     pub(crate) fn initial(&mut self, depth: u32, aim: Aim, initial: &Initial) -> Result<(), Fault> {
+        let depth = below(depth, aim.site)?;
         let spot = Spot {
             aim,
             start: 0,
@@ -33,10 +35,48 @@ impl<'a> Maker<'a> {
         self.fills_spot(depth, spot, initial)
     }
 
+    /// A compound literal (ISO C11, section 6.5.2.5): a new object each time, of which the end isn't told.
+    #[cycle(value)]
+    pub(crate) fn literal(
+        &mut self,
+        depth: u32,
+        at: u32,
+        variable: u32,
+        initial: &Initial,
+    ) -> Result<Aim, Fault> {
+        let depth = below(depth, at)?;
+        self.layouts.complete(self.unit, variable, initial);
+        let aim = self.begins_literal(at, variable)?;
+        let first = Aim {
+            way: Way::Own,
+            ..aim
+        };
+        self.initial(depth, first, initial)?;
+        Ok(aim)
+    }
+
+    fn begins_literal(&mut self, at: u32, variable: u32) -> Result<Aim, Fault> {
+        let sort = self.sort_of(variable);
+        let extent = self.extent(at, sort)?;
+        let slot = self.fresh()?;
+        let name = self.name_at(at);
+        self.emit(Form::Begin(slot, extent.cells, name, true))?;
+        Ok(Aim {
+            slot,
+            sort,
+            way: Way::Cell,
+            site: at,
+            lends: false,
+            within: None,
+        })
+    }
+
     /// One value to a spot.
-    fn puts(&mut self, spot: Spot, expr: &Expr) -> Result<(), Fault> {
+    #[cycle(value)]
+    fn puts(&mut self, depth: u32, spot: Spot, expr: &Expr) -> Result<(), Fault> {
+        let depth = below(depth, spot.aim.site)?;
         let mark = self.frame.next;
-        let value = self.converted(DEEPEST, expr, spot.sort)?;
+        let value = self.converted(depth, expr, spot.sort)?;
         let slot = if spot.aim.way == Way::Slot {
             spot.aim.slot
         } else {
@@ -73,6 +113,23 @@ impl<'a> Maker<'a> {
             )?;
             self.ends_count(index, start, out)?;
         }
+        self.frame.next = mark;
+        Ok(())
+    }
+
+    /// Of a union in which members have bytes in common nothing is known but the member that gets a value.
+    fn forgets_union(&mut self, spot: Spot) -> Result<(), Fault> {
+        let Some(record) = self.record_of(spot.sort) else {
+            return Ok(());
+        };
+        if !is_uneven(self.unit, record) || spot.aim.way == Way::Slot {
+            return Ok(());
+        }
+        let mark = self.frame.next;
+        let extent = self.extent(spot.aim.site, spot.sort)?;
+        let slot = self.moved(spot.aim.slot, spot.start)?;
+        let count = self.number(u64::from(extent.cells))?;
+        self.forgets_cells(spot.aim.site, slot, count)?;
         self.frame.next = mark;
         Ok(())
     }
@@ -162,13 +219,13 @@ impl<'a> Maker<'a> {
         }
     }
 
-    #[cycle(initial)]
+    #[cycle(value)]
     fn fills_spot(&mut self, depth: u32, spot: Spot, initial: &Initial) -> Result<(), Fault> {
         let at = spot.aim.site;
         let depth = below(depth, at)?;
         match initial {
             Initial::Value(Expr::Text(_, _)) if self.is_whole(spot.sort) => self.puts_text(spot),
-            Initial::Value(value) => self.puts(spot, value),
+            Initial::Value(value) => self.puts(depth, spot, value),
             Initial::List(_, entries) => {
                 if self.is_whole(spot.sort) {
                     if let [entry] = entries.as_slice()
@@ -190,7 +247,7 @@ impl<'a> Maker<'a> {
 
     /// Entries from this one on fill the parts of what lies there, in turn: the number of the next entry. The first one's designators are passed up to
     /// that number; a later one that has some is for what lies around, unless this is the outermost.
-    #[cycle(initial)]
+    #[cycle(value)]
     fn fills(
         &mut self,
         depth: u32,
@@ -204,6 +261,7 @@ impl<'a> Maker<'a> {
         let less = below(depth, at)?;
         let mut next = from;
         let mut number = 0usize;
+        self.forgets_union(spot)?;
         for _turn in from..entries.len() {
             let Some(entry) = entries.get(next) else {
                 return Ok(next);
@@ -243,7 +301,7 @@ impl<'a> Maker<'a> {
     }
 
     /// One part: by the entry, or where that is for a part of it by this and those behind.
-    #[cycle(initial)]
+    #[cycle(value)]
     fn fills_part(
         &mut self,
         depth: u32,

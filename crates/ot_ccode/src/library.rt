@@ -97,6 +97,11 @@ impl<'a> Maker<'a> {
                 let pointer = self.argument(at, base, 0)?;
                 self.unsets_lock(at, pointer)
             }
+            Known::TestsLock => {
+                let pointer = self.argument(at, base, 0)?;
+                self.tests_lock(at, pointer)
+            }
+            Known::AllocatesTo => self.allocates_to(at, base),
             Known::Other => Err(Fault::Refused(at, Why::Library)),
         }
     }
@@ -166,6 +171,22 @@ impl<'a> Maker<'a> {
         Ok(self.value(slot, Sort::ANY_POINTER))
     }
 
+    /// `posix_memalign`: what is allocated goes to where the first argument leads.
+    fn allocates_to(&mut self, at: u32, base: usize) -> Result<Val, Fault> {
+        let pointer = self.argument(at, base, 0)?;
+        let bytes = self.argument(at, base, 2)?;
+        let aim = self.followed(at, pointer)?;
+        let extent = self.leads_to(aim.sort);
+        let count = self.elements(bytes.slot, extent)?;
+        let slot = self.fresh()?;
+        let name = self.name_at(at);
+        self.emit(Form::Allocate(slot, name, count, extent.cells, false))?;
+        let made = self.value(slot, aim.sort);
+        self.store(aim, made)?;
+        let done = self.number(0)?;
+        Ok(self.value(done, Sort::INT))
+    }
+
     fn frees(&mut self, at: u32, base: usize) -> Result<Val, Fault> {
         let pointer = self.argument(at, base, 0)?;
         let out = self.emit(Form::Branch(at, pointer.slot, 0))?;
@@ -182,6 +203,7 @@ impl<'a> Maker<'a> {
             way: if pointer.own { Way::Own } else { Way::Cell },
             site: at,
             lends: false,
+            within: pointer.within,
         }
     }
 

@@ -213,6 +213,23 @@ impl<'a> Maker<'a> {
         self.unknown_of(Sort::VOID)
     }
 
+    /// `omp_test_lock`: 1 where the lock is taken, else 0. Both are ways of the run; in the test of a loop the lock is taken at once.
+    pub(crate) fn tests_lock(&mut self, at: u32, pointer: Val) -> Result<Val, Fault> {
+        let taken = self.number(1)?;
+        if self.repeats {
+            self.sets_lock(at, pointer)?;
+            return Ok(self.value(taken, Sort::INT));
+        }
+        let test = self.unknown()?;
+        let other = self.emit(Form::Branch(at, test, 0))?;
+        self.sets_lock(at, pointer)?;
+        let out = self.jump()?;
+        self.lands(other)?;
+        self.emit(Form::Number(taken, 0))?;
+        self.lands(out)?;
+        Ok(self.value(taken, Sort::INT))
+    }
+
     pub(crate) fn unsets_lock(&mut self, at: u32, pointer: Val) -> Result<Val, Fault> {
         self.emit(Form::Unlock(at, pointer.slot))?;
         self.unknown_of(Sort::VOID)

@@ -3,10 +3,13 @@ ghost use Rattle.std.specs.Prelude.{◌<◌, IfOk};
 
 use crate::clauses::Joined;
 use crate::fault::{Fault, Why};
+use crate::label::Labels;
 use crate::names::Known;
+use crate::own::Owned;
 use crate::task::Size;
 use crate::team::{Kept, Team, Whose};
 use crate::turns::Nested;
+use crate::unions::Within;
 use ot_clayout::{Extent, Layouts, Sort, sort_of};
 use ot_code::{Folded, Form, Function, Item, Kind, Operation, Width};
 use ot_csharing::{How, Sharing};
@@ -25,6 +28,8 @@ pub(crate) struct Val {
     pub(crate) slot: u32,
     pub(crate) sort: Sort,
     pub(crate) own: bool,
+    /// The union in which what it is, or leads to, has bytes in common with other cells.
+    pub(crate) within: Option<Within>,
 }
 
 /// How a place is touched.
@@ -46,6 +51,8 @@ pub(crate) struct Aim {
     pub(crate) site: u32,
     /// Whether what a pointer there points to is a private copy.
     pub(crate) lends: bool,
+    /// The union in which it has bytes in common with other cells.
+    pub(crate) within: Option<Within>,
 }
 
 /// Where a variable is kept.
@@ -89,8 +96,17 @@ pub(crate) struct Frame {
     pub(crate) most: u32,
     /// How many objects lived where it began.
     pub(crate) floor: usize,
-    /// Whether `return` may stand here.
-    pub(crate) returns: bool,
+    pub(crate) returns: Returns,
+}
+
+/// What `return` does.
+#[derive(Clone, Copy, Debug, PartialEq, Eq)]
+pub(crate) enum Returns {
+    /// It may not stand here.
+    Nowhere,
+    ToCaller,
+    /// It goes on behind the text of a function that is made where it is called.
+    Behind,
 }
 
 /// How many objects live outside of the loop or the `switch` that a jump leaves.
@@ -141,6 +157,7 @@ pub(crate) struct Maker<'a> {
     /// What each name means.
     pub(crate) known: &'a [Option<Known>],
     pub(crate) sharing: &'a Sharing,
+    pub(crate) owned: &'a Owned,
     pub(crate) layouts: Layouts,
     pub(crate) forms: Vec<Form>,
     pub(crate) functions: Vec<Function>,
@@ -193,6 +210,15 @@ pub(crate) struct Maker<'a> {
     /// Whether a team of several threads is executed, and the forms where its threads come to different barriers.
     pub(crate) has_team: bool,
     pub(crate) apart: Vec<u32>,
+    /// By function: whether constructs in it bind to the region that calls it. How many bodies of such functions were made where they are called;
+    /// the functions that are being made; jumps behind the text of the last one; and the forms that end the run where such a construct isn't made in
+    /// its region's text.
+    pub(crate) binds: Vec<bool>,
+    pub(crate) bodies: u32,
+    pub(crate) making: Vec<u32>,
+    pub(crate) behind: Vec<u32>,
+    pub(crate) orphans: Vec<u32>,
+    pub(crate) labels: Labels,
     /// Objects that aren't variables: of cells that say what runs; and where random numbers stand.
     pub(crate) flags: u32,
     pub(crate) seed: u32,
@@ -382,16 +408,13 @@ impl<'a> Maker<'a> {
             slot,
             sort,
             own: false,
+            within: None,
         }
     }
 
     pub(crate) fn unknown_of(&mut self, sort: Sort) -> Result<Val, Fault> {
         let slot = self.unknown()?;
-        Ok(Val {
-            slot,
-            sort,
-            own: false,
-        })
+        Ok(self.value(slot, sort))
     }
 }
 
@@ -466,6 +489,7 @@ impl<'a> Maker<'a> {
     pub(crate) fn end_since(&mut self, at: u32, base: usize) -> Result<(), Fault> {
         self.leave(at, base)?;
         self.live.truncate(base);
+        self.labels.narrows(base);
         Ok(())
     }
 

@@ -47,6 +47,10 @@ pub enum Known {
     WritesLock,
     SetsLock,
     UnsetsLock,
+    /// A lock variable is taken, or it isn't.
+    TestsLock,
+    /// The first argument says where a pointer is written to what is allocated, the third one how much.
+    AllocatesTo,
     /// It isn't modelled.
     Other,
 }
@@ -178,19 +182,19 @@ const TABLE: [(&str, Known); 146] = [
     ("omp_destroy_lock", Known::WritesLock),
     ("omp_set_lock", Known::SetsLock),
     ("omp_unset_lock", Known::UnsetsLock),
-    ("omp_test_lock", Known::Other),
+    ("omp_test_lock", Known::TestsLock),
     ("omp_init_nest_lock", Known::Other),
     ("omp_set_nest_lock", Known::Other),
     ("omp_unset_nest_lock", Known::Other),
     ("omp_test_nest_lock", Known::Other),
     ("omp_destroy_nest_lock", Known::Other),
-    ("posix_memalign", Known::Other),
+    ("posix_memalign", Known::AllocatesTo),
     ("sprintf", Known::PutsText),
     ("snprintf", Known::PutsMost(1)),
     ("strcpy", Known::PutsText),
     ("strcat", Known::PutsText),
     ("strncpy", Known::PutsMost(2)),
-    ("rand_r", Known::Other),
+    ("rand_r", Known::Writes(0)),
     ("fgets", Known::PutsMost(1)),
     ("fread", Known::PutsBytes),
     ("pthread_create", Known::Other),

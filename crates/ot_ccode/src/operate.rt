@@ -39,11 +39,13 @@ impl<'a> Maker<'a> {
             slot,
             sort: pointer.sort,
             own: pointer.own,
+            within: pointer.within,
         })
     }
 
     /// Converted to a type (ISO C11, section 6.3).
     pub(crate) fn convert(&mut self, at: u32, value: Val, sort: Sort) -> Result<Val, Fault> {
+        self.leads_alike(at, value, sort)?;
         match (self.class(value.sort), self.class(sort)) {
             (_, Class::Void) => Ok(self.value(value.slot, Sort::VOID)),
             (Class::Integer(from), Class::Integer(to)) => self.between(value, from, to, sort),
@@ -59,11 +61,7 @@ impl<'a> Maker<'a> {
             | (Class::Pointer, Class::Pointer)
             | (Class::Pointer, Class::Integer(_))
             | (Class::Opaque, Class::Opaque)
-            | (Class::Integer(_), Class::Pointer) => Ok(Val {
-                slot: value.slot,
-                sort,
-                own: value.own,
-            }),
+            | (Class::Integer(_), Class::Pointer) => Ok(Val { sort, ..value }),
             _ => Err(Fault::Refused(at, Why::Operation)),
         }
     }
@@ -254,11 +252,13 @@ impl<'a> Maker<'a> {
                 slot: aim.slot,
                 sort: aim.sort.decayed(self.unit),
                 own,
+                within: aim.within,
             }),
             Class::Record(_) | Class::Opaque => Ok(Val {
                 slot: aim.slot,
                 sort: aim.sort,
                 own,
+                within: aim.within,
             }),
             Class::Void => Err(Fault::Refused(aim.site, Why::NoPlace)),
             _ => {
@@ -268,6 +268,7 @@ impl<'a> Maker<'a> {
                     slot,
                     sort: aim.sort,
                     own: aim.lends,
+                    within: None,
                 })
             }
         }
@@ -295,6 +296,9 @@ impl<'a> Maker<'a> {
             Way::Cell => self.emit(Form::Load(aim.site, slot, aim.slot))?,
             _ => self.emit(Form::LoadOwn(aim.site, slot, aim.slot))?,
         };
+        if let Some(within) = aim.within {
+            self.reaches_over(aim, within, false)?;
+        }
         Ok(slot)
     }
 
@@ -318,7 +322,10 @@ impl<'a> Maker<'a> {
             Way::Cell => self.emit(Form::Store(aim.site, aim.slot, slot))?,
             Way::Own => self.emit(Form::StoreOwn(aim.site, aim.slot, slot))?,
         };
-        Ok(())
+        match aim.within {
+            Some(within) => self.reaches_over(aim, within, true),
+            None => Ok(()),
+        }
     }
 
     /// Cells from where a value's place is.
@@ -329,6 +336,7 @@ impl<'a> Maker<'a> {
             way: if from.own { Way::Own } else { Way::Cell },
             site: to.site,
             lends: false,
+            within: from.within,
         };
         if cells > MOST_BY_ONE {
             let count = self.number(u64::from(cells))?;

@@ -1,6 +1,6 @@
 //! Statements.
 use crate::fault::{Fault, Why};
-use crate::maker::{Aim, Around, Held, Maker, Way, below};
+use crate::maker::{Aim, Around, Held, Maker, Returns, Way, below};
 use crate::value::DEEPEST;
 use ot_clayout::{Class, Sort, promoted};
 use ot_code::{Form, Operation};
@@ -65,6 +65,7 @@ impl<'a> Maker<'a> {
                     way: Way::Slot,
                     site: 0,
                     lends: false,
+                    within: None,
                 };
                 self.initial(DEEPEST, aim, initial)?;
             }
@@ -100,6 +101,7 @@ impl<'a> Maker<'a> {
                 way: Way::Cell,
                 site: at,
                 lends: false,
+                within: None,
             };
             self.initial(DEEPEST, aim, initial)?;
         }
@@ -149,7 +151,7 @@ impl<'a> Maker<'a> {
     }
 
     fn returns(&mut self, at: u32, value: &Option<Expr>) -> Result<(), Fault> {
-        if !self.frame.returns {
+        if self.frame.returns == Returns::Nowhere {
             return Err(Fault::Refused(at, Why::Jump));
         }
         let mark = self.frame.next;
@@ -162,11 +164,22 @@ impl<'a> Maker<'a> {
             None => None,
         };
         self.leave(at, self.frame.floor)?;
+        self.goes_back(slot)?;
+        self.frame.next = mark;
+        Ok(())
+    }
+
+    /// To who called, with the value of a slot; or behind the text, where nothing takes the value.
+    fn goes_back(&mut self, slot: Option<u32>) -> Result<(), Fault> {
+        if self.frame.returns == Returns::Behind {
+            let jump = self.jump()?;
+            self.behind.push(jump)?;
+            return Ok(());
+        }
         if let Some(slot) = slot {
             self.emit(Form::Copy(0, slot))?;
         }
         self.emit(Form::Return)?;
-        self.frame.next = mark;
         Ok(())
     }
 
@@ -185,6 +198,7 @@ impl<'a> Maker<'a> {
             way: Way::Own,
             site: at,
             lends: false,
+            within: None,
         };
         self.copy_cells(aim, value, extent.cells)?;
         Ok(slot)
@@ -309,7 +323,13 @@ impl<'a> Maker<'a> {
         }
         match statement {
             Stmt::Empty(_) => Ok(()),
-            Stmt::Does(value) => self.discards(value),
+            Stmt::Does(value) => match self.bound_call(value) {
+                Some(call) => {
+                    let depth = below(depth, call.at)?;
+                    self.made_here(depth, call)
+                }
+                None => self.discards(value),
+            },
             Stmt::Declares(at, variable, initial) => self.declares(*at, *variable, initial),
             Stmt::Block(at, list, end) => {
                 let depth = below(depth, *at)?;
@@ -339,8 +359,8 @@ impl<'a> Maker<'a> {
             Stmt::Break(at) => self.breaks_off(*at),
             Stmt::Continue(at) => self.goes_on(*at),
             Stmt::Return(at, value) => self.returns(*at, value),
-            Stmt::Goto(at, _) => Err(Fault::Refused(*at, Why::Goto)),
-            Stmt::Label(_, _) => Ok(()),
+            Stmt::Goto(at, label) => self.goes_to(*at, *label),
+            Stmt::Label(at, label) => self.labels_here(*at, *label),
             Stmt::Construct(at, directives, name, clauses, body) => {
                 let depth = below(depth, *at)?;
                 let directives = directives.as_slice();
@@ -355,9 +375,11 @@ impl<'a> Maker<'a> {
         let less = below(depth, end)?;
         let mark = self.frame.next;
         let base = self.live.len();
+        self.labels.opens_block();
         for statement in list {
             self.statement(less, statement)?;
         }
+        self.labels.closes_block();
         self.end_since(end, base)?;
         self.frame.next = mark;
         Ok(())
@@ -465,6 +487,7 @@ impl<'a> Maker<'a> {
         let variable = counted(first, step);
         let context = self.fresh()?;
         self.emit(Form::Context(context))?;
+        self.labels.contexts.push(context)?;
         let inner = self.frame.next;
         let start = self.here()?;
         let out = match test {
@@ -486,6 +509,7 @@ impl<'a> Maker<'a> {
             self.lands(out)?;
         }
         self.breaks_land(base)?;
+        let _ = self.labels.contexts.pop();
         self.emit(Form::Within(context))?;
         self.end_since(at, living)?;
         self.frame.next = mark;
@@ -534,6 +558,7 @@ impl<'a> Maker<'a> {
         let living = self.live.len();
         let mut next = cases;
         let mut has_default = false;
+        self.labels.opens_block();
         for statement in list {
             if let Stmt::Case(_, _) = statement {
                 match self.cases.get(next).copied() {
@@ -548,6 +573,7 @@ impl<'a> Maker<'a> {
                 self.statement(less, statement)?;
             }
         }
+        self.labels.closes_block();
         self.end_since(end, living)?;
         self.frame.next = mark;
         Ok(has_default)

@@ -1,7 +1,7 @@
 //! Tasks: what they take along, and their bodies.
 use crate::clauses::Joined;
 use crate::fault::{Fault, Why};
-use crate::maker::{Aim, Around, FINAL, Frame, Held, Maker, Taken, Val, Way};
+use crate::maker::{Aim, Around, FINAL, Frame, Held, Maker, Returns, Taken, Val, Way};
 use crate::team::{Team, Whose};
 use ot_clayout::{Class, Sort};
 use ot_code::Form;
@@ -32,6 +32,7 @@ pub(crate) struct Opened {
     flag: Option<u32>,
     team: Team,
     whose: Whose,
+    text: u32,
 }
 
 impl Opened {
@@ -146,10 +147,17 @@ impl<'a> Maker<'a> {
         }
     }
 
-    /// The thread's variable: nobody else sees that it is touched. One without a place is only read, and its value goes along.
+    /// The thread's variable: nobody else sees that it is touched, unless the thread shares it with tasks. One without a place is only read,
+    /// and its value goes along.
     fn take_own(&mut self, at: u32, capture: Capture, base: usize) -> Result<(), Fault> {
-        match self.held(capture.variable) {
-            Held::Place(slot) => self.take_slot(capture, slot, true, false, base),
+        let variable = capture.variable;
+        match self.held(variable) {
+            Held::Place(slot) if !self.owned.is_lent(variable) => {
+                self.take_slot(capture, slot, true, false, base)
+            }
+            Held::Slot(slot) if self.owned.has_memory(variable) => {
+                self.take_slot(capture, slot, true, true, base)
+            }
             _ => self.take_shared(at, capture, base),
         }
     }
@@ -191,6 +199,7 @@ impl<'a> Maker<'a> {
             way: Way::Own,
             site: at,
             lends: false,
+            within: None,
         };
         if let Some(cells) = self.size_slot(aim.sort) {
             self.emit(Form::Allocate(slot, variable, cells, 1, false))?;
@@ -203,6 +212,7 @@ impl<'a> Maker<'a> {
             slot: aim.slot,
             sort: aim.sort,
             own: aim.way == Way::Own,
+            within: None,
         };
         self.copy_cells(target, source, extent.cells)?;
         Ok(slot)
@@ -292,12 +302,13 @@ impl<'a> Maker<'a> {
             flag,
             team: self.team,
             whose: self.whose,
+            text: self.labels.begins(),
         };
         self.frame = Frame {
             next: count,
             most: count,
             floor: self.live.len(),
-            returns: false,
+            returns: Returns::Nowhere,
         };
         self.around = Around::NOTHING;
         self.team = Team::Nothing;
@@ -410,6 +421,7 @@ impl<'a> Maker<'a> {
         self.gives = opened.gives;
         self.team = opened.team;
         self.whose = opened.whose;
+        self.labels.goes_on(opened.text);
         self.forgets(opened.bases);
         Ok(())
     }

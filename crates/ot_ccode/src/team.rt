@@ -51,6 +51,8 @@ pub(crate) struct Pieces {
 pub(crate) enum Team {
     /// They don't meet here.
     Nothing,
+    /// It is the text of a function: who calls it meets nobody, or the text is made once more where it is called.
+    Called,
     /// A team of one thread.
     One,
     Pieces(Pieces),
@@ -220,6 +222,7 @@ impl<'a> Maker<'a> {
     pub(crate) fn barrier(&mut self, at: u32) -> Result<(), Fault> {
         match self.team {
             Team::Nothing => Err(Fault::Refused(at, Why::Orphan)),
+            Team::Called => self.is_by_caller(at),
             Team::One => Ok(()),
             Team::Pieces(pieces) => self.parts(at, pieces),
         }

@@ -484,13 +484,16 @@ impl<'a> Maker<'a> {
         Ok(())
     }
 
-    /// The loops' variables get their values in the turn of this number, the innermost first.
+    /// The loops' variables get their values in the turn of this number, the innermost first. That of the outermost rests on no number of turns.
     fn set_variables(&mut self, at: u32, loops: usize, turn: u32) -> Result<(), Fault> {
         let mut rest = turn;
         for place in (loops..self.nested.len()).rev() {
             if let Some(one) = self.nested.get(place).copied() {
-                let index = self.operate(Operation::Remainder, LONG, rest, one.count)?;
-                rest = self.operate(Operation::Divide, LONG, rest, one.count)?;
+                let mut index = rest;
+                if place > loops {
+                    index = self.operate(Operation::Remainder, LONG, rest, one.count)?;
+                    rest = self.operate(Operation::Divide, LONG, rest, one.count)?;
+                }
                 let way = self.operate(Operation::Multiply, LONG, index, one.step)?;
                 let slot = self.operate(Operation::Add, LONG, one.start, way)?;
                 self.set_variable(at, one.variable, slot)?;
@@ -610,6 +613,7 @@ impl<'a> Maker<'a> {
             way,
             site: at,
             lends: false,
+            within: None,
         };
         self.store(target, value)?;
         self.frame.next = mark;

@@ -2,6 +2,7 @@
 use crate::at::{at_of, site_of};
 use crate::fault::{Fault, Why};
 use crate::maker::{Aim, Held, Maker, Val, Way, below};
+use crate::unions::stands_apart;
 use ot_clayout::{Class, Sort, chosen, type_of};
 use ot_code::Form;
 use ot_ctree::{Binary, Expr, Integer, Sign};
@@ -20,6 +21,7 @@ impl<'a> Maker<'a> {
             slot,
             sort,
             own: true,
+            within: None,
         })
     }
 
@@ -56,7 +58,7 @@ impl<'a> Maker<'a> {
             Held::Slot(slot) => (slot, Way::Slot, false),
             Held::Lender(slot) => (slot, Way::Slot, true),
             Held::Place(slot) => (slot, Way::Cell, false),
-            Held::Own(slot) => (slot, Way::Own, false),
+            Held::Own(slot) => (slot, Way::Own, self.owned.has_memory(variable)),
             Held::Object(object) => {
                 let slot = self.fresh()?;
                 self.emit(Form::Address(slot, object, 0))?;
@@ -70,6 +72,7 @@ impl<'a> Maker<'a> {
             way,
             site: at,
             lends,
+            within: None,
         })
     }
 
@@ -85,22 +88,7 @@ impl<'a> Maker<'a> {
             way,
             site,
             lends: false,
-        })
-    }
-
-    /// A member of what lies at a place.
-    fn member(&mut self, at: u32, whole: Aim, name: u32) -> Result<Aim, Fault> {
-        let Class::Record(record) = self.class(whole.sort) else {
-            return Err(Fault::Refused(at, Why::NoRecord));
-        };
-        let Some(place) = self.layouts.member(self.unit, record, name) else {
-            return Err(Fault::Refused(at, Why::NoMember));
-        };
-        let slot = self.moved(whole.slot, place.start)?;
-        Ok(Aim {
-            slot,
-            sort: place.sort,
-            ..whole
+            within: pointer.within,
         })
     }
 
@@ -119,6 +107,7 @@ impl<'a> Maker<'a> {
                 way: if value.own { Way::Own } else { Way::Cell },
                 site,
                 lends: false,
+                within: value.within,
             }),
             _ => Err(Fault::Refused(site, Why::NoPlace)),
         }
@@ -225,6 +214,7 @@ impl<'a> Maker<'a> {
             slot: aim.slot,
             sort: aim.sort.pointer(),
             own: aim.way == Way::Own,
+            within: aim.within,
         })
     }
 
@@ -323,18 +313,21 @@ impl<'a> Maker<'a> {
         let otherwise = self.branch(at, test)?;
         let value = self.expression(depth, one)?;
         let value = self.convert(at, value, sort)?;
+        stands_apart(at, value.within)?;
         self.emit(Form::Copy(given, value.slot))?;
         let out = self.jump()?;
         self.lands(otherwise)?;
         let own = value.own;
         let value = self.expression(depth, other)?;
         let value = self.convert(at, value, sort)?;
+        stands_apart(at, value.within)?;
         self.emit(Form::Copy(given, value.slot))?;
         self.lands(out)?;
         Ok(Val {
             slot: given,
             sort,
             own: own && value.own,
+            within: None,
         })
     }
 
@@ -385,7 +378,7 @@ impl<'a> Maker<'a> {
                 let whole = self.followed(site, pointer)?;
                 self.member(*at, whole, *name)
             }
-            Expr::Literal(at, _, _) => Err(Fault::Refused(*at, Why::Initial)),
+            Expr::Literal(at, variable, initial) => self.literal(depth, *at, *variable, initial),
             Expr::Call(_, _, _)
             | Expr::Choice(_, _, _, _)
             | Expr::Comma(_, _, _)

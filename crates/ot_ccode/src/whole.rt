@@ -1,7 +1,10 @@
 //! A whole unit.
 use crate::fault::{Fault, Why};
-use crate::maker::{ALONE, Aim, Around, COUNT, FLAGS, Frame, Held, Maker, Way};
+use crate::label::Labels;
+use crate::maker::{ALONE, Aim, Around, COUNT, FLAGS, Frame, Held, Maker, Returns, Way};
 use crate::names::Known;
+use crate::orphan::binding_functions;
+use crate::own::{Owned, owned_of};
 use crate::statement::is_automatic;
 use crate::team::{Team, Whose};
 use crate::value::DEEPEST;
@@ -32,14 +35,19 @@ pub struct Translated {
     pub has_team: bool,
     /// The forms that can't be executed because the threads of a team came to different barriers there.
     pub apart: Vec<u32>,
+    /// The forms that can't be executed because a function was called there whose constructs belong to a team.
+    pub orphans: Vec<u32>,
 }
 
 /// How many words a command line has at most, and how many letters its first one.
 const MOST_WORDS: u32 = 256;
 
+/// The name of what has none, which is a keyword's number: a compound literal's.
+const NAMELESS: u32 = 0;
+
 /// Whether a variable has an object that begins with the program.
 fn is_global(variable: &Variable) -> bool {
-    !is_automatic(variable)
+    !is_automatic(variable) && variable.name != NAMELESS
 }
 
 impl<'a> Maker<'a> {
@@ -48,6 +56,7 @@ impl<'a> Maker<'a> {
         unit: &'a Unit,
         known: &'a [Option<Known>],
         sharing: &'a Sharing,
+        owned: &'a Owned,
         layouts: Layouts,
     ) -> Result<Maker<'a>, Fault> {
         let held = vec![in alloc; Held::Nowhere; unit.variables.len()]?;
@@ -60,6 +69,7 @@ impl<'a> Maker<'a> {
             unit,
             known,
             sharing,
+            owned,
             layouts,
             forms: Vec::new(alloc),
             functions,
@@ -94,6 +104,12 @@ impl<'a> Maker<'a> {
             kept: Vec::new(alloc),
             has_team: false,
             apart: Vec::new(alloc),
+            binds: Vec::new(alloc),
+            bodies: 0,
+            making: Vec::new(alloc),
+            behind: Vec::new(alloc),
+            orphans: Vec::new(alloc),
+            labels: Labels::new(alloc),
             flags: 0,
             seed: 0,
             has_numbers: false,
@@ -246,15 +262,20 @@ impl<'a> Maker<'a> {
         Ok(())
     }
 
-    fn functions(&mut self) -> Result<(), Fault> {
+    fn functions(&mut self, team: Team) -> Result<(), Fault> {
         let unit = self.unit;
-        let mut number = 0usize;
+        let mut number = 0u32;
         for function in unit.functions.iter() {
             self.site = function.at;
             self.frame = EMPTY;
+            self.team = team;
             let start = self.here()?;
             match &function.body {
-                Some(body) => self.body(function, body)?,
+                Some(body) => {
+                    self.making.push(number)?;
+                    self.body(function, body)?;
+                    let _ = self.making.pop();
+                }
                 None => {
                     let slot = self.unknown()?;
                     let _ = slot;
@@ -262,7 +283,7 @@ impl<'a> Maker<'a> {
                 }
             }
             let slots = self.frame.most.max(1);
-            if let Some(place) = self.functions.get_mut(number) {
+            if let Some(place) = self.functions.get_mut(number as usize) {
                 *place = Function { start, slots };
             }
             number = number.saturating_add(1);
@@ -273,13 +294,28 @@ impl<'a> Maker<'a> {
     fn body(&mut self, function: &ot_ctree::Function, body: &Stmt) -> Result<(), Fault> {
         let gives = Sort::of(self.unit, function.kind).given(self.unit);
         self.gives = gives.unwrap_or(Sort::INT);
-        self.frame.returns = true;
+        self.frame.returns = Returns::ToCaller;
         self.frame.floor = self.live.len();
         let floor = self.frame.floor;
         for _parameter in function.parameters.iter() {
             self.fresh()?;
         }
-        let mut slot = 0u32;
+        self.begins_parameters(function, 0)?;
+        let text = self.labels.begins();
+        self.statement(DEEPEST, body)?;
+        self.labels.ends(text)?;
+        self.end_since(function.at, floor)?;
+        self.emit(Form::Return)?;
+        Ok(())
+    }
+
+    /// The parameters of a function, whose values are in slots one after another.
+    pub(crate) fn begins_parameters(
+        &mut self,
+        function: &ot_ctree::Function,
+        first: u32,
+    ) -> Result<(), Fault> {
+        let mut slot = first;
         for parameter in function.parameters.iter() {
             self.begins_parameter(function.at, *parameter, slot)?;
             slot = slot.saturating_add(1);
@@ -288,9 +324,6 @@ impl<'a> Maker<'a> {
             let sort = self.sort_of(*parameter);
             self.measure(16, function.at, sort)?;
         }
-        self.statement(DEEPEST, body)?;
-        self.end_since(function.at, floor)?;
-        self.emit(Form::Return)?;
         Ok(())
     }
 
@@ -308,6 +341,7 @@ impl<'a> Maker<'a> {
             way: Way::Own,
             site: at,
             lends: false,
+            within: None,
         };
         match self.class(sort) {
             Class::Record(_) => {
@@ -315,6 +349,7 @@ impl<'a> Maker<'a> {
                     slot: value,
                     sort,
                     own: false,
+                    within: None,
                 };
                 let extent = self.extent(at, sort)?;
                 self.copy_cells(to, from, extent.cells)?;
@@ -330,7 +365,7 @@ const EMPTY: Frame = Frame {
     next: 0,
     most: 1,
     floor: 0,
-    returns: false,
+    returns: Returns::Nowhere,
 };
 
 /// The function that begins: `main`, or the only one that has constructs and that no other calls.
@@ -365,11 +400,17 @@ pub fn translate(alloc: Global, unit: &Unit, known: &[Option<Known>]) -> Result<
             None => return Err(Fault::Refused(0, Why::NoEntry)),
         },
     };
-    let mut maker = Maker::empty(alloc, unit, known, &sharing, layouts)?;
+    let owned = owned_of(alloc, unit, known, &sharing, &layouts)?;
+    let mut maker = Maker::empty(alloc, unit, known, &sharing, &owned, layouts)?;
     maker.has_final = sharing.has_final;
     maker.has_numbers = sharing.has_threads && asks_numbers(known);
+    maker.binds = binding_functions(alloc, unit)?;
     let (globals, slots) = maker.run(entry, is_alone)?;
-    maker.functions()?;
+    maker.functions(if is_alone {
+        Team::Nothing
+    } else {
+        Team::Called
+    })?;
     Ok(Translated {
         code: Code {
             forms: maker.forms,
@@ -386,5 +427,6 @@ pub fn translate(alloc: Global, unit: &Unit, known: &[Option<Known>]) -> Result<
         follows_letters: maker.follows_letters && maker.writes_letters,
         has_team: maker.has_team,
         apart: maker.apart,
+        orphans: maker.orphans,
     })
 }

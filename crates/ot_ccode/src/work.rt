@@ -1,10 +1,12 @@
 //! Work that the threads of a team share: `for`, `sections`, `single`, `master` (OpenMP API 5.2, chapter 11). Each turn, each section and each body
 //! of `single` is a task, which any thread may do.
+use crate::clauses::Joined;
 use crate::fault::{Fault, Why};
 use crate::maker::{Around, LONG, Maker, below};
+use crate::task::Bases;
 use crate::team::{Pieces, Team, Thread};
 use ot_code::{Form, Operation};
-use ot_csharing::has;
+use ot_csharing::{How, has};
 use ot_ctree::{Clause, Directive, Role, Stmt};
 
 /// Whether a clause names items of a reduction.
@@ -67,12 +69,22 @@ impl<'a> Maker<'a> {
             return Err(Fault::Refused(at, Why::Schedule));
         }
         let mark = self.frame.next;
+        if let Team::Pieces(_) = self.team {
+            self.lends_nothing(at)?;
+        }
         match self.team {
             Team::Nothing => return Err(Fault::Refused(at, Why::Orphan)),
+            Team::Called => {
+                self.is_by_caller(at)?;
+                self.reduced_work(depth, at, directive, clauses, body)?;
+            }
             Team::One => self.reduced_work(depth, at, directive, clauses, body)?,
             Team::Pieces(pieces) if reduces(clauses) => {
                 let out = self.repeat(at, pieces.is_last)?;
                 self.reduced_work(depth, at, directive, clauses, body)?;
+                if !waits {
+                    self.combines(at, clauses)?;
+                }
                 self.lands(out)?;
             }
             Team::Pieces(pieces) => {
@@ -82,6 +94,17 @@ impl<'a> Maker<'a> {
         }
         self.frame.next = mark;
         if waits { self.barrier(at) } else { Ok(()) }
+    }
+
+    /// Parts of the work that one thread does are in its order, which isn't known here: so none may touch what it shares with tasks.
+    fn lends_nothing(&mut self, at: u32) -> Result<(), Fault> {
+        let sharing = self.sharing;
+        for capture in sharing.captures(at) {
+            if capture.how == How::Own && self.owned.is_lent(capture.variable) {
+                return Err(Fault::Refused(at, Why::Lent));
+            }
+        }
+        Ok(())
     }
 
     /// One thread creates all tasks, in a group that ends with what they reduce.
@@ -100,6 +123,38 @@ impl<'a> Maker<'a> {
         self.parts_of_work(depth, at, directive, clauses, body, None)?;
         self.emit(Form::Leave(at))?;
         Ok(())
+    }
+
+    /// Behind `nowait` what threads have reduced is combined at any time up to the next barrier (OpenMP API 5.2, section 5.5.8): a task that nothing
+    /// awaits until then writes the items.
+    fn combines(&mut self, at: u32, clauses: &[Clause]) -> Result<(), Fault> {
+        let when = Some(self.may_defer(at)?);
+        let bases = self.bases();
+        self.joins(clauses, bases.passed)?;
+        let behind = Bases {
+            joined: self.joined.len(),
+            ..bases
+        };
+        let opened = self.enters(at, when, None, behind)?;
+        for place in bases.joined..self.joined.len() {
+            if let Some(joined) = self.joined.get(place).copied() {
+                self.writes_again(at, joined)?;
+            }
+        }
+        self.leaves(at, opened)?;
+        self.joined.truncate(bases.joined);
+        Ok(())
+    }
+
+    /// The cells of an item are written with what they have.
+    fn writes_again(&mut self, at: u32, joined: Joined) -> Result<(), Fault> {
+        let count = self.number(u64::from(joined.cells))?;
+        let (index, start, out) = self.begins_count(at, count)?;
+        let place = self.advance(joined.slot, index, 1)?;
+        let value = self.fresh()?;
+        self.emit(Form::LoadOwn(at, value, place))?;
+        self.emit(Form::Store(at, place, value))?;
+        self.ends_count(index, start, out)
     }
 
     #[cycle(statement)]
@@ -256,6 +311,9 @@ impl<'a> Maker<'a> {
     ) -> Result<(), Fault> {
         let depth = below(depth, at)?;
         let mark = self.frame.next;
+        if has(clauses, Role::Nowait) {
+            self.lends_nothing(at)?;
+        }
         let out = self.repeat(at, pieces.is_last)?;
         let when = Some(self.may_defer(at)?);
         let bases = self.takes(at, clauses)?;

@@ -53,6 +53,9 @@ const TOO_MUCH_CHANGES: &str = "too many variables are written under locks";
 
 const APART: &str = "the threads of this team come to different barriers";
 
+const ORPHAN: &str =
+    "what a team does together is executed in a function only where the text of the region calls it by a statement of its own";
+
 const CROWDED: &str = "a cell is touched under too many sets of locks";
 
 /// The same of two touches under locks.
@@ -428,13 +431,18 @@ fn ended(alloc: Global, of: Of<'_>, placed: &Placed, fault: Fault) -> Result<Jud
         let one = wrong(alloc, Code::Lifetime, of.text, byte, words);
         return one_found(alloc, Verdict::Races, one);
     }
-    let are_apart = of.reading.apart.iter().any(|at| *at as usize == fault.at);
-    let words = if are_apart {
+    let words = if is_among(of.reading.apart.as_slice(), fault.at) {
         APART
+    } else if is_among(of.reading.orphans.as_slice(), fault.at) {
+        ORPHAN
     } else {
         of_run(fault.reason)
     };
     at_form(alloc, of, placed, fault.at, words)
+}
+
+fn is_among(forms: &[u32], at: usize) -> bool {
+    forms.iter().any(|form| *form as usize == at)
 }
 
 /// The token of a form: of a write that of its place, and not that of the value.

@@ -1,5 +1,6 @@
 //! How cells are called.
 use crate::reading::Reading;
+use ot_clayout::is_uneven;
 use ot_ctree::{Length, Type, Unit};
 use ot_machine::Run;
 use ot_model::Cell;
@@ -97,6 +98,38 @@ fn count_of(length: &Length) -> u32 {
     }
 }
 
+/// Whether a type has a union whose members have cells of their own: how many it has isn't known here.
+#[cycle(has_union)]
+fn has_union(unit: &Unit, depth: u32, kind: u32) -> bool {
+    if depth == 0 {
+        return true;
+    }
+    match unit.types.get(kind as usize) {
+        Some(Type::Array(of, _)) => has_union(unit, depth - 1, *of),
+        Some(Type::Record(number)) => {
+            is_uneven(unit, *number) || has_union_in(unit, depth - 1, *number)
+        }
+        _ => false,
+    }
+}
+
+#[cycle(has_union)]
+fn has_union_in(unit: &Unit, depth: u32, record: u32) -> bool {
+    if depth == 0 {
+        return true;
+    }
+    if let Some(record) = unit.records.get(record as usize)
+        && let Some(members) = &record.members
+    {
+        for member in members {
+            if has_union(unit, depth - 1, member.kind) {
+                return true;
+            }
+        }
+    }
+    false
+}
+
 /// Puts the way from an object of this type to one of its cells behind its name.
 fn put_path(
     unit: &Unit,
@@ -111,6 +144,9 @@ fn put_path(
     }
     match unit.types.get(kind as usize) {
         Some(Type::Array(of, _)) => {
+            if has_union(unit, DEEPEST, *of) {
+                return Ok(());
+            }
             let each = cells_of(unit, DEEPEST, *of).max(1);
             let place = format!(in alloc; "[{}]", index / each)?;
             name.push_str(place.as_str())?;

@@ -23,6 +23,8 @@ pub(crate) struct Reading {
     pub follows_letters: bool,
     /// The forms at which the threads of a team come to different barriers.
     pub apart: Vec<u32>,
+    /// The forms that can't be executed because a function was called there whose constructs belong to a team.
+    pub orphans: Vec<u32>,
 }
 
 impl Reading {
@@ -155,6 +157,7 @@ fn code_of(
                 has_team: translated.has_team,
                 follows_letters: translated.follows_letters,
                 apart: translated.apart,
+                orphans: translated.orphans,
             };
             Ok(Read::Whole(reading, placed))
         }

@@ -146,11 +146,9 @@ impl Regions {
 
 /// Counts a region at each of its forms.
 fn deepen(depths: &mut [u32], region: Region) {
-    for depth in depths
-        .iter_mut()
-        .take(region.end)
-        .skip(region.start.saturating_add(1))
-    {
-        *depth = depth.saturating_add(1);
+    for place in region.start.saturating_add(1)..region.end {
+        if let Some(depth) = depths.get_mut(place) {
+            *depth = depth.saturating_add(1);
+        }
     }
 }

@@ -40,6 +40,8 @@ struct Open {
     default: Option<Default>,
     named: Vec<Named>,
     captures: Vec<Capture>,
+    /// Whether a thread's variable has behind it what it gets there: a function's own `single`, which a thread that is alone may execute.
+    keeps: bool,
     /// The place among those that are done, if its captures are kept.
     place: Option<usize>,
     /// Its number in the order in which they begin.
@@ -104,7 +106,8 @@ fn names_place(role: Role) -> bool {
     )
 }
 
-/// What it does with the variables around it; in a team of several threads the body of `single` is for any of them.
+/// What it does with the variables around it; in a team of several threads the body of `single` is for any of them, and so may it be in a
+/// function that the team calls.
 fn region_of(directive: Directive, has_threads: bool) -> Region {
     match directive {
         Directive::Parallel => Region::Team,
@@ -301,6 +304,7 @@ impl<'a> Walk<'a> {
         };
         if is_own
             && open.region == Region::Unit
+            && !open.keeps
             && open.choices >= choices
             && open.named.len() < MOST_NAMED
             && named_in(open.named.as_slice(), *variable).is_none()
@@ -587,7 +591,8 @@ impl<'a> Walk<'a> {
             return Ok(());
         };
         let outside = self.open.len();
-        let is_in_team = self.open.last().is_some_and(|open| open.has_threads);
+        let is_called = outside == 0 && *last == Directive::Single;
+        let is_in_team = is_called || self.open.last().is_some_and(|open| open.has_threads);
         for directive in others {
             self.opens(at, region_of(*directive, false), false, None)?;
         }
@@ -599,6 +604,7 @@ impl<'a> Walk<'a> {
         let has_threads = self.has_threads(directives, clauses, body);
         self.any_threads = self.any_threads || has_threads;
         self.opens(at, region_of(*last, is_in_team), has_threads, Some(place))?;
+        self.keeps(is_called);
         self.names(at, clauses)?;
         if matches!(last, Directive::Taskloop | Directive::For) {
             self.names_counted(at, clauses, body)?;
@@ -676,10 +682,17 @@ impl<'a> Walk<'a> {
             default: None,
             named: Vec::new(self.alloc),
             captures: Vec::new(self.alloc),
+            keeps: false,
             place,
             serial,
         })?;
         Ok(())
+    }
+
+    fn keeps(&mut self, keeps: bool) {
+        if let Some(open) = self.open.last_mut() {
+            open.keeps = keeps;
+        }
     }
 
     /// To the innermost construct what its clauses say.

@@ -75,3 +75,6 @@ decreases-turns l = l.depth
 
 abbrev pub decreases-single : goal.decreases-single
 decreases-single l = l.depth
+
+abbrev pub decreases-made_here : goal.decreases-made_here
+decreases-made_here l = l.depth

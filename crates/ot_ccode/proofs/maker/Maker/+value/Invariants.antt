@@ -30,3 +30,21 @@ decreases-call l = l.depth
 
 abbrev pub decreases-pass : goal.decreases-pass
 decreases-pass l = l.depth
+
+abbrev pub decreases-initial : goal.decreases-initial
+decreases-initial l = l.depth
+
+abbrev pub decreases-literal : goal.decreases-literal
+decreases-literal l = l.depth
+
+abbrev pub decreases-puts : goal.decreases-puts
+decreases-puts l = l.depth
+
+abbrev pub decreases-fills_spot : goal.decreases-fills_spot
+decreases-fills_spot l = l.depth
+
+abbrev pub decreases-fills : goal.decreases-fills
+decreases-fills l = l.depth
+
+abbrev pub decreases-fills_part : goal.decreases-fills_part
+decreases-fills_part l = l.depth

@@ -1,0 +1,474 @@
+//! What a thread of a team has for itself: variables by which nobody else reaches what the thread has allocated, and variables that it shares with tasks.
+ghost use Rattle.std.specs.Prelude.{◌<◌, IfOk};
+
+use crate::fault::Fault;
+use crate::maker::below;
+use crate::names::Known;
+use crate::value::DEEPEST;
+use ot_clayout::{Class, Layouts, sort_of, type_of};
+use ot_csharing::{Capture, How, Sharing};
+use ot_ctree::{
+    Binary, Clause, Directive, Entry, Expr, Function, Initial, Sign, Stmt, Storage, Unit,
+};
+use std::alloc::Global;
+
+/// What is found of each variable.
+#[derive(Drop)]
+pub(crate) struct Owned {
+    memory: Vec<bool>,
+    lent: Vec<bool>,
+}
+
+impl Owned {
+    /// Whether it has nothing but what is allocated for it, and nothing else leads there.
+    pub(crate) fn has_memory(&self, variable: u32) -> bool {
+        self.memory.get(variable as usize).copied().unwrap_or(false)
+    }
+
+    /// Whether tasks share it.
+    pub(crate) fn is_lent(&self, variable: u32) -> bool {
+        self.lent.get(variable as usize).copied().unwrap_or(true)
+    }
+}
+
+/// A search through all functions.
+#[derive(Drop)]
+struct Search<'a> {
+    unit: &'a Unit,
+    known: &'a [Option<Known>],
+    sharing: &'a Sharing,
+    layouts: &'a Layouts,
+    /// By variable: how often its name stands where its value may go on to another place.
+    named: Vec<u32>,
+    /// How many of these are touches of what it leads to, tests, or what frees it.
+    harmless: Vec<u32>,
+    /// Whether it may lead elsewhere, or others may lead where it does.
+    given: Vec<bool>,
+    lent: Vec<bool>,
+}
+
+/// What is found in a unit.
+pub(crate) fn owned_of(
+    alloc: Global,
+    unit: &Unit,
+    known: &[Option<Known>],
+    sharing: &Sharing,
+    layouts: &Layouts,
+) -> Result<Owned, Fault> {
+    let count = unit.variables.len();
+    let mut search = Search {
+        unit,
+        known,
+        sharing,
+        layouts,
+        named: vec![in alloc; 0u32; count]?,
+        harmless: vec![in alloc; 0u32; count]?,
+        given: vec![in alloc; false; count]?,
+        lent: vec![in alloc; false; count]?,
+    };
+    for function in unit.functions.iter() {
+        search.function(function)?;
+    }
+    search.end(alloc)
+}
+
+fn variable_in(expr: &Expr) -> Option<u32> {
+    match expr {
+        Expr::Variable(_, variable) => Some(*variable),
+        Expr::Cast(_, _, one) => match &**one {
+            Expr::Variable(_, variable) => Some(*variable),
+            _ => None,
+        },
+        _ => None,
+    }
+}
+
+/// The variable that a pointer is, or from which it is counted.
+fn counted_from(pointer: &Expr) -> Option<u32> {
+    match pointer {
+        Expr::Variable(_, variable) => Some(*variable),
+        Expr::Binary(_, Binary::Add | Binary::Subtract, one, _) => match &**one {
+            Expr::Variable(_, variable) => Some(*variable),
+            _ => None,
+        },
+        _ => None,
+    }
+}
+
+fn add_one(counts: &mut [u32], variable: u32) {
+    if let Some(count) = counts.get_mut(variable as usize) {
+        *count = count.saturating_add(1);
+    }
+}
+
+fn set(marks: &mut [bool], variable: u32) {
+    if let Some(mark) = marks.get_mut(variable as usize) {
+        *mark = true;
+    }
+}
+
+/// Whether a construct may have a pointer's value from outside and leave what it leads to to the thread alone.
+fn leaves_it(directives: &[Directive], how: How) -> bool {
+    if how == How::Private {
+        return true;
+    }
+    match directives.first() {
+        Some(Directive::Parallel | Directive::Task | Directive::Taskloop) => false,
+        Some(Directive::For | Directive::Sections | Directive::Single) => how == How::Own,
+        _ => how == How::Shared,
+    }
+}
+
+fn makes_tasks(directives: &[Directive]) -> bool {
+    directives.iter().any(|directive| matches!(directive, Directive::Task | Directive::Taskloop))
+}
+
+impl<'a> Search<'a> {
+    fn end(self, alloc: Global) -> Result<Owned, Fault> {
+        let mut memory = Vec::new(alloc);
+        for (number, variable) in self.unit.variables.iter().enumerate() {
+            let is_pointer = matches!(
+                sort_of(self.unit, variable).class(self.unit),
+                Class::Pointer
+            );
+            let is_own = is_pointer
+                && variable.storage == Storage::Automatic
+                && self.given.get(number) == Some(&false)
+                && self.named.get(number) == self.harmless.get(number);
+            memory.push(is_own)?;
+        }
+        Ok(Owned {
+            memory,
+            lent: self.lent,
+        })
+    }
+
+    fn function(&mut self, function: &Function) -> Result<(), Fault> {
+        match &function.body {
+            Some(body) => self.statement(DEEPEST, body),
+            None => Ok(()),
+        }
+    }
+
+    fn is_harmless(&mut self, expr: &Expr) {
+        if let Some(variable) = variable_in(expr) {
+            add_one(&mut self.harmless, variable);
+        }
+    }
+
+    /// What is called, where it is a function of the library.
+    fn known_of(&self, function: &Expr) -> Option<Known> {
+        let name = match function {
+            Expr::Undeclared(_, name) => *name,
+            Expr::Function(_, number) => match self.unit.functions.get(*number as usize) {
+                Some(function) => {
+                    if function.body.is_some() {
+                        return None;
+                    }
+                    function.name
+                }
+                None => return None,
+            },
+            _ => return None,
+        };
+        match self.known.get(name as usize) {
+            Some(known) => *known,
+            None => None,
+        }
+    }
+
+    /// Whether a value is what is allocated there, or null.
+    fn is_new(&self, depth: u32, value: &Expr) -> bool {
+        if depth == 0 {
+            return false;
+        }
+        match value {
+            Expr::Cast(_, _, one) => self.is_new(depth - 1, one),
+            Expr::Number(_, number, _) => *number == 0,
+            Expr::Call(_, function, _) => matches!(
+                self.known_of(function),
+                Some(Known::Allocates | Known::AllocatesZeros | Known::AllocatesAligned)
+            ),
+            _ => false,
+        }
+    }
+
+    fn is_scalar(&self, place: &Expr) -> bool {
+        match type_of(self.layouts, self.unit, DEEPEST, place) {
+            Some(sort) => matches!(
+                sort.class(self.unit),
+                Class::Integer(_) | Class::Real(_) | Class::Pointer
+            ),
+            None => false,
+        }
+    }
+
+    fn is_array(&self, place: &Expr) -> bool {
+        match type_of(self.layouts, self.unit, DEEPEST, place) {
+            Some(sort) => matches!(sort.class(self.unit), Class::Array(_)),
+            None => false,
+        }
+    }
+
+    /// The variable that leads to a place.
+    fn leads_to(&self, depth: u32, place: &Expr) -> Option<u32> {
+        if depth == 0 {
+            return None;
+        }
+        match place {
+            Expr::Index(_, pointer, _)
+            | Expr::Unary(_, Sign::Follow, pointer)
+            | Expr::Arrow(_, pointer, _) => {
+                if let Some(variable) = counted_from(pointer) {
+                    return Some(variable);
+                }
+                if self.is_array(pointer) {
+                    self.leads_to(depth - 1, pointer)
+                } else {
+                    None
+                }
+            }
+            Expr::Member(_, one, _) => self.leads_to(depth - 1, one),
+            _ => None,
+        }
+    }
+
+    /// A scalar to which a variable leads is touched.
+    fn touches(&mut self, place: &Expr) {
+        if let Some(variable) = self.leads_to(DEEPEST, place)
+            && self.is_scalar(place)
+        {
+            add_one(&mut self.harmless, variable);
+        }
+    }
+
+    /// What an address leads to is reached by others.
+    fn gives(&mut self, place: &Expr) {
+        if let Some(variable) = variable_in(place) {
+            set(&mut self.given, variable);
+        }
+        if let Some(variable) = self.leads_to(DEEPEST, place) {
+            set(&mut self.given, variable);
+        }
+    }
+
+    /// A variable gets a value.
+    fn gets(&mut self, variable: u32, value: &Expr) {
+        if !self.is_new(DEEPEST, value) {
+            set(&mut self.given, variable);
+        }
+    }
+
+    fn test(&mut self, test: &Expr) -> Result<(), Fault> {
+        self.is_harmless(test);
+        self.expression(DEEPEST, test)
+    }
+
+    /// A statement that is an expression, the value of which nothing gets.
+    fn does(&mut self, expr: &Expr) -> Result<(), Fault> {
+        match expr {
+            Expr::Assign(_, None, to, value) => {
+                if let Expr::Variable(_, variable) = &**to {
+                    self.gets(*variable, value);
+                    add_one(&mut self.harmless, *variable);
+                }
+            }
+            Expr::Call(_, function, arguments) => {
+                if let Some(Known::Frees | Known::Fills | Known::Copies) = self.known_of(function) {
+                    for argument in arguments.iter() {
+                        self.is_harmless(argument);
+                    }
+                }
+            }
+            _ => {}
+        }
+        self.expression(DEEPEST, expr)
+    }
+
+    /// What a construct has from outside.
+    fn takes(&mut self, directives: &[Directive], captures: &[Capture]) {
+        let makes_tasks = makes_tasks(directives);
+        for capture in captures {
+            if !leaves_it(directives, capture.how) {
+                set(&mut self.given, capture.variable);
+            }
+            if makes_tasks && capture.how == How::Shared {
+                set(&mut self.lent, capture.variable);
+            }
+        }
+    }
+}
+
+/// Expressions.
+impl<'a> Search<'a> {
+    #[cycle(owned)]
+    fn expression(&mut self, depth: u32, expr: &Expr) -> Result<(), Fault> {
+        let depth = below(depth, 0)?;
+        match expr {
+            Expr::Variable(_, variable) => {
+                add_one(&mut self.named, *variable);
+                Ok(())
+            }
+            Expr::Unary(_, sign, one) => {
+                match sign {
+                    Sign::Address => self.gives(one),
+                    Sign::Not => self.is_harmless(one),
+                    Sign::Follow => self.touches(expr),
+                    _ => {}
+                }
+                self.expression(depth, one)
+            }
+            Expr::Member(_, one, _) | Expr::Arrow(_, one, _) => {
+                self.touches(expr);
+                self.expression(depth, one)
+            }
+            Expr::StepBefore(_, _, one) | Expr::StepBehind(_, _, one) | Expr::Cast(_, _, one) => {
+                self.expression(depth, one)
+            }
+            Expr::Index(_, one, other) => {
+                self.touches(expr);
+                self.expression(depth, one)?;
+                self.expression(depth, other)
+            }
+            Expr::Binary(_, sign, one, other) => {
+                if matches!(sign, Binary::Equal | Binary::NotEqual) {
+                    self.is_harmless(one);
+                    self.is_harmless(other);
+                }
+                self.expression(depth, one)?;
+                self.expression(depth, other)
+            }
+            Expr::Assign(_, _, one, other) | Expr::Comma(_, one, other) => {
+                self.expression(depth, one)?;
+                self.expression(depth, other)
+            }
+            Expr::Choice(_, test, one, other) => {
+                self.expression(depth, test)?;
+                self.expression(depth, one)?;
+                self.expression(depth, other)
+            }
+            Expr::Section(_, one, start, length) => {
+                self.expression(depth, one)?;
+                if let Some(start) = start {
+                    self.expression(depth, start)?;
+                }
+                if let Some(length) = length {
+                    self.expression(depth, length)?;
+                }
+                Ok(())
+            }
+            Expr::Literal(_, _, initial) => self.initial(depth, initial),
+            Expr::Call(_, function, arguments) => {
+                self.expression(depth, function)?;
+                self.expressions(depth, arguments.as_slice())
+            }
+            _ => Ok(()),
+        }
+    }
+
+    #[cycle(owned)]
+    fn expressions(&mut self, depth: u32, list: &[Expr]) -> Result<(), Fault> {
+        let less = below(depth, 0)?;
+        for one in list {
+            self.expression(less, one)?;
+        }
+        Ok(())
+    }
+
+    #[cycle(owned)]
+    fn initial(&mut self, depth: u32, initial: &Initial) -> Result<(), Fault> {
+        let depth = below(depth, 0)?;
+        match initial {
+            Initial::Value(value) => self.expression(depth, value),
+            Initial::List(_, entries) => self.entries(depth, entries.as_slice()),
+        }
+    }
+
+    #[cycle(owned)]
+    fn entries(&mut self, depth: u32, entries: &[Entry]) -> Result<(), Fault> {
+        let less = below(depth, 0)?;
+        for entry in entries {
+            self.initial(less, &entry.value)?;
+        }
+        Ok(())
+    }
+}
+
+/// Statements.
+impl<'a> Search<'a> {
+    #[cycle(owner)]
+    fn statement(&mut self, depth: u32, statement: &Stmt) -> Result<(), Fault> {
+        let depth = below(depth, 0)?;
+        match statement {
+            Stmt::Does(value) => self.does(value),
+            Stmt::Return(_, Some(value)) => self.expression(DEEPEST, value),
+            Stmt::Declares(_, variable, Some(initial)) => self.declares(*variable, initial),
+            Stmt::Block(_, list, _) => self.statements(depth, list.as_slice()),
+            Stmt::If(_, test, one, other) => {
+                self.test(test)?;
+                self.statement(depth, one)?;
+                match other {
+                    Some(other) => self.statement(depth, other),
+                    None => Ok(()),
+                }
+            }
+            Stmt::While(_, test, body) | Stmt::Do(_, body, test) => {
+                self.test(test)?;
+                self.statement(depth, body)
+            }
+            Stmt::Switch(_, value, body) => {
+                self.expression(DEEPEST, value)?;
+                self.statement(depth, body)
+            }
+            Stmt::For(_, first, test, step, body) => {
+                self.statements(depth, first.as_slice())?;
+                if let Some(test) = test {
+                    self.test(test)?;
+                }
+                if let Some(step) = step {
+                    self.expression(DEEPEST, step)?;
+                }
+                self.statement(depth, body)
+            }
+            Stmt::Construct(at, directives, _, clauses, body) => {
+                let sharing = self.sharing;
+                self.takes(directives.as_slice(), sharing.captures(*at));
+                self.clauses(clauses.as_slice())?;
+                match body {
+                    Some(body) => self.statement(depth, body),
+                    None => Ok(()),
+                }
+            }
+            _ => Ok(()),
+        }
+    }
+
+    #[cycle(owner)]
+    fn statements(&mut self, depth: u32, list: &[Stmt]) -> Result<(), Fault> {
+        let less = below(depth, 0)?;
+        for one in list {
+            self.statement(less, one)?;
+        }
+        Ok(())
+    }
+
+    fn declares(&mut self, variable: u32, initial: &Initial) -> Result<(), Fault> {
+        match initial {
+            Initial::Value(value) => self.gets(variable, value),
+            Initial::List(_, _) => set(&mut self.given, variable),
+        }
+        self.initial(DEEPEST, initial)
+    }
+
+    /// What clauses evaluate. Of a name alone they say what it is.
+    fn clauses(&mut self, clauses: &[Clause]) -> Result<(), Fault> {
+        for clause in clauses {
+            for item in clause.items.iter() {
+                if !matches!(item, Expr::Variable(_, _)) {
+                    self.expression(DEEPEST, item)?;
+                }
+            }
+        }
+        Ok(())
+    }
+}
