@@ -19,10 +19,8 @@ MOST, SLOW = 3, 50
 # The runs of tests/sessions at a limit of the language, by their sessions and lines: what is read in their C would pass it, so they have
 # none, and this is said.
 NO_C = {
-    "book_programs": [23], "limits_all_at_once": [3], "limits_of_groups": [2, 4, 6, 10], "limits_of_nesting": [5],
-    "limits_of_program2": [10, 11, 13, 15, 17], "limits_of_tasks": [5], "limits_of_values_and_sections_of_program2": [3, 9],
-    "limits_of_waits": [6], "lines_in_turn": range(114, 124), "run_20000_statements": [3], "tasks_nested_deep": [3],
-    "wide_declarations": [2],
+    "limits_all_at_once": [3], "limits_of_groups": [2, 4, 6, 10], "limits_of_program2": [10, 11, 13, 17], "limits_of_tasks": [5],
+    "limits_of_values_and_sections_of_program2": [9], "limits_of_waits": [6], "wide_declarations": [2],
 }
 LIMIT = (
     r"omptask: the C isn't read back(: it is refused by 422, see omptask explain 422"

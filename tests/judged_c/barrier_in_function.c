@@ -1,11 +1,11 @@
-/* A barrier in a function that a region calls, which isn't executed yet. */
+/* A barrier in a function whose value the region uses, which isn't executed yet. */
 #include <stdint.h>
 #include <stdio.h>
 static uint64_t a;
-static void phase(void)
+static uint64_t phase(void)
 {
     #pragma omp barrier
-    a += 1;
+    return 1;
 }
 int main(void)
 {
@@ -16,7 +16,8 @@ int main(void)
             #pragma omp task depend(out: a)
             a = 2;
         }
-        phase();
+        if (phase() > 1)
+            a = 3;
     }
     printf("%lu\n", a);
     return 0;

@@ -1,0 +1,18 @@
+#include <omp.h>
+int a[2], done;
+int main(void) {
+#pragma omp parallel
+    {
+        int n = 0, me = omp_get_thread_num();
+    more:
+        a[me] += a[me] + n;
+#pragma omp barrier
+        if (++n < 3) goto more;
+        if (n > 5) goto end;
+        a[1 - me] = 0;
+#pragma omp barrier
+    end:
+        a[me]++;
+    }
+    return 0;
+}
