@@ -58,7 +58,7 @@ abbrev pub in_cpp : Diagnosis
 in_cpp = record {
   severity = Error;
   code = code.Outside;
-  told = record { place = None; turns = []; message = codes "this is C++, which isn't read" };
+  told = record { place = None; file = None; turns = []; message = codes "this is C++, which isn't read" };
   notes = [];
 }
 

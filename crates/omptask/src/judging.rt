@@ -192,6 +192,7 @@ fn in_cpp(alloc: Global) -> Result<Diagnosis, AllocError>
         code: Code::Outside,
         told: Remark {
             place: None,
+            file: None,
             turns: Vec::new(alloc),
             message: String::from_str(alloc, "this is C++, which isn't read")?,
         },

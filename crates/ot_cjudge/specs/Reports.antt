@@ -46,7 +46,7 @@ use Rattle.ot_cjudge.specs.declared.report.Verdict.TheVariants as v
 
 -- words about a site, with its turns
 abbrev pub at_site : Site → List ℕ → Remark
-at_site site message = record { place = Some site.place; turns = reverse site.turns; message = message }
+at_site site message = record { place = Some site.place; file = None; turns = reverse site.turns; message = message }
 
 -- what has no notes
 abbrev pub alone : Severity → Code → Remark → Diagnosis
@@ -85,7 +85,7 @@ race_found s body known told = raced (race_told s body (site_of s told.later) (s
 
 -- words about the whole file
 abbrev pub of_file : Code → List ℕ → Diagnosis
-of_file kind message = alone Note kind (record { place = None; turns = []; message = message })
+of_file kind message = alone Note kind (record { place = None; file = None; turns = []; message = message })
 
 -- `3 more races`, where they aren't told
 abbrev pub is_none : More → Bool
@@ -154,7 +154,7 @@ only_run = of_file code.OnlyRun (codes "only the run with these numbers was judg
 -- ---- what isn't judged
 
 abbrev pub outside : Place → List ℕ → Diagnosis
-outside place reason = alone Error code.Outside (record { place = Some place; turns = []; message = reason })
+outside place reason = alone Error code.Outside (record { place = Some place; file = None; turns = []; message = reason })
 
 -- ---- the whole
 

@@ -54,6 +54,7 @@ fn at_site(alloc: Global, site: &Site<'_>, message: String) -> Result<Remark, Al
 {
     Ok(Remark {
         place: Some(site.place),
+        file: None,
         turns: turns_of(alloc, site)?,
         message,
     })
@@ -87,6 +88,7 @@ fn of_file(alloc: Global, code: Code, message: String) -> Diagnosis
         code,
         told: Remark {
             place: None,
+            file: None,
             turns: Vec::new(alloc),
             message,
         },
@@ -223,6 +225,7 @@ pub fn outside(alloc: Global, place: Place, reason: &str) -> Result<Diagnosis, A
         code: Code::Outside,
         told: Remark {
             place: Some(place),
+            file: None,
             turns: Vec::new(alloc),
             message: String::from_str(alloc, reason)?,
         },

@@ -1,5 +1,5 @@
 -- The value of a diagnosis has no number with a fraction.
-use Rattle.std.proofs.Common.{◌≡◌, ℕ, Bool, true, false, ◌||◌, List, [], ◌∷◌, map, refl, true≢false, codes}
+use Rattle.std.proofs.Common.{◌≡◌, ◌-◌, ℕ, Bool, true, false, ◌||◌, List, [], ◌∷◌, map, refl, true≢false, codes}
 use Rattle.std.specs.Prelude.{Option, Some, None}
 use Rattle.std.specs.Ordering.{nat_cmp, match_ordering}
 use Rattle.std.specs.Cmp.Lexicographic.{slice_cmp}
@@ -9,7 +9,7 @@ use Rattle.serde_json.specs.Data.{Data, string, object, Members, no_members, mem
 use Rattle.serde_json.specs.View.{items_of}
 use Rattle.serde_json.specs.Written.{has_float, items_have_float, members_have_float}
 use Rattle.ot_diagnosis.specs.Codes.{severity_text, code_text}
-use Rattle.ot_diagnosis.specs.Diagnoses.{Remark, Diagnosis}
+use Rattle.ot_diagnosis.specs.Diagnoses.{Remark, Diagnosis, path_of, from_of}
 use Rattle.ot_diagnosis.specs.Values.{turn_value, with_place, members_of, note_values, diagnosis_value, nat, listed}
 use Rattle.ot_diagnosis.specs.declared.diagnosis.Place.{Place}
 
@@ -41,21 +41,21 @@ pub map-plain : {X : Type 0} (f : X → Data) (xs : List X) → ((x : X) → has
 map-plain f [] plain = refl
 map-plain f (x ∷ xs) plain = none_of_two (has_float (f x)) (items_have_float (items_of (map f xs))) (plain x) (map-plain f xs plain)
 
-place-plain : (place : Option Place) (ms : Members) → members_have_float ms ≡ false → members_have_float (with_place place ms) ≡ false
-place-plain None ms none = none
-place-plain (Some p) ms none =
-    let byte = put (codes "byte") (nat p.byte) ms in
+place-plain : (from : ℕ) (place : Option Place) (ms : Members) → members_have_float ms ≡ false → members_have_float (with_place from place ms) ≡ false
+place-plain from None ms none = none
+place-plain from (Some p) ms none =
+    let byte = put (codes "byte") (nat (p.byte - from)) ms in
     let line = put (codes "line") (nat p.position.line) byte in
     put-plain (codes "column") (nat p.position.column) line refl
-    (put-plain (codes "line") (nat p.position.line) byte refl (put-plain (codes "byte") (nat p.byte) ms refl none))
+    (put-plain (codes "line") (nat p.position.line) byte refl (put-plain (codes "byte") (nat (p.byte - from)) ms refl none))
 
 members-plain : (name : List ℕ) (r : Remark) → members_have_float (members_of name r) ≡ false
 members-plain name r =
-    let file = put (codes "file") (string name) no_members in
+    let file = put (codes "file") (string (path_of name r)) no_members in
     let message = put (codes "message") (string r.message) file in
     let turns = listed (map turn_value r.turns) in
-    place-plain r.place (put (codes "turns") turns message) (put-plain (codes "turns") turns message (map-plain turn_value r.turns (λ turn. refl))
-    (put-plain (codes "message") (string r.message) file refl (put-plain (codes "file") (string name) no_members refl refl)))
+    place-plain (from_of r) r.place (put (codes "turns") turns message) (put-plain (codes "turns") turns message (map-plain turn_value r.turns (λ turn. refl))
+    (put-plain (codes "message") (string r.message) file refl (put-plain (codes "file") (string (path_of name r)) no_members refl refl)))
 
 pub diagnosis-plain : (name : List ℕ) (d : Diagnosis) → has_float (diagnosis_value name d) ≡ false
 diagnosis-plain name d =

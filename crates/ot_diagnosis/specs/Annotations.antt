@@ -1,7 +1,7 @@
 -- What is found in a file, as GitHub's workflows take it.
 use Rattle.std.specs.Prelude.{ℕ, List, [], ◌++◌, flat_map, codes, Option, Some, None}
 use Rattle.std.specs.Fmt.{decimal}
-use Rattle.ot_diagnosis.specs.Diagnoses.{Remark, Diagnosis}
+use Rattle.ot_diagnosis.specs.Diagnoses.{Remark, Diagnosis, path_of}
 use Rattle.ot_diagnosis.specs.Escapes.{message_text, property_text}
 use Rattle.ot_diagnosis.specs.Texts.{place_text, label_text}
 use Rattle.ot_diagnosis.specs.declared.diagnosis.Place.{Place}
@@ -22,7 +22,7 @@ told_text d = codes "::" ++ (message_text d.told.message ++ label_text d.code)
 
 -- a note is a line more of the message
 abbrev pub note_text : List ℕ → Remark → List ℕ
-note_text name note = message_text (codes "\n" ++ (place_text name note.place ++ (codes ": " ++ note.message)))
+note_text name note = message_text (codes "\n" ++ (place_text (path_of name note) note.place ++ (codes ": " ++ note.message)))
 
 abbrev pub notes_text : List ℕ → List Remark → List ℕ
 notes_text name notes = flat_map (note_text name) notes
@@ -30,4 +30,4 @@ notes_text name notes = flat_map (note_text name) notes
 -- `::error file=NAME,line=LINE,col=COLUMN::MESSAGE [race]`, and the notes
 abbrev pub annotation_text : List ℕ → Diagnosis → List ℕ
 annotation_text name d =
-    command_text d.severity ++ (property_text name ++ (where_text d.told.place ++ (told_text d ++ (notes_text name d.notes ++ codes "\n"))))
+    command_text d.severity ++ (property_text (path_of name d.told) ++ (where_text d.told.place ++ (told_text d ++ (notes_text name d.notes ++ codes "\n"))))

@@ -1,5 +1,5 @@
 -- What severities and codes are called.
-use Rattle.std.specs.Prelude.{ℕ, List, [], ◌++◌, codes}
+use Rattle.std.specs.Prelude.{ℕ, List, codes}
 use Rattle.std.specs.Fmt.{decimal}
 use Rattle.ot_diagnosis.specs.declared.diagnosis.Code.{Code}
 use Rattle.ot_diagnosis.specs.declared.diagnosis.Code.TheVariants.{Race, Lifetime, MoreRaces, Outside, OnlyRun, AsIf, Refused, Answered, Long, Full}

@@ -1,7 +1,7 @@
 -- What is found in files, as SARIF 2.1.0.
 use Rattle.std.specs.Prelude.{ℕ, List, [], ◌∷◌, map, codes, Option, Some, None}
 use Rattle.serde_json.specs.Data.{Data, string, object, Members, no_members, put}
-use Rattle.ot_diagnosis.specs.Diagnoses.{Remark, Diagnosis}
+use Rattle.ot_diagnosis.specs.Diagnoses.{Remark, Diagnosis, path_of}
 use Rattle.ot_diagnosis.specs.Codes.{severity_text, code_text}
 use Rattle.ot_diagnosis.specs.Escapes.{uri_text}
 use Rattle.ot_diagnosis.specs.Values.{nat, listed}
@@ -32,21 +32,22 @@ physical_value uri place = object (with_region place (put (codes "artifactLocati
 abbrev pub places_value : List ℕ → Option Place → Data
 places_value uri place = listed (only (codes "physicalLocation") (physical_value uri place) ∷ [])
 
--- a note
+-- a note of a file of this name
 abbrev pub related_value : List ℕ → Remark → Data
-related_value uri note =
-    object (put (codes "message") (words_value note.message) (put (codes "physicalLocation") (physical_value uri note.place) no_members))
+related_value name note =
+    object (put (codes "message") (words_value note.message) (put (codes "physicalLocation") (physical_value (uri_text (path_of name note)) note.place) no_members))
 
 -- ---- a result
 
 -- with its places and its notes
 abbrev pub with_places : List ℕ → Diagnosis → Members → Members
-with_places uri d ms =
-    put (codes "relatedLocations") (listed (map (related_value uri) d.notes)) (put (codes "locations") (places_value uri d.told.place) ms)
+with_places name d ms =
+    put (codes "relatedLocations") (listed (map (related_value name) d.notes))
+    (put (codes "locations") (places_value (uri_text (path_of name d.told)) d.told.place) ms)
 
 abbrev pub result_value : List ℕ → Diagnosis → Data
 result_value name d =
-    object (with_places (uri_text name) d
+    object (with_places name d
     (put (codes "message") (words_value d.told.message) (put (codes "level") (string (severity_text d.severity)) (put (codes "ruleId") (string (code_text d.code)) no_members))))
 
 -- ---- the document

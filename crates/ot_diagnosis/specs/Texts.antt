@@ -1,7 +1,7 @@
 -- What is found in a file, as compilers show it.
 use Rattle.std.specs.Prelude.{ℕ, ◌==◌, List, [], ◌++◌, map, flat_map, codes, Option, Some, None, if◌then◌else◌}
 use Rattle.std.specs.Fmt.{decimal}
-use Rattle.ot_diagnosis.specs.Diagnoses.{Remark, Diagnosis}
+use Rattle.ot_diagnosis.specs.Diagnoses.{Remark, Diagnosis, path_of}
 use Rattle.ot_diagnosis.specs.Pictures.{painted, picture_text}
 use Rattle.ot_diagnosis.specs.declared.diagnosis.Code.{Code}
 use Rattle.ot_diagnosis.specs.declared.diagnosis.Code.TheVariants.{Race, Lifetime, Outside, Refused}
@@ -35,7 +35,7 @@ on_line b = if b == 10 then 32 else b
 -- `NAME:LINE:COLUMN: error: MESSAGE [race]`
 abbrev pub line_text : Paint → List ℕ → Severity → Remark → List ℕ → List ℕ
 line_text paint name severity r label =
-    place_text name r.place ++ (mark_text paint severity ++ (map on_line r.message ++ (label ++ codes "\n")))
+    place_text (path_of name r) r.place ++ (mark_text paint severity ++ (map on_line r.message ++ (label ++ codes "\n")))
 
 -- the line of the source, where there is one
 abbrev pub pictures : Paint → List ℕ → Option Place → List ℕ

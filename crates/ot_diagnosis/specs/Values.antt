@@ -1,8 +1,8 @@
 -- What is found in a file, as a value of JSON.
-use Rattle.std.specs.Prelude.{ℕ, List, [], ◌∷◌, map, codes, Option, Some, None}
+use Rattle.std.specs.Prelude.{ℕ, ◌-◌, List, [], ◌∷◌, map, codes, Option, Some, None}
 use Rattle.serde_json.specs.Data.{Data, string, number, unsigned, array, object, Members, no_members, put}
 use Rattle.serde_json.specs.View.{items_of}
-use Rattle.ot_diagnosis.specs.Diagnoses.{Remark, Diagnosis}
+use Rattle.ot_diagnosis.specs.Diagnoses.{Remark, Diagnosis, path_of, from_of}
 use Rattle.ot_diagnosis.specs.Codes.{severity_text, code_text}
 use Rattle.ot_diagnosis.specs.declared.diagnosis.Place.{Place}
 
@@ -16,15 +16,15 @@ listed values = array (items_of values)
 abbrev pub turn_value : List ℕ × ℕ → Data
 turn_value turn = listed (string turn.0 ∷ nat turn.1 ∷ [])
 
--- a byte, a line and a column, where there is a place
-abbrev pub with_place : Option Place → Members → Members
-with_place None ms = ms
-with_place (Some p) ms = put (codes "column") (nat p.position.column) (put (codes "line") (nat p.position.line) (put (codes "byte") (nat p.byte) ms))
+-- a byte, a line and a column of a file that has so many bytes before it in the text that is shown, where there is a place
+abbrev pub with_place : ℕ → Option Place → Members → Members
+with_place from None ms = ms
+with_place from (Some p) ms = put (codes "column") (nat p.position.column) (put (codes "line") (nat p.position.line) (put (codes "byte") (nat (p.byte - from)) ms))
 
 -- what is said of a file of this name
 abbrev pub members_of : List ℕ → Remark → Members
 members_of name r =
-    with_place r.place (put (codes "turns") (listed (map turn_value r.turns)) (put (codes "message") (string r.message) (put (codes "file") (string name) no_members)))
+    with_place (from_of r) r.place (put (codes "turns") (listed (map turn_value r.turns)) (put (codes "message") (string r.message) (put (codes "file") (string (path_of name r)) no_members)))
 
 abbrev pub note_values : List ℕ → List Remark → List Data
 note_values name notes = map (λ note. object (members_of name note)) notes

@@ -18,7 +18,7 @@ pub(crate) fn put_annotation(
     ensures { OnOk result (out.new.items ≡ out.old.items ++ meant.annotation_text name.now (diagnosis_by found.now)) }
 {
     out.extend_from_slice(command_of(found.severity).as_bytes())?;
-    put_property(name.as_bytes(), out)?;
+    put_property(found.told.path(name).as_bytes(), out)?;
     put_where(alloc, found.told.place, out)?;
     put_told(alloc, found, out)?;
     put_notes(alloc, name, found.notes.as_slice(), out)?;
@@ -76,7 +76,7 @@ fn put_notes(
 fn put_note(alloc: Global, name: &str, note: &Remark, out: &mut Vec<u8>) -> Result<(), AllocError>
     ensures { OnOk result (out.new.items ≡ out.old.items ++ meant.note_text name.now (remark_by note.now)) }
 {
-    let place = place_of(alloc, name, note.place)?;
+    let place = place_of(alloc, note.path(name), note.place)?;
     let stands = place.as_str();
     let message = note.message.as_str();
     let line = format!(in alloc; "\n{stands}: {message}")?;

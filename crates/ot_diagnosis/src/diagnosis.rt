@@ -1,6 +1,7 @@
 //! What is found in a file.
 ghost use Rattle.std.specs.Prelude.{◌≡◌, ◌≤◌, length};
-ghost use Rattle.ot_diagnosis.specs.Diagnoses.{place_in};
+ghost use Rattle.ot_diagnosis.specs.Diagnoses.{place_in, path_of, from_of};
+ghost use Rattle.ot_diagnosis.specs.DiagnosisView.{remark_by};
 
 use ot_file::{Position, Positions, position_of};
 
@@ -76,14 +77,46 @@ pub struct Turn {
     pub number: u64,
 }
 
+/// A file that the one that is judged includes.
+#[derive(Debug, Drop)]
+pub struct Included {
+    pub path: String,
+    /// How many bytes stand before it in the text that is shown.
+    pub from: usize,
+}
+
 /// What is said of a place in a file, or of the file.
 #[derive(Debug, Drop)]
 pub struct Remark {
     /// None where it is said of the whole file.
     pub place: Option<Place>,
+    /// The file in which the place stands, where it isn't the one that is judged.
+    pub file: Option<Included>,
     /// The turns of the loops around the place, the outermost first.
     pub turns: Vec<Turn>,
     pub message: String,
+}
+
+impl Remark {
+    /// The path of its file, where the one that is judged has this name.
+    pub(crate) fn path<'a>(&'a self, name: &'a str) -> &'a str
+        ensures { result.now ≡ path_of name.now (remark_by self.now) }
+    {
+        match &self.file {
+            Some(file) => file.path.as_str(),
+            None => name,
+        }
+    }
+
+    /// How many bytes stand before its file in the text that is shown.
+    pub(crate) fn from(&self) -> usize
+        ensures { result ≡ from_of (remark_by self.now) }
+    {
+        match &self.file {
+            Some(file) => file.from,
+            None => 0,
+        }
+    }
 }
 
 /// What is found in a file.

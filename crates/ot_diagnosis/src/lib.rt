@@ -12,7 +12,7 @@ mod summary;
 mod text;
 mod value;
 
-pub use diagnosis::{Code, Diagnosis, Place, Remark, Severity, Turn};
+pub use diagnosis::{Code, Diagnosis, Included, Place, Remark, Severity, Turn};
 pub use format::{Format, put_document, put_found, put_results, without_refusals};
 pub use paint::Paint;
 pub use summary::{Outcome, put_summary};

@@ -14,12 +14,12 @@ use std::alloc::{AllocError, Global};
 pub(crate) fn result_of(alloc: Global, name: &str, found: &Diagnosis) -> Result<Value, AllocError>
     ensures { IfOk result (λ v. view v ≡ meant.result_value name.now (diagnosis_by found.now)) }
 {
-    let uri = uri_of(alloc, name)?;
+    let uri = uri_of(alloc, found.told.path(name))?;
     let rule = text_of(alloc, code_of(alloc, found.code)?.as_str())?;
     let level = text_of(alloc, severity_of(found.severity))?;
     let told = words_of(alloc, found.told.message.as_str())?;
     let places = places_of(alloc, uri.as_str(), found.told.place)?;
-    let related = related_to(alloc, uri.as_str(), found.notes.as_slice())?;
+    let related = related_to(alloc, name, found.notes.as_slice())?;
     let mut members = Map::new(alloc);
     put(&mut members, alloc, "ruleId", rule)?;
     put(&mut members, alloc, "level", level)?;
@@ -107,20 +107,21 @@ fn region_of(alloc: Global, place: Place) -> Result<Value, AllocError>
 }
 
 /// Notes, as locations that belong to a result.
-fn related_to(alloc: Global, uri: &str, notes: &[Remark]) -> Result<Vec<Value>, AllocError>
-    ensures { IfOk result (λ values. map (λ v. view v) values.items ≡ map (meant.related_value uri.now) (map remark_by notes.now)) }
+fn related_to(alloc: Global, name: &str, notes: &[Remark]) -> Result<Vec<Value>, AllocError>
+    ensures { IfOk result (λ values. map (λ v. view v) values.items ≡ map (meant.related_value name.now) (map remark_by notes.now)) }
 {
     let mut values = Vec::new(alloc);
     for note in notes {
-        values.push(related_of(alloc, uri, note)?)?;
+        values.push(related_of(alloc, name, note)?)?;
     }
     Ok(values)
 }
 
-fn related_of(alloc: Global, uri: &str, note: &Remark) -> Result<Value, AllocError>
-    ensures { IfOk result (λ v. view v ≡ meant.related_value uri.now (remark_by note.now)) }
+fn related_of(alloc: Global, name: &str, note: &Remark) -> Result<Value, AllocError>
+    ensures { IfOk result (λ v. view v ≡ meant.related_value name.now (remark_by note.now)) }
 {
-    let physical = physical_of(alloc, uri, note.place)?;
+    let uri = uri_of(alloc, note.path(name))?;
+    let physical = physical_of(alloc, uri.as_str(), note.place)?;
     let told = words_of(alloc, note.message.as_str())?;
     let mut members = Map::new(alloc);
     put(&mut members, alloc, "physicalLocation", physical)?;

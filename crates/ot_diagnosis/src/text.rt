@@ -85,7 +85,7 @@ fn put_line(
 ) -> Result<(), AllocError>
     ensures { OnOk result (out.new.items ≡ out.old.items ++ meant.line_text paint name.now severity (remark_by remark.now) label.now) }
 {
-    let place = place_of(alloc, name, remark.place)?;
+    let place = place_of(alloc, remark.path(name), remark.place)?;
     out.extend_from_slice(place.as_bytes())?;
     out.extend_from_slice(mark_of(paint, severity).as_bytes())?;
     put_words(remark.message.as_bytes(), out)?;

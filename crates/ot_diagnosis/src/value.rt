@@ -39,29 +39,35 @@ fn notes_of(alloc: Global, name: &str, notes: &[Remark]) -> Result<Vec<Value>, A
 fn members_of(alloc: Global, name: &str, remark: &Remark) -> Result<Map<String, Value>, AllocError>
     ensures { IfOk result (λ members. members_view members.entries ≡ meant.members_of name.now (remark_by remark.now)) }
 {
-    let file = text_of(alloc, name)?;
+    let file = text_of(alloc, remark.path(name))?;
     let message = text_of(alloc, remark.message.as_str())?;
     let turns = Value::Array(turns_of(alloc, remark.turns.as_slice())?);
     let mut members = Map::new(alloc);
     put(&mut members, alloc, "file", file)?;
     put(&mut members, alloc, "message", message)?;
     put(&mut members, alloc, "turns", turns)?;
-    put_place(alloc, remark.place, &mut members)?;
+    put_place(alloc, remark.from(), remark.place, &mut members)?;
     Ok(members)
 }
 
-/// Puts a place into an object, where there is one.
+/// Puts a place into an object, where there is one, of a file that has so many bytes before it in the text that is shown.
 fn put_place(
     alloc: Global,
+    from: usize,
     place: Option<Place>,
     members: &mut Map<String, Value>,
 ) -> Result<(), AllocError>
-    ensures { OnOk result (members_view members.new.entries ≡ meant.with_place place (members_view members.old.entries)) }
+    ensures { OnOk result (members_view members.new.entries ≡ meant.with_place from place (members_view members.old.entries)) }
 {
     let Some(place) = place else {
         return Ok(());
     };
-    put(members, alloc, "byte", Value::from(place.byte))?;
+    put(
+        members,
+        alloc,
+        "byte",
+        Value::from(place.byte.saturating_sub(from)),
+    )?;
     put(members, alloc, "line", Value::from(place.position.line))?;
     put(members, alloc, "column", Value::from(place.position.column))?;
     Ok(())

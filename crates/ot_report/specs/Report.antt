@@ -59,7 +59,7 @@ kind_of false None = Full
 
 -- words at a place
 abbrev pub remark : Place → List ℕ → Remark
-remark place words = record { place = Some place; turns = []; message = words }
+remark place words = record { place = Some place; file = None; turns = []; message = words }
 
 -- a refusal at this place, with its notes
 abbrev pub refused : Place → Bool → Option ℕ → List Remark → Diagnosis

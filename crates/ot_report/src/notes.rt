@@ -36,6 +36,7 @@ pub(crate) fn placed(
         };
         told.push(Remark {
             place: Some(place),
+            file: None,
             turns: Vec::new(alloc),
             message: note.words,
         })?;

@@ -75,6 +75,7 @@ fn refused(alloc: Global, finding: &Finding, notes: Vec<Remark>) -> Result<Diagn
         code: kind_of(finding),
         told: Remark {
             place: Some(finding.place),
+            file: None,
             turns: Vec::new(alloc),
             message,
         },

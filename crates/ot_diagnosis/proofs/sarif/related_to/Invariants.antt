@@ -5,4 +5,4 @@ use Rattle.ot_diagnosis.specs.Sarif.{related_value}
 use Rattle.ot_diagnosis.proofs.sarif.related_to.Given as goal
 
 abbrev pub invariant-loop-note : goal.invariant-loop-note
-invariant-loop-note l = map (λ v. view v) l.values.items ≡ map (related_value l.uri) (map remark_by (take l.note-index l.notes))
+invariant-loop-note l = map (λ v. view v) l.values.items ≡ map (related_value l.name) (map remark_by (take l.note-index l.notes))
