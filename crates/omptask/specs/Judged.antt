@@ -1,5 +1,5 @@
 -- What is told of a text that is judged, or written as lines, and how that ends.
-use Rattle.std.specs.Prelude.{◌≡◌, ℕ, Bool, true, false, List, [], ◌∷◌, ◌++◌, map, codes, Option, Some, None, Ok, ⊤, if◌then◌else◌}
+use Rattle.std.specs.Prelude.{◌≡◌, ℕ, Bool, true, false, List, [], ◌∷◌, ◌++◌, map, codes, Option, Some, None, Ok, ⊤, ⊥, if◌then◌else◌}
 use Rattle.std.specs.Io.KnownBytes.{Appends}
 use Rattle.serde_json.specs.Data.{Data}
 use Rattle.serde_json.specs.Written.{has_float}
@@ -53,14 +53,23 @@ JudgesRequests text arrays judged =
     (now : List Named) × (found : List Diagnosis) × (made [] arrays ≡ Ok now) × Reports (blanked text) (refusals_in (finds now) (blanked text)) found
     × (map diagnosis_by judged.found.items ≡ found) × (judged.outcome ≡ outcome_after found)
 
--- a text in C++ isn't judged
-abbrev pub in_cpp : Diagnosis
-in_cpp = record {
+-- a whole file isn't judged, in these words
+abbrev pub of_file : List ℕ → Diagnosis
+of_file words = record {
   severity = Error;
   code = code.Outside;
-  told = record { place = None; file = None; turns = []; message = codes "this is C++, which isn't read" };
+  told = record { place = None; file = None; turns = []; message = words };
   notes = [];
 }
+
+-- a text in C++ isn't judged
+abbrev pub in_cpp : Diagnosis
+in_cpp = of_file (codes "this is C++, which isn't read")
+
+-- a text that includes files which are there has no lines
+abbrev pub HasNoLines : Session → Type 0
+HasNoLines (session.Lines lines) = ⊥
+HasNoLines (session.Outside found) = diagnosis_by found ≡ of_file (codes "it includes files that are there: it is executed, and has no lines")
 
 -- what was judged of a file of this name is written in the format
 abbrev pub Tells : Format → List ℕ → List ℕ → Judged → Option (List ℕ) → Option (List ℕ) → Type 0

@@ -7,8 +7,10 @@ use crate::asked::{Check, Kind};
 use crate::ended::Ended;
 use crate::fault::{Fault, want_for, want_text};
 use crate::folder::{files_below, is_folder};
+use crate::included::with_included;
 use crate::judging::{
-    Judged, judge_c, judge_cpp, judge_requests, tell, tell_end, write_lines, write_session,
+    Judged, judge_c, judge_cpp, judge_requests, tell, tell_end, without_lines, write_lines,
+    write_session,
 };
 use ot_ctext::{Session, session_of};
 use ot_diagnosis::{Format, Outcome, Paint, Source, put_diagnosis, put_results};
@@ -258,7 +260,7 @@ fn weight_of(ended: Ended) -> u8
 }
 
 /// Writes the text of a file as lines, on standard output. Why a text in C has no lines goes to standard error.
-fn write_text<R: Print + Eprint>(
+fn write_text<R: Print + Eprint + Files>(
     rt: &R,
     alloc: Global,
     source: Source<'_>,
@@ -267,13 +269,25 @@ fn write_text<R: Print + Eprint>(
     if !is_c(source.name) {
         return write_lines(alloc, source.text, &mut to);
     }
-    let Ok(session) = session_of(alloc, source.text) else {
-        return Err(Fault::Memory);
-    };
+    let session = session_in(rt, alloc, source)?;
     if tell_outside(rt, alloc, source, &session).is_err() {
         return Err(Fault::Memory);
     }
     write_session(&session, &mut to)
+}
+
+/// The session that runs a text in C. A text that includes files which are there has none: what they say isn't read.
+fn session_in(files: &impl Files, alloc: Global, source: Source<'_>) -> Result<Session, Fault> {
+    let whole = with_included(files, alloc, &[], source)?;
+    let made = if whole.includes_any() {
+        without_lines(alloc)
+    } else {
+        session_of(alloc, source.text)
+    };
+    match made {
+        Ok(session) => Ok(session),
+        Err(_) => Err(Fault::Memory),
+    }
 }
 
 /// Tells why there is no session, where standard error takes it.
@@ -300,14 +314,63 @@ pub(crate) fn say(rt: &impl Eprint, text: &[u8]) {
 }
 
 /// Judges the text of a file, on standard output.
-fn check_text<R: Print + Eprint>(
+fn check_text<R: Print + Eprint + Files>(
     rt: &R,
     alloc: Global,
     order: &Order<'_>,
     source: Source<'_>,
     tally: &mut Tally,
 ) -> Result<Ended, Fault> {
-    let judged = judged_text(alloc, order, source)?;
+    let defined = order.check.defined.as_slice();
+    let judged = match kind_of(source.name) {
+        Kind::InC => return check_c(rt, alloc, order, source, tally),
+        Kind::InCpp => judged_cpp(alloc)?,
+        Kind::Requests => {
+            let arrays = arrays_of(alloc, defined)?;
+            judge_requests(alloc, source.text, arrays.as_slice())?
+        }
+    };
+    tell_judged(rt, alloc, order, source, judged, tally)
+}
+
+/// Judges the text of a file in C, with those of the files that it includes, on standard output.
+fn check_c<R: Print + Eprint + Files>(
+    rt: &R,
+    alloc: Global,
+    order: &Order<'_>,
+    source: Source<'_>,
+    tally: &mut Tally,
+) -> Result<Ended, Fault> {
+    let defined = order.check.defined.as_slice();
+    let whole = with_included(rt, alloc, defined, source)?;
+    let races_only = order.check.races_only;
+    let executes = !defined.is_empty() || whole.includes_any();
+    let Ok(judged) = judge_c(alloc, races_only, executes, defined, source, &whole) else {
+        return Err(Fault::Memory);
+    };
+    let shown = Source {
+        name: source.name,
+        text: whole.text(),
+    };
+    tell_judged(rt, alloc, order, shown, judged, tally)
+}
+
+fn judged_cpp(alloc: Global) -> Result<Judged, Fault> {
+    match judge_cpp(alloc) {
+        Ok(judged) => Ok(judged),
+        Err(_) => Err(Fault::Memory),
+    }
+}
+
+/// Tells what was judged of a file.
+fn tell_judged<R: Print + Eprint>(
+    rt: &R,
+    alloc: Global,
+    order: &Order<'_>,
+    source: Source<'_>,
+    judged: Judged,
+    tally: &mut Tally,
+) -> Result<Ended, Fault> {
     let mut to = Writing::new(io::writer(rt));
     tell(alloc, order.format, source, &judged, &mut to)?;
     tell_hint(rt, source);
@@ -344,28 +407,6 @@ fn keep(
     match format {
         Format::Sarif => put_results(alloc, name, judged.found.as_slice(), &mut tally.results),
         _ => Ok(()),
-    }
-}
-
-/// Judges the text of a file, by what its name says it has.
-fn judged_text(alloc: Global, order: &Order<'_>, source: Source<'_>) -> Result<Judged, Fault> {
-    let judged = match kind_of(source.name) {
-        Kind::InC => judge_c(
-            alloc,
-            order.check.races_only,
-            order.check.defined.as_slice(),
-            source.name,
-            source.text,
-        ),
-        Kind::InCpp => judge_cpp(alloc),
-        Kind::Requests => {
-            let arrays = arrays_of(alloc, order.check.defined.as_slice())?;
-            return judge_requests(alloc, source.text, arrays.as_slice());
-        }
-    };
-    match judged {
-        Ok(judged) => Ok(judged),
-        Err(_) => Err(Fault::Memory),
     }
 }
 

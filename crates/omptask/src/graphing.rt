@@ -2,6 +2,7 @@
 use crate::checking::{ended_by, name_of, say, text_of, without_mark};
 use crate::ended::Ended;
 use crate::fault::Fault;
+use crate::included::with_included;
 use crate::judging::outcome_of_run;
 use crate::{print_text, tell_bad_line};
 use ot_blamegraph::{Refused, picture_on};
@@ -80,10 +81,15 @@ pub(crate) fn draw_file<R: Input + Print + Eprint + Files>(
         name: name_of(path, ""),
         text: without_mark(text.as_slice()),
     };
-    let Ok(drawn) = draw_run(alloc, source.name, source.text) else {
+    let whole = with_included(rt, alloc, &[], source)?;
+    let Ok(drawn) = draw_run(alloc, &whole) else {
         return Err(Fault::Memory);
     };
-    tell_found(rt, alloc, source, &drawn)?;
+    let shown = Source {
+        name: source.name,
+        text: whole.text(),
+    };
+    tell_found(rt, alloc, shown, &drawn)?;
     write_picture(rt, &drawn)?;
     Ok(ended_by(outcome_of_run(drawn.verdict)))
 }

@@ -1,5 +1,5 @@
 //! A text, judged, or written as lines.
-ghost use Rattle.std.specs.Prelude.{◌≡◌, [], ◌∷◌, ◌++◌, map, if◌then◌else◌, IfOk, OnOk, flat_map};
+ghost use Rattle.std.specs.Prelude.{◌≡◌, false, [], ◌∷◌, ◌++◌, map, if◌then◌else◌, IfOk, OnOk, flat_map};
 ghost use Rattle.ot_diagnosis.specs.Summaries.{summary_text};
 ghost use Rattle.std.specs.Io.KnownBytes.{Appends};
 ghost use Rattle.serde_json.specs.View.{view};
@@ -15,6 +15,7 @@ use crate::fault::Fault;
 use ot_cjudge::Verdict;
 use ot_crun::judge_run;
 use ot_ctext::{Session, judge_text};
+use ot_ctoken::Whole;
 use ot_diagnosis::{
     Code, Diagnosis, Format, Outcome, Remark, Severity, Source, put_document, put_found,
     put_summary, without_refusals,
@@ -58,38 +59,39 @@ pub(crate) fn write_session<W: Sink>(session: &Session, to: &mut W) -> Result<En
     Ok(ended)
 }
 
-/// Judges a text in C of this name; where only its races are to be told, what a server refuses isn't kept. Behind definitions it is
-/// executed.
+/// Judges a text in C; where only its races are to be told, what a server refuses isn't kept. Where that is asked for it is executed,
+/// behind definitions, with those of the files that it includes.
 pub(crate) fn judge_c(
     alloc: Global,
     races_only: bool,
+    executes: bool,
     defined: &[String],
-    name: &str,
-    text: &[u8],
+    source: Source<'_>,
+    whole: &Whole,
 ) -> Result<Judged, AllocError>
-    ensures { IfOk result (λ judged. defined.now ≡ [] → meant.JudgesC races_only name.now text.now judged) }
+    ensures { IfOk result (λ judged. executes ≡ false → meant.JudgesC races_only source.entry.name.now source.entry.text.now judged) }
 {
-    if !defined.is_empty() {
-        return executed(alloc, races_only, defined, name, text);
+    if executes {
+        return executed(alloc, races_only, defined, whole);
     }
-    judge_as_it_stands(alloc, races_only, name, text)
+    judge_as_it_stands(alloc, races_only, source, whole)
 }
 
-/// Judges a text in C of this name, to which no definitions are added. It is executed where it means no program that can be judged.
+/// Judges a text in C to which nothing is added. It is executed where it means no program that can be judged.
 fn judge_as_it_stands(
     alloc: Global,
     races_only: bool,
-    name: &str,
-    text: &[u8],
+    source: Source<'_>,
+    whole: &Whole,
 ) -> Result<Judged, AllocError>
-    ensures { IfOk result (meant.JudgesC races_only name.now text.now) }
+    ensures { IfOk result (meant.JudgesC races_only source.entry.name.now source.entry.text.now) }
 {
-    match judge_text(alloc, name, text)? {
+    match judge_text(alloc, source.name, source.text)? {
         Some(report) => Ok(Judged {
             outcome: outcome_of(report.verdict),
             found: kept_where(alloc, races_only, report.found)?,
         }),
-        None => executed(alloc, races_only, &[], name, text),
+        None => executed(alloc, races_only, &[], whole),
     }
 }
 
@@ -98,10 +100,9 @@ fn executed(
     alloc: Global,
     races_only: bool,
     defined: &[String],
-    name: &str,
-    text: &[u8],
+    whole: &Whole,
 ) -> Result<Judged, AllocError> {
-    let told = judge_run(alloc, name, defined, text)?;
+    let told = judge_run(alloc, defined, whole)?;
     Ok(Judged {
         outcome: outcome_of_run(told.verdict),
         found: kept_where(alloc, races_only, told.found)?,
@@ -171,6 +172,14 @@ fn outcome_after(found: &[Diagnosis]) -> Outcome
     }
 }
 
+/// That a text has no lines, as it includes files.
+pub(crate) fn without_lines(alloc: Global) -> Result<Session, AllocError>
+    ensures { IfOk result meant.HasNoLines }
+{
+    let words = "it includes files that are there: it is executed, and has no lines";
+    Ok(Session::Outside(of_file(alloc, words)?))
+}
+
 /// What is told of a text in C++.
 pub(crate) fn judge_cpp(alloc: Global) -> Result<Judged, AllocError>
     ensures found { IfOk result (λ judged. map diagnosis_by judged.found.items ≡ meant.in_cpp ∷ []) }
@@ -187,6 +196,13 @@ pub(crate) fn judge_cpp(alloc: Global) -> Result<Judged, AllocError>
 fn in_cpp(alloc: Global) -> Result<Diagnosis, AllocError>
     ensures { IfOk result (λ found. diagnosis_by found ≡ meant.in_cpp) }
 {
+    of_file(alloc, "this is C++, which isn't read")
+}
+
+/// That a whole file isn't judged, in these words.
+fn of_file(alloc: Global, words: &str) -> Result<Diagnosis, AllocError>
+    ensures { IfOk result (λ found. diagnosis_by found ≡ meant.of_file words.now) }
+{
     Ok(Diagnosis {
         severity: Severity::Error,
         code: Code::Outside,
@@ -194,7 +210,7 @@ fn in_cpp(alloc: Global) -> Result<Diagnosis, AllocError>
             place: None,
             file: None,
             turns: Vec::new(alloc),
-            message: String::from_str(alloc, "this is C++, which isn't read")?,
+            message: String::from_str(alloc, words)?,
         },
         notes: Vec::new(alloc),
     })

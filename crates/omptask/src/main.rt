@@ -16,6 +16,7 @@ mod explaining;
 pub mod fault;
 mod folder;
 mod graphing;
+mod included;
 mod judging;
 mod prompt;
 pub mod reaching;

@@ -3,12 +3,14 @@ use crate::drawing::drawn;
 use crate::join::{Other, Placed};
 use crate::locked::{Apartness, changes, has_locks, locked_race, locked_ways};
 use crate::others::judge_others;
+use crate::placing::origin_of;
 use crate::reading::{Read, Reading, byte_of, reading_of};
 use crate::reason::of_run;
 use crate::telling::{Source, more_races, outside, race_found, with_assumed, wrong};
 use crate::ways::{QUESTIONS, WAYS, asks_at, first_limit, way_limits};
 use ot_code::Form;
 use ot_corder::{Order, races_by};
+use ot_ctoken::Whole;
 use ot_diagnosis::{Code, Diagnosis};
 use ot_machine::{Fault, Limits, Reason, Run, Ways, run_code};
 use ot_outline::{Told, events_of, race_of};
@@ -67,21 +69,21 @@ const TOO_LONG: &str = "the run touches too many cells";
 /// What is known of a race of the run with the text's own numbers.
 const IN_RUN: &str = "with these numbers nothing orders the two";
 
-/// Executes a text of this name behind definitions of a command line, each `NAME=VALUE` or `NAME`, and judges what its tasks touch.
+/// Executes a text, with those of the files that it includes, behind definitions of a command line, each `NAME=VALUE` or `NAME`, and
+/// judges what its tasks touch.
 pub fn judge_run(
     alloc: Global,
-    name: &str,
     definitions: &[String],
-    text: &[u8],
+    whole: &Whole,
 ) -> Result<Judged, AllocError> {
-    match reading_of(alloc, definitions, text)? {
+    match reading_of(alloc, definitions, whole)? {
         Read::Outside(byte, words) => {
-            one_found(alloc, Verdict::Outside, outside(alloc, text, byte, words))
+            let found = outside(alloc, whole, byte, words)?;
+            one_found(alloc, Verdict::Outside, found)
         }
         Read::Whole(reading, placed) => {
             let of = Of {
-                name,
-                text,
+                whole,
                 reading: &reading,
                 draws: false,
             };
@@ -101,22 +103,22 @@ pub struct Drawn {
     pub picture: Option<Vec<u8>>,
 }
 
-/// Executes a text of this name, judges what its tasks touch, and draws them.
-pub fn draw_run(alloc: Global, name: &str, text: &[u8]) -> Result<Drawn, AllocError> {
-    let judged = match reading_of(alloc, &[], text)? {
+/// Executes a text, with those of the files that it includes, judges what its tasks touch, and draws them.
+pub fn draw_run(alloc: Global, whole: &Whole) -> Result<Drawn, AllocError> {
+    let judged = match reading_of(alloc, &[], whole)? {
         Read::Outside(byte, words) => {
-            one_found(alloc, Verdict::Outside, outside(alloc, text, byte, words))?
+            let found = outside(alloc, whole, byte, words)?;
+            one_found(alloc, Verdict::Outside, found)?
         }
         Read::Whole(reading, placed) => {
             let of = Of {
-                name,
-                text,
+                whole,
                 reading: &reading,
                 draws: true,
             };
-            let whole = whole_picture(alloc, of, &placed)?;
+            let picture = whole_picture(alloc, of, &placed)?;
             let judged = judge(alloc, of, placed)?;
-            with_picture(with_assumed(alloc, &reading, judged)?, whole)
+            with_picture(with_assumed(alloc, &reading, judged)?, picture)
         }
     };
     let Judged {
@@ -165,11 +167,10 @@ fn with_picture(judged: Judged, whole: Option<Vec<u8>>) -> Judged {
     }
 }
 
-/// What is judged: the text's name, its bytes, and what it is read as.
+/// What is judged: a text with those of the files that it includes, and what they are read as.
 #[derive(Clone, Copy)]
 pub(crate) struct Of<'a> {
-    pub name: &'a str,
-    pub text: &'a [u8],
+    pub whole: &'a Whole,
     pub reading: &'a Reading,
     /// Whether a race is drawn.
     pub draws: bool,
@@ -181,8 +182,7 @@ impl<'a> Of<'a> {
         'a: 'b,
     {
         Source {
-            name: self.name,
-            text: self.text,
+            whole: self.whole,
             reading: self.reading,
             run,
         }
@@ -295,7 +295,7 @@ fn judge_run_alone(alloc: Global, of: Of<'_>, run: &Run) -> Result<Judged, Alloc
         Apartness::Races(race) => one_race(alloc, of, run, race, IN_RUN_APART),
         Apartness::TooMany => {
             let words = String::from_str(alloc, CROWDED)?;
-            let one = outside(alloc, of.text, 0, words);
+            let one = outside(alloc, of.whole, 0, words)?;
             one_found(alloc, Verdict::Outside, one)
         }
     }
@@ -334,7 +334,7 @@ fn judge_one(alloc: Global, of: Of<'_>, run: &Run) -> Result<Judged, AllocError>
     let source = &of.source(run);
     let events = events_of(alloc, &run.log)?;
     if events.len() >= EVENTS {
-        let one = outside(alloc, source.text, 0, String::from_str(alloc, TOO_LONG)?);
+        let one = outside(alloc, of.whole, 0, String::from_str(alloc, TOO_LONG)?)?;
         return one_found(alloc, Verdict::Outside, one);
     }
     let races = races_by(alloc, Order::OfC, events, ALL)?;
@@ -428,7 +428,7 @@ fn ended(alloc: Global, of: Of<'_>, placed: &Placed, fault: Fault) -> Result<Jud
     if fault.reason == Reason::Ended {
         let byte = byte_of(&of.reading.tokens, token_at(placed, fault.at));
         let words = String::from_str(alloc, of_run(fault.reason))?;
-        let one = wrong(alloc, Code::Lifetime, of.text, byte, words);
+        let one = wrong(alloc, Code::Lifetime, of.whole, byte, words)?;
         return one_found(alloc, Verdict::Races, one);
     }
     let words = if is_among(of.reading.apart.as_slice(), fault.at) {
@@ -464,11 +464,14 @@ fn at_form(
     at: usize,
     words: &str,
 ) -> Result<Judged, AllocError> {
-    let byte = byte_of(&of.reading.tokens, token_at(placed, at));
+    let token = token_at(placed, at);
+    let byte = byte_of(&of.reading.tokens, token);
     let words = String::from_str(alloc, words)?;
-    one_found(
-        alloc,
-        Verdict::Outside,
-        outside(alloc, of.text, byte, words),
-    )
+    let mut one = outside(alloc, of.whole, byte, words)?;
+    let names = &of.reading.names;
+    let token = of.reading.tokens.get(token as usize);
+    if let Some(written) = origin_of(alloc, of.whole, names, token, "")? {
+        one.notes.push(written)?;
+    }
+    one_found(alloc, Verdict::Outside, one)
 }

@@ -1,7 +1,7 @@
 //! What stands in the nodes of a picture.
 use crate::naming::cell_name;
+use crate::placing::short_place;
 use crate::telling::Source;
-use ot_diagnosis::Place;
 use ot_model::Cell;
 use std::alloc::{AllocError, Global};
 
@@ -16,10 +16,10 @@ pub(crate) fn line_label(
     source: &Source<'_>,
     place: u32,
 ) -> Result<String, AllocError> {
-    let place = source.place_of_event(place);
-    let mut label = position_text(alloc, place)?;
+    let byte = source.byte_of_event(place);
+    let mut label = short_place(alloc, source.whole, byte)?;
     label.push_str(": ")?;
-    put_line(source.text, place.byte, &mut label)?;
+    put_line(source.whole.text(), byte, &mut label)?;
     Ok(label)
 }
 
@@ -30,16 +30,11 @@ pub(crate) fn touch_label(
     place: u32,
     cell: Cell,
 ) -> Result<String, AllocError> {
-    let at = position_text(alloc, source.place_of_event(place))?;
-    let name = cell_name(alloc, source.reading, source.text, source.run, cell)?;
+    let at = short_place(alloc, source.whole, source.byte_of_event(place))?;
+    let at = at.as_str();
+    let name = cell_name(alloc, source.reading, source.whole, source.run, cell)?;
     let happens = source.happens(place, cell);
     format!(in alloc; "{at}: {name} {happens}")
-}
-
-fn position_text(alloc: Global, place: Place) -> Result<String, AllocError> {
-    let line = place.position.line;
-    let column = place.position.column;
-    format!(in alloc; "{line}:{column}")
 }
 
 /// Puts the line around a byte, from its first word on, as far as there is room.

@@ -10,6 +10,7 @@ mod label;
 mod locked;
 mod naming;
 mod others;
+mod placing;
 mod reading;
 mod reason;
 mod region;

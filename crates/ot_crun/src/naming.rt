@@ -1,6 +1,8 @@
 //! How cells are called.
-use crate::reading::Reading;
+use crate::placing::line_text;
+use crate::reading::{Reading, byte_of};
 use ot_clayout::is_uneven;
+use ot_ctoken::Whole;
 use ot_ctree::{Length, Type, Unit};
 use ot_machine::Run;
 use ot_model::Cell;
@@ -13,7 +15,7 @@ const DEEPEST: u32 = 16;
 pub(crate) fn cell_name(
     alloc: Global,
     reading: &Reading,
-    text: &[u8],
+    whole: &Whole,
     run: &Run,
     cell: Cell,
 ) -> Result<String, AllocError> {
@@ -34,27 +36,18 @@ pub(crate) fn cell_name(
             Ok(name)
         }
         None => {
-            let made = (object.name as usize).saturating_sub(reading.unit.variables.len());
-            let line = line_of(text, byte_at(reading, made));
+            let made = object.name.saturating_sub(count_of_variables(reading));
+            let line = line_text(alloc, whole, byte_of(&reading.tokens, made))?;
+            let line = line.as_str();
             let index = cell.index;
-            format!(in alloc; "cell {index} of what is allocated at line {line}")
+            format!(in alloc; "cell {index} of what is allocated at {line}")
         }
     }
 }
 
-fn byte_at(reading: &Reading, token: usize) -> usize {
-    match reading.tokens.get(token) {
-        Some(token) => token.at,
-        None => 0,
-    }
-}
-
-fn line_of(text: &[u8], byte: usize) -> usize {
-    text.iter()
-        .take(byte)
-        .filter(|b| **b == b'\n')
-        .count()
-        .saturating_add(1)
+/// How many variables a text has: what is allocated has its token's number behind theirs.
+fn count_of_variables(reading: &Reading) -> u32 {
+    u32::try_from(reading.unit.variables.len()).unwrap_or(u32::MAX)
 }
 
 /// How many cells a type has, as far as it is known here: 1 of a scalar.

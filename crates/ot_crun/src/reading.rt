@@ -5,7 +5,7 @@ use crate::reason::{of_tokens, of_tree};
 use ot_ccode as code;
 use ot_ccode::{Known, Why, meaning_of, translate};
 use ot_cparse::{ParseError, unit_of};
-use ot_ctoken::{Kind, Names, ReadError, Token, tokens_of};
+use ot_ctoken::{Kind, Names, ReadError, Token, Whole, tokens_of};
 use ot_ctree::{Storage, Unit};
 use std::alloc::{AllocError, Global};
 
@@ -87,14 +87,20 @@ fn known_of(alloc: Global, names: &Names) -> Result<Vec<Option<Known>>, AllocErr
     Ok(known)
 }
 
+const TOO_MANY_FILES: &str = "more than 64 files are included";
+
 /// Reads a text behind definitions of a command line.
 pub(crate) fn reading_of(
     alloc: Global,
     definitions: &[String],
-    text: &[u8],
+    whole: &Whole,
 ) -> Result<Read, AllocError> {
-    match tokens_of(alloc, definitions, text) {
-        Ok(found) => tree_of(alloc, text, found.tokens, found.names),
+    match tokens_of(alloc, definitions, whole) {
+        Ok(found) => tree_of(alloc, whole.text(), found.tokens, found.names),
+        Err(ReadError::Wants(byte, _)) => {
+            let words = String::from_str(alloc, TOO_MANY_FILES)?;
+            Ok(Read::Outside(byte, words))
+        }
         Err(ReadError::Memory) => Err(AllocError),
         Err(ReadError::Fault(fault)) => {
             let words = String::from_str(alloc, of_tokens(fault.why))?;

@@ -12,6 +12,9 @@ pub(crate) fn of_tokens(why: token::Why) -> &'static str {
         token::Why::NoToken => "this is no token of C",
         token::Why::NoNumber => "this is no number that is read",
         token::Why::Header => "a header that isn't known",
+        token::Why::NoFile =>
+            "no file of this name stands beside this one, and no header of this name is known",
+        token::Why::Includes => "files are included too deep, or too often",
         token::Why::Directive => "a directive that isn't read",
         token::Why::Error => "an `#error` stands here",
         token::Why::NoName => "a name has to stand here",

@@ -1,9 +1,10 @@
 //! What is said of a text that is executed.
 use crate::judging::{Judged, Verdict};
 use crate::naming::cell_name;
+use crate::placing::{origin_of, place_text, remark_at};
 use crate::reading::{Reading, byte_of};
-use ot_ctoken::{Kind, Mark};
-use ot_diagnosis::{Code, Diagnosis, Place, Remark, Severity, Turn, place_of};
+use ot_ctoken::{Kind, Mark, Whole};
+use ot_diagnosis::{Code, Diagnosis, Remark, Severity, Turn};
 use ot_machine::{Context, Entered, Run};
 use ot_model::{Cell, Mode};
 use ot_outline::Noted;
@@ -11,11 +12,10 @@ use ot_race::Race;
 use ot_races::More;
 use std::alloc::{AllocError, Global};
 
-/// A text with what it is read as, and one of its runs.
+/// A text with those of the files that it includes, what they are read as, and one of its runs.
 #[derive(Clone, Copy)]
 pub(crate) struct Source<'a> {
-    pub name: &'a str,
-    pub text: &'a [u8],
+    pub whole: &'a Whole,
     pub reading: &'a Reading,
     pub run: &'a Run,
 }
@@ -27,13 +27,20 @@ const CALLS: usize = 4;
 const AHEAD: usize = 64;
 
 impl Source<'_> {
-    fn place(&self, token: u32) -> Place {
-        Place::at(self.text, byte_of(&self.reading.tokens, token))
+    fn byte(&self, token: u32) -> usize {
+        byte_of(&self.reading.tokens, token)
     }
 
-    /// Where an event stands in the text.
-    pub(crate) fn place_of_event(&self, place: u32) -> Place {
-        self.place(self.row(place).0)
+    /// The byte at which an event stands.
+    pub(crate) fn byte_of_event(&self, place: u32) -> usize {
+        self.byte(self.row(place).0)
+    }
+
+    /// Where a token is written that a macro became, behind these words.
+    fn origin(&self, alloc: Global, token: u32, words: &str) -> Result<Option<Remark>, AllocError> {
+        let reading = self.reading;
+        let token = reading.tokens.get(token as usize);
+        origin_of(alloc, self.whole, &reading.names, token, words)
     }
 
     /// The token and the context of an event's place.
@@ -44,9 +51,12 @@ impl Source<'_> {
         }
     }
 
-    /// The tokens of the two touches that race.
-    pub(crate) fn pair_of(&self, race: Race) -> (u32, u32) {
-        (self.row(race.place).0, self.row(race.later).0)
+    /// The bytes of the two touches that race.
+    pub(crate) fn pair_of(&self, race: Race) -> (usize, usize) {
+        (
+            self.byte_of_event(race.place),
+            self.byte_of_event(race.later),
+        )
     }
 
     /// Whether a touch is the end of what it touches: nothing touches that behind it.
@@ -126,11 +136,9 @@ impl Source<'_> {
             let is_call = one.entered == Entered::Call && one.outer != 0;
             if is_call && calls.len() < CALLS && !sites.contains(&one.site) {
                 sites.push(one.site)?;
-                calls.push(Remark {
-                    place: Some(self.place(one.site)),
-                    turns: Vec::new(alloc),
-                    message: String::from_str(alloc, "in a function that is called here")?,
-                })?;
+                let message = String::from_str(alloc, "in a function that is called here")?;
+                let turns = Vec::new(alloc);
+                calls.push(remark_at(alloc, self.whole, self.byte(one.site), turns, message)?)?;
             }
         }
         Ok(calls)
@@ -210,6 +218,12 @@ pub(crate) fn race_found(
     let message = race_words(alloc, source, race, there, &turns)?;
     let mut notes = Vec::new(alloc);
     notes.push(other_touch(alloc, source, there, other_around, known)?)?;
+    if let Some(written) = source.origin(alloc, here, "")? {
+        notes.push(written)?;
+    }
+    if let Some(written) = source.origin(alloc, there, "the other touch is ")? {
+        notes.push(written)?;
+    }
     for call in source.calls(alloc, around)? {
         notes.push(call)?;
     }
@@ -220,11 +234,7 @@ pub(crate) fn race_found(
         } else {
             Code::Race
         },
-        told: Remark {
-            place: Some(source.place(here)),
-            turns,
-            message,
-        },
+        told: remark_at(alloc, source.whole, source.byte(here), turns, message)?,
         notes,
     })
 }
@@ -236,9 +246,9 @@ fn race_words(
     there: u32,
     turns: &[Turn],
 ) -> Result<String, AllocError> {
-    let cell = cell_name(alloc, source.reading, source.text, source.run, race.cell)?;
+    let cell = cell_name(alloc, source.reading, source.whole, source.run, race.cell)?;
     let cell = cell.as_str();
-    let at = place_of(alloc, source.name, Some(source.place(there)))?;
+    let at = place_text(alloc, source.whole, source.byte(there))?;
     let at = at.as_str();
     let one = source.happens(race.later, race.cell);
     let two = done(&source.run.log, race.place, race.cell).text();
@@ -257,11 +267,8 @@ fn other_touch(
     let turns = source.turns(alloc, around)?;
     let text = turns_text(alloc, &turns)?;
     let text = text.as_str();
-    Ok(Remark {
-        place: Some(source.place(there)),
-        message: format!(in alloc; "the other touch{text}; {known}")?,
-        turns,
-    })
+    let message = format!(in alloc; "the other touch{text}; {known}")?;
+    remark_at(alloc, source.whole, source.byte(there), turns, message)
 }
 
 /// How many races there are that aren't told.
@@ -282,6 +289,7 @@ pub(crate) fn of_file(alloc: Global, code: Code, message: String) -> Diagnosis {
         code,
         told: Remark {
             place: None,
+            file: None,
             turns: Vec::new(alloc),
             message,
         },
@@ -290,28 +298,29 @@ pub(crate) fn of_file(alloc: Global, code: Code, message: String) -> Diagnosis {
 }
 
 /// That a text isn't judged, at a byte.
-pub(crate) fn outside(alloc: Global, text: &[u8], byte: usize, message: String) -> Diagnosis {
-    wrong(alloc, Code::Outside, text, byte, message)
+pub(crate) fn outside(
+    alloc: Global,
+    whole: &Whole,
+    byte: usize,
+    message: String,
+) -> Result<Diagnosis, AllocError> {
+    wrong(alloc, Code::Outside, whole, byte, message)
 }
 
 /// What is wrong at a byte.
 pub(crate) fn wrong(
     alloc: Global,
     code: Code,
-    text: &[u8],
+    whole: &Whole,
     byte: usize,
     message: String,
-) -> Diagnosis {
-    Diagnosis {
+) -> Result<Diagnosis, AllocError> {
+    Ok(Diagnosis {
         severity: Severity::Error,
         code,
-        told: Remark {
-            place: Some(Place::at(text, byte)),
-            turns: Vec::new(alloc),
-            message,
-        },
+        told: remark_at(alloc, whole, byte, Vec::new(alloc), message)?,
         notes: Vec::new(alloc),
-    }
+    })
 }
 
 const FIRST_LETTERS: &str =
@@ -349,6 +358,7 @@ fn put_note(alloc: Global, found: &mut Vec<Diagnosis>, message: String) -> Resul
     match found.last_mut() {
         Some(last) => last.notes.push(Remark {
             place: None,
+            file: None,
             turns: Vec::new(alloc),
             message,
         })?,

@@ -79,6 +79,14 @@ fn name_of(raw: Option<&Raw>) -> Option<u32> {
     }
 }
 
+/// Where a token stands.
+fn at_of(raw: Option<&Raw>) -> usize {
+    match raw {
+        Some(raw) => raw.at,
+        None => 0,
+    }
+}
+
 /// The name that a directive wants here.
 fn wanted(raw: Option<&Raw>, at: usize) -> Result<u32, ReadError> {
     match name_of(raw) {
@@ -99,10 +107,11 @@ fn is_on(open: &[Open]) -> bool {
     open.iter().all(|one| one.is_on)
 }
 
-impl Reader {
-    /// Reads a text: its tokens go behind the others.
-    pub(crate) fn read(&mut self, text: &[u8]) -> Result<(), ReadError> {
-        let raws = self.raws(text)?;
+impl Reader<'_> {
+    /// Reads a text that has so many bytes before it: its tokens go behind the others. What it includes nests so deep at most.
+    #[cycle(read)]
+    pub(crate) fn read(&mut self, text: &[u8], from: usize, depth: u32) -> Result<(), ReadError> {
+        let raws = self.raws(text, from)?;
         let mut open = Vec::new(self.alloc);
         let mut pending = Vec::new(self.alloc);
         for number in 0..raws.len() {
@@ -112,7 +121,10 @@ impl Reader {
             let rest = &raws[number..];
             let line = &rest[..line_len(rest).min(rest.len())];
             if is_mark(line.first(), Mark::Hash) {
-                self.directive(line, &mut open, &mut pending)?;
+                if let Some(part) = self.directive(line, &mut open, &mut pending)? {
+                    let at = at_of(line.get(1));
+                    self.read_part(part, at, depth)?;
+                }
             } else if is_on(&open) {
                 pending.extend_from_slice(line)?;
             }
@@ -122,6 +134,26 @@ impl Reader {
             Some(one) => Err(ReadError::new(one.at, Why::Condition)),
             None => Ok(()),
         }
+    }
+
+    /// Reads a file that is included here, unless it is read once and was.
+    #[cycle(read)]
+    fn read_part(&mut self, part: usize, at: usize, depth: u32) -> Result<(), ReadError> {
+        if self.once.contains(&part) {
+            return Ok(());
+        }
+        let whole = self.whole;
+        let text = whole.text_of(part);
+        let cost = text.len().saturating_add(1);
+        if depth == 0 || cost > self.bytes_left {
+            return Err(ReadError::new(at, Why::Includes));
+        }
+        self.bytes_left -= cost;
+        let outer = self.part;
+        self.part = Some(part);
+        self.read(text, whole.from_of(part), depth - 1)?;
+        self.part = outer;
+        Ok(())
     }
 
     /// Puts the tokens that wait behind the others, without macros.
@@ -150,7 +182,7 @@ impl Reader {
             return Err(ReadError::new(raw.at, Why::Directive));
         };
         let bytes = unquoted(self.alloc, spelling(text, &self.names, &self.spelled))?;
-        let mut line = self.raws(&bytes)?;
+        let mut line = self.raws(&bytes, 0)?;
         for one in line.iter_mut() {
             one.at = raw.at;
             one.origin = raw.origin;
@@ -169,30 +201,47 @@ impl Reader {
                 }
                 self.put_kind(Kind::PragmaEnd, raw)
             }
+            [first, ..] if name_of(Some(first)) == Some(word::ONCE) => self.reads_once(),
             _ => Ok(()),
         }
     }
 
-    /// A line that begins with `#`.
+    /// `#pragma once`: the file that is read isn't read again.
+    fn reads_once(&mut self) -> Result<(), ReadError> {
+        if let Some(part) = self.part {
+            if !self.once.contains(&part) {
+                self.once.push(part)?;
+            }
+        }
+        Ok(())
+    }
+
+    /// A line that begins with `#`, and the file that is to be read behind it.
     fn directive(
         &mut self,
         line: &[Raw],
         open: &mut Vec<Open>,
         pending: &mut Vec<Raw>,
-    ) -> Result<(), ReadError> {
+    ) -> Result<Option<usize>, ReadError> {
         let [hash, first, rest @ ..] = line else {
-            return Ok(());
+            return Ok(None);
         };
         let at = hash.at;
         match name_of(Some(first)) {
             Some(word::IF | word::IFDEF | word::IFNDEF | word::ELIF | word::ELSE | word::ENDIF) => {
                 self.flush(pending)?;
-                self.conditional(first, at, rest, open)
+                self.conditional(first, at, rest, open)?;
+                Ok(None)
             }
-            _ if !is_on(open) => Ok(()),
+            _ if !is_on(open) => Ok(None),
+            Some(word::INCLUDE) => {
+                self.flush(pending)?;
+                self.include(first.at, rest)
+            }
             Some(name) => {
                 self.flush(pending)?;
-                self.plain(name, first.at, hash, rest)
+                self.plain(name, first.at, hash, rest)?;
+                Ok(None)
             }
             None => Err(ReadError::new(first.at, Why::Directive)),
         }
@@ -205,7 +254,6 @@ impl Reader {
                 let _ = self.macros.remove(&wanted(rest.first(), at)?);
                 Ok(())
             }
-            word::INCLUDE => self.include(at, rest),
             word::PRAGMA => self.pragma(hash, rest),
             word::ERROR => Err(ReadError::new(at, Why::Error)),
             word::LINE | word::WARNING | word::IDENT => Ok(()),
@@ -213,17 +261,44 @@ impl Reader {
         }
     }
 
-    /// `#include`
-    fn include(&mut self, at: usize, rest: &[Raw]) -> Result<(), ReadError> {
+    /// `#include`: the file that is to be read, where it is no header that is known.
+    fn include(&mut self, at: usize, rest: &[Raw]) -> Result<Option<usize>, ReadError> {
+        let made = match name_of(rest.first()) {
+            Some(_) => self.expand(rest, MAX_DEPTH)?,
+            None => rest.to_vec(self.alloc)?,
+        };
+        let is_quoted = matches!(made.first(), Some(raw) if raw.kind == RawKind::Text);
+        let count = if is_quoted { 1 } else { made.len() };
         let mut header = Vec::new(self.alloc);
-        for raw in rest {
+        for raw in made.iter().take(count) {
             header.extend_from_slice(spelling(raw, &self.names, &self.spelled))?;
         }
         let name = part(&header, 1, header.len().saturating_sub(2));
+        if is_quoted {
+            if let Some(found) = self.beside(at, name)? {
+                return Ok(Some(found));
+            }
+        }
         if is_among(&HEADERS, name) {
-            Ok(())
-        } else {
-            Err(ReadError::new(at, Why::Header))
+            return Ok(None);
+        }
+        let why = if is_quoted { Why::NoFile } else { Why::Header };
+        Err(ReadError::new(at, why))
+    }
+
+    /// The file of this name beside the one that is read, if there is one.
+    fn beside(&self, at: usize, name: &[u8]) -> Result<Option<usize>, ReadError> {
+        let Some(reading) = self.part else {
+            return Ok(None);
+        };
+        let Ok(name) = str::from_utf8(name) else {
+            return Ok(None);
+        };
+        let path = self.whole.path_beside(self.alloc, reading, name)?;
+        match self.whole.number_of(path.as_str()) {
+            Some(found) if self.whole.has(found) => Ok(Some(found)),
+            Some(_) => Ok(None),
+            None => Err(ReadError::Wants(at, path)),
         }
     }
 
@@ -232,12 +307,13 @@ impl Reader {
         let name = wanted(rest.first(), at)?;
         let it = match rest {
             [_, second, behind @ ..] if is_mark(Some(second), Mark::Open) && !second.is_apart => {
-                with_parameters(self.alloc, at, behind)?
+                with_parameters(self.alloc, at, behind, self.part.is_some())?
             }
             [_, body @ ..] => Macro {
                 parameters: None,
                 takes_rest: false,
                 body: body.to_vec(self.alloc)?,
+                is_of_text: self.part.is_some(),
             },
             [] => return Ok(()),
         };
@@ -339,7 +415,12 @@ impl Reader {
 }
 
 /// A macro with parameters, from behind its bracket.
-fn with_parameters(alloc: Global, at: usize, rest: &[Raw]) -> Result<Macro, ReadError> {
+fn with_parameters(
+    alloc: Global,
+    at: usize,
+    rest: &[Raw],
+    is_of_text: bool,
+) -> Result<Macro, ReadError> {
     let mut parameters = Vec::new(alloc);
     let mut takes_rest = false;
     for (number, raw) in rest.iter().enumerate() {
@@ -356,6 +437,7 @@ fn with_parameters(alloc: Global, at: usize, rest: &[Raw]) -> Result<Macro, Read
                     parameters: Some(parameters),
                     takes_rest,
                     body,
+                    is_of_text,
                 });
             }
             _ => return Err(ReadError::new(raw.at, Why::NoName)),

@@ -5,6 +5,7 @@ use crate::macros::Macro;
 use crate::mark::Mark;
 use crate::raw::{Raw, RawKind};
 use crate::reader::Reader;
+use crate::token::Origin;
 
 /// How deep macros stand in arguments of macros.
 pub(crate) const MAX_DEPTH: u32 = 60;
@@ -15,6 +16,15 @@ const MOST: u32 = 4_000_000;
 /// The place of a name among parameters.
 fn place_of(name: u32, parameters: &[u32]) -> Option<usize> {
     parameters.iter().position(|other| *other == name)
+}
+
+/// From where what a macro became comes, where that is told.
+fn origin_of(is_of_text: bool, name: u32, at: usize) -> Option<Origin> {
+    if is_of_text {
+        Some(Origin { name, at })
+    } else {
+        None
+    }
 }
 
 fn is_mark(raw: Option<&Raw>, mark: Mark) -> bool {
@@ -35,7 +45,7 @@ fn parameter(raw: Option<&Raw>, parameters: &[u32]) -> Option<usize> {
     }
 }
 
-impl Reader {
+impl Reader<'_> {
     /// The tokens in which no macro is left.
     #[cycle(expand)]
     pub(crate) fn expand(&mut self, raws: &[Raw], depth: u32) -> Result<Vec<Raw>, ReadError> {
@@ -97,7 +107,7 @@ impl Reader {
             }
         };
         let made = self.pasted(made)?;
-        self.put_back(raw, name, &made, todo)
+        self.put_back(raw, name, it.is_of_text, &made, todo)
     }
 
     /// Puts tokens that a macro became before those that are left.
@@ -105,6 +115,7 @@ impl Reader {
         &mut self,
         raw: &Raw,
         name: u32,
+        is_of_text: bool,
         made: &[Raw],
         todo: &mut Vec<Raw>,
     ) -> Result<(), ReadError> {
@@ -123,7 +134,7 @@ impl Reader {
                 at: raw.at,
                 hidden,
                 is_first: false,
-                origin: raw.origin.or(Some(name)),
+                origin: raw.origin.or(origin_of(is_of_text, name, one.at)),
                 ..*one
             })?;
         }

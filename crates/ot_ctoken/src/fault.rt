@@ -16,6 +16,10 @@ pub enum Why {
     NoNumber,
     /// A header that isn't known.
     Header,
+    /// A file that isn't there, and no header that is known.
+    NoFile,
+    /// Files that are included too deep, or too often.
+    Includes,
     /// A directive that isn't read.
     Directive,
     /// `#error`
@@ -43,6 +47,8 @@ pub struct Fault {
 pub enum ReadError {
     Memory,
     Fault(Fault),
+    /// A file is included at this byte that isn't given: one of this path.
+    Wants(usize, String),
 }
 
 impl ReadError {

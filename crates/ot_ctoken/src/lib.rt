@@ -17,10 +17,12 @@ mod reader;
 mod spelling;
 mod token;
 mod value;
+mod whole;
 pub mod word;
 
 pub use fault::{Fault, ReadError, Why};
 pub use mark::Mark;
 pub use names::Names;
-pub use reader::{Tokens, tokens_of};
-pub use token::{Kind, Token};
+pub use reader::{Tokens, tokens_of, wanted_by};
+pub use token::{Kind, Origin, Token};
+pub use whole::{Part, Whole};

@@ -10,6 +10,8 @@ pub(crate) struct Macro {
     /// Whether the last parameter stands for all arguments that are left.
     pub takes_rest: bool,
     pub body: Vec<Raw>,
+    /// Whether the text defines it, or a file that it includes.
+    pub is_of_text: bool,
 }
 
 impl Macro {
@@ -22,6 +24,7 @@ impl Macro {
             parameters,
             takes_rest: self.takes_rest,
             body: self.body.as_slice().to_vec(alloc)?,
+            is_of_text: self.is_of_text,
         })
     }
 }

@@ -13,7 +13,7 @@ fn is_paste(raw: Option<&Raw>) -> bool {
     }
 }
 
-impl Reader {
+impl Reader<'_> {
     /// The tokens, where those around each `##` are one (ISO C11, section 6.10.3.3). A comma before nothing goes.
     pub(crate) fn pasted(&mut self, raws: Vec<Raw>) -> Result<Vec<Raw>, ReadError> {
         if !raws

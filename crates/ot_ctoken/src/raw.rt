@@ -4,6 +4,7 @@ use crate::letter::Letter;
 use crate::mark::{Mark, mark_of};
 use crate::names::Names;
 use crate::spelling::part;
+use crate::token::Origin;
 use std::alloc::{AllocError, Global};
 
 #[derive(Clone, Copy, Debug, PartialEq, Eq)]
@@ -32,8 +33,8 @@ pub(crate) struct Raw {
     pub is_first: bool,
     /// The macros that aren't taken in its place: a number among the sets of them, or 0.
     pub hidden: usize,
-    /// The macro from which it comes.
-    pub origin: Option<u32>,
+    /// From where it comes, where a macro became it.
+    pub origin: Option<Origin>,
 }
 
 pub(crate) fn is_name_start(byte: u8) -> bool {

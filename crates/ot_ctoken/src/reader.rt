@@ -7,6 +7,7 @@ use crate::number::{letter_of, number_of};
 use crate::raw::{Raw, RawKind, raws_of};
 use crate::spelling::{spelling, text_len};
 use crate::token::{Kind, Token};
+use crate::whole::Whole;
 use std::alloc::{AllocError, Global};
 use std::collections::BTreeMap;
 
@@ -21,10 +22,23 @@ pub struct Tokens {
 /// How many tokens macros may become.
 const MOST_TOKENS: u32 = 2_000_000;
 
+/// How many bytes the files have that are included, each as often as it is.
+const MOST_BYTES: usize = 50_000_000;
+
+/// How deep files are included.
+const DEPTH: u32 = 200;
+
 /// What is preprocessed, as far as it has come.
 #[derive(Drop)]
-pub(crate) struct Reader {
+pub(crate) struct Reader<'a> {
     pub alloc: Global,
+    pub whole: &'a Whole,
+    /// The number of the file that is read; none where definitions are.
+    pub part: Option<usize>,
+    /// The files that are read once.
+    pub once: Vec<usize>,
+    /// How many bytes more may be included.
+    pub bytes_left: usize,
     pub names: Names,
     /// The bytes of tokens that aren't names.
     pub spelled: Vec<u8>,
@@ -35,10 +49,14 @@ pub(crate) struct Reader {
     pub tokens: Vec<Token>,
 }
 
-impl Reader {
-    fn new(alloc: Global) -> Result<Reader, AllocError> {
+impl<'a> Reader<'a> {
+    fn new(alloc: Global, whole: &'a Whole) -> Result<Reader<'a>, AllocError> {
         Ok(Reader {
             alloc,
+            whole,
+            part: None,
+            once: Vec::new(alloc),
+            bytes_left: MOST_BYTES,
             names: Names::new(alloc)?,
             spelled: Vec::new(alloc),
             macros: BTreeMap::new(alloc),
@@ -48,10 +66,20 @@ impl Reader {
         })
     }
 
-    /// The tokens of a text, before they are preprocessed.
-    pub(crate) fn raws(&mut self, text: &[u8]) -> Result<Vec<Raw>, ReadError> {
-        let letters = letters_of(self.alloc, text)?;
-        raws_of(self.alloc, &letters, &mut self.names, &mut self.spelled)
+    /// The tokens of a text, before they are preprocessed, where so many bytes stand before it.
+    pub(crate) fn raws(&mut self, text: &[u8], from: usize) -> Result<Vec<Raw>, ReadError> {
+        let letters = match letters_of(self.alloc, text) {
+            Ok(letters) => letters,
+            Err(ReadError::Fault(fault)) => {
+                return Err(ReadError::new(from.saturating_add(fault.at), fault.why));
+            }
+            Err(error) => return Err(error),
+        };
+        let mut raws = raws_of(self.alloc, &letters, &mut self.names, &mut self.spelled)?;
+        for raw in raws.iter_mut() {
+            raw.at = from.saturating_add(raw.at);
+        }
+        Ok(raws)
     }
 
     /// Puts a token behind the others.
@@ -71,6 +99,24 @@ impl Reader {
         }
     }
 
+    /// The tokens that were read.
+    fn told(self) -> Tokens {
+        let Reader {
+            alloc: _,
+            whole: _,
+            part: _,
+            once: _,
+            bytes_left: _,
+            names,
+            spelled: _,
+            macros: _,
+            hidden: _,
+            left: _,
+            tokens,
+        } = self;
+        Tokens { tokens, names }
+    }
+
     /// Puts one of this kind behind the others, where this stands.
     pub(crate) fn put_kind(&mut self, kind: Kind, raw: &Raw) -> Result<(), ReadError> {
         self.tokens.push(Token {
@@ -82,34 +128,45 @@ impl Reader {
     }
 }
 
-/// The tokens of a text behind these definitions, each `NAME=VALUE` or `NAME`, as a command line has them; or its first fault.
-pub fn tokens_of(alloc: Global, definitions: &[String], text: &[u8]) -> Result<Tokens, ReadError> {
-    let mut reader = Reader::new(alloc)?;
-    reader.read(PREDEFINED.as_bytes())?;
+/// The tokens of a text, and of what it includes, behind these definitions, each `NAME=VALUE` or `NAME`, as a command line has them;
+/// or its first fault.
+pub fn tokens_of(
+    alloc: Global,
+    definitions: &[String],
+    whole: &Whole,
+) -> Result<Tokens, ReadError> {
+    let mut reader = Reader::new(alloc, whole)?;
+    reader.read(PREDEFINED.as_bytes(), 0, 0)?;
     for definition in definitions {
         let line = line_of(alloc, definition.as_str())?;
-        match reader.read(&line) {
+        match reader.read(&line, 0, 0) {
             Err(ReadError::Fault(fault)) => return Err(ReadError::Fault(Fault { at: 0, ..fault })),
             read => read?,
         }
     }
     reader.tokens.clear();
-    reader.read(text)?;
+    reader.part = Some(0);
+    let text = whole.first_text();
+    reader.read(text, 0, DEPTH)?;
     reader.tokens.push(Token {
         kind: Kind::End,
         at: text.len(),
         origin: None,
     })?;
-    let Reader {
-        alloc: _,
-        names,
-        spelled: _,
-        macros: _,
-        hidden: _,
-        left: _,
-        tokens,
-    } = reader;
-    Ok(Tokens { tokens, names })
+    Ok(reader.told())
+}
+
+/// The path of the first file that a text includes behind these definitions and that wasn't given yet.
+pub fn wanted_by(
+    alloc: Global,
+    definitions: &[String],
+    whole: &Whole,
+) -> Result<Option<String>, AllocError> {
+    match tokens_of(alloc, definitions, whole) {
+        Err(ReadError::Wants(_, path)) => Ok(Some(path)),
+        Err(ReadError::Memory) => Err(AllocError),
+        _ => Ok(None),
+    }
 }
 
 /// The line that a definition of a command line stands for.

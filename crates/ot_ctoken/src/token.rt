@@ -22,12 +22,21 @@ pub enum Kind {
     End,
 }
 
+/// From where a token comes that a macro became.
+#[derive(Clone, Copy, Debug, PartialEq, Eq)]
+pub struct Origin {
+    /// The macro that the text names: its number among the names.
+    pub name: u32,
+    /// The first byte of what it became, from 0: in its definition, or among its arguments.
+    pub at: usize,
+}
+
 /// A token, and where it stands in the text: one that comes from a macro where the macro is used.
 #[derive(Clone, Copy, Debug, PartialEq, Eq)]
 pub struct Token {
     pub kind: Kind,
     /// Its first byte, from 0.
     pub at: usize,
-    /// The macro from which it comes, if it does: its number among the names.
-    pub origin: Option<u32>,
+    /// From where it comes, where a macro became it that is defined in the text.
+    pub origin: Option<Origin>,
 }
