@@ -18,6 +18,8 @@ pub(crate) struct Joined {
     pub(crate) fold: Fold,
     pub(crate) slot: u32,
     pub(crate) cells: u32,
+    /// The variable that leads there, where the task has cells of its own.
+    pub(crate) copied: Option<u32>,
 }
 
 pub(crate) fn fold_of(reducing: Reducing) -> Fold {
@@ -337,26 +339,31 @@ impl<'a> Maker<'a> {
     }
 
     /// By what a task takes part in reductions: it takes their places along.
-    pub(crate) fn joins(&mut self, clauses: &[Clause], base: usize) -> Result<(), Fault> {
+    pub(crate) fn joins(&mut self, at: u32, clauses: &[Clause], base: usize) -> Result<(), Fault> {
         for clause in clauses {
             let reducing = match clause.role {
                 Role::InReduction(reducing) | Role::Reduction(reducing) => Some(reducing),
                 _ => None,
             };
             if let Some(reducing) = reducing {
-                self.joins_by(clause.at, fold_of(reducing), clause.items.as_slice(), base)?;
+                self.joins_by(at, clause, fold_of(reducing), base)?;
             }
         }
         Ok(())
     }
 
-    fn joins_by(&mut self, at: u32, fold: Fold, items: &[Expr], base: usize) -> Result<(), Fault> {
-        for item in items {
+    fn joins_by(&mut self, at: u32, clause: &Clause, fold: Fold, base: usize) -> Result<(), Fault> {
+        for item in clause.items.iter() {
             let aim = self.item_place(64, item)?;
             stands_apart(aim.site, aim.within)?;
-            let cells = self.item_cells(at, item, aim)?;
+            let cells = self.item_cells(clause.at, item, aim)?;
             let slot = self.passes(aim.slot, base)?;
-            self.joined.push(Joined { fold, slot, cells })?;
+            self.joined.push(Joined {
+                fold,
+                slot,
+                cells,
+                copied: self.copied_item(at, item),
+            })?;
         }
         Ok(())
     }

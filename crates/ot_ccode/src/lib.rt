@@ -15,6 +15,7 @@ mod names;
 mod operate;
 mod orphan;
 mod own;
+mod reduced;
 mod size;
 mod statement;
 mod task;

@@ -6,6 +6,7 @@ use crate::fault::{Fault, Why};
 use crate::label::Labels;
 use crate::names::Known;
 use crate::own::Owned;
+use crate::reduced::Copied;
 use crate::task::Size;
 use crate::team::{Kept, Team, Whose};
 use crate::turns::Nested;
@@ -188,6 +189,9 @@ pub(crate) struct Maker<'a> {
     pub(crate) sizes_taken: Vec<Size>,
     /// Items of the reductions of a region that begins.
     pub(crate) folded: Vec<Folded>,
+    /// Cells of its own that a task has in the place of items of reductions: where those of what runs begin.
+    pub(crate) copied: Vec<Copied>,
+    pub(crate) first_copied: usize,
     /// Places of `lastprivate` variables.
     pub(crate) lasts: Vec<Was>,
     /// Loops whose turns are divided among tasks.

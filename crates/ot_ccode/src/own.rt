@@ -4,6 +4,7 @@ ghost use Rattle.std.specs.Prelude.{◌<◌, IfOk};
 use crate::fault::Fault;
 use crate::maker::below;
 use crate::names::Known;
+use crate::reduced::{ITEM_DEPTH, variable_of};
 use crate::value::DEEPEST;
 use ot_clayout::{Class, Layouts, sort_of, type_of};
 use ot_csharing::{Capture, How, Sharing};
@@ -11,15 +12,23 @@ use ot_ctree::{
     Binary, Clause, Directive, Entry, Expr, Function, Initial, Sign, Stmt, Storage, Unit,
 };
 use std::alloc::Global;
+use std::collections::BTreeSet;
 
 /// What is found of each variable.
 #[derive(Drop)]
 pub(crate) struct Owned {
     memory: Vec<bool>,
     lent: Vec<bool>,
+    /// By a construct's token: the items of its reductions to which more leads than the construct's own text.
+    passed_on: BTreeSet<(u32, u32)>,
 }
 
 impl Owned {
+    /// Whether something else may lead to what the construct at this token reduces by a variable than that: a function that it is given to, or a pointer.
+    pub(crate) fn is_passed_on(&self, at: u32, variable: u32) -> bool {
+        self.passed_on.contains(&(at, variable))
+    }
+
     /// Whether it has nothing but what is allocated for it, and nothing else leads there.
     pub(crate) fn has_memory(&self, variable: u32) -> bool {
         self.memory.get(variable as usize).copied().unwrap_or(false)
@@ -45,6 +54,20 @@ struct Search<'a> {
     /// Whether it may lead elsewhere, or others may lead where it does.
     given: Vec<bool>,
     lent: Vec<bool>,
+    /// By variable: how many times clauses name it, of those in `named`; and the construct around by which it is reduced.
+    in_clauses: Vec<u32>,
+    reducing: Vec<Option<u32>>,
+    /// How variables were reduced around a construct, and how often more than harmlessly they were named before its text.
+    around: Vec<Reduced>,
+    passed_on: BTreeSet<(u32, u32)>,
+}
+
+/// How a variable was reduced around a construct.
+#[derive(Clone, Copy)]
+struct Reduced {
+    variable: u32,
+    by: Option<u32>,
+    count: u32,
 }
 
 /// What is found in a unit.
@@ -65,6 +88,10 @@ pub(crate) fn owned_of(
         harmless: vec![in alloc; 0u32; count]?,
         given: vec![in alloc; false; count]?,
         lent: vec![in alloc; false; count]?,
+        in_clauses: vec![in alloc; 0u32; count]?,
+        reducing: vec![in alloc; None; count]?,
+        around: Vec::new(alloc),
+        passed_on: BTreeSet::new(alloc),
     };
     for function in unit.functions.iter() {
         search.function(function)?;
@@ -140,6 +167,7 @@ impl<'a> Search<'a> {
         Ok(Owned {
             memory,
             lent: self.lent,
+            passed_on: self.passed_on,
         })
     }
 
@@ -243,13 +271,16 @@ impl<'a> Search<'a> {
     }
 
     /// What an address leads to is reached by others.
-    fn gives(&mut self, place: &Expr) {
+    fn gives(&mut self, place: &Expr) -> Result<(), Fault> {
         if let Some(variable) = variable_in(place) {
             set(&mut self.given, variable);
+            self.passes_on(variable)?;
         }
         if let Some(variable) = self.leads_to(DEEPEST, place) {
             set(&mut self.given, variable);
+            self.passes_on(variable)?;
         }
+        Ok(())
     }
 
     /// A variable gets a value.
@@ -311,7 +342,7 @@ impl<'a> Search<'a> {
             }
             Expr::Unary(_, sign, one) => {
                 match sign {
-                    Sign::Address => self.gives(one),
+                    Sign::Address => self.gives(one)?,
                     Sign::Not => self.is_harmless(one),
                     Sign::Follow => self.touches(expr),
                     _ => {}
@@ -434,10 +465,13 @@ impl<'a> Search<'a> {
                 let sharing = self.sharing;
                 self.takes(directives.as_slice(), sharing.captures(*at));
                 self.clauses(clauses.as_slice())?;
-                match body {
-                    Some(body) => self.statement(depth, body),
-                    None => Ok(()),
+                if let Some(body) = body {
+                    let first = self.around.len();
+                    self.begins_reducing(*at, sharing.captures(*at))?;
+                    self.statement(depth, body)?;
+                    self.ends_reducing(*at, first)?;
                 }
+                Ok(())
             }
             _ => Ok(()),
         }
@@ -465,8 +499,100 @@ impl<'a> Search<'a> {
         for clause in clauses {
             for item in clause.items.iter() {
                 if !matches!(item, Expr::Variable(_, _)) {
-                    self.expression(DEEPEST, item)?;
+                    self.item(item)?;
                 }
+            }
+        }
+        Ok(())
+    }
+
+    /// An item of a clause, whose variable is named there and no more.
+    fn item(&mut self, item: &Expr) -> Result<(), Fault> {
+        let Some(variable) = variable_of(ITEM_DEPTH, item) else {
+            return self.expression(DEEPEST, item);
+        };
+        let before = self.count_of(variable);
+        self.expression(DEEPEST, item)?;
+        let more = self.count_of(variable).wrapping_sub(before);
+        if let Some(count) = self.in_clauses.get_mut(variable as usize) {
+            *count = count.wrapping_add(more);
+        }
+        Ok(())
+    }
+}
+
+/// Reductions.
+impl<'a> Search<'a> {
+    /// How often an array or a pointer is named so far where its value may go on to another place: more often behind a text, where it does there.
+    fn count_of(&self, variable: u32) -> u32 {
+        let at = variable as usize;
+        let named = self.named.get(at).copied().unwrap_or(0);
+        let harmless = self.harmless.get(at).copied().unwrap_or(0);
+        let in_clauses = self.in_clauses.get(at).copied().unwrap_or(0);
+        named.wrapping_sub(harmless).wrapping_sub(in_clauses)
+    }
+
+    /// Whether a variable's name is where it lies, or leads there.
+    fn is_place(&self, variable: u32) -> bool {
+        match self.unit.variables.get(variable as usize) {
+            Some(variable) => matches!(
+                sort_of(self.unit, variable).class(self.unit),
+                Class::Pointer | Class::Array(_)
+            ),
+            None => false,
+        }
+    }
+
+    /// The address of what a variable is, or leads to, goes on.
+    fn passes_on(&mut self, variable: u32) -> Result<(), Fault> {
+        if let Some(Some(at)) = self.reducing.get(variable as usize).copied() {
+            self.passed_on.insert((at, variable))?;
+        }
+        Ok(())
+    }
+
+    /// The text of a construct begins, with what it has from outside.
+    fn begins_reducing(&mut self, at: u32, captures: &[Capture]) -> Result<(), Fault> {
+        for capture in captures {
+            let variable = capture.variable;
+            let by = match capture.how {
+                How::Reduced => Some(at),
+                How::Shared | How::Own => continue,
+                _ => None,
+            };
+            self.around.push(Reduced {
+                variable,
+                by: self
+                    .reducing
+                    .get(variable as usize)
+                    .copied()
+                    .unwrap_or(None),
+                count: self.count_of(variable),
+            })?;
+            if let Some(place) = self.reducing.get_mut(variable as usize) {
+                *place = by;
+            }
+        }
+        Ok(())
+    }
+
+    /// It ends.
+    fn ends_reducing(&mut self, at: u32, first: usize) -> Result<(), Fault> {
+        for _one in first..self.around.len() {
+            let Some(one) = self.around.pop() else {
+                return Ok(());
+            };
+            let variable = one.variable;
+            let by = self
+                .reducing
+                .get(variable as usize)
+                .copied()
+                .unwrap_or(None);
+            if by == Some(at) && self.is_place(variable) && self.count_of(variable) != one.count {
+                self.passed_on.insert((at, variable))?;
+            }
+            if let Some(place) = self.reducing.get_mut(variable as usize) {
+                *place = one.by;
             }
         }
         Ok(())

@@ -33,6 +33,7 @@ pub(crate) struct Opened {
     team: Team,
     whose: Whose,
     text: u32,
+    copied: usize,
 }
 
 impl Opened {
@@ -76,6 +77,7 @@ impl<'a> Maker<'a> {
         let bases = self.bases();
         self.stamp = self.stamp.wrapping_add(1);
         let sharing = self.sharing;
+        let held = self.holds_items(clauses, sharing.captures(at))?;
         for capture in sharing.captures(at) {
             if self.is_new(capture.variable) {
                 self.take(at, *capture, bases.passed)?;
@@ -83,7 +85,8 @@ impl<'a> Maker<'a> {
                 self.takes_sizes(sort, bases.passed)?;
             }
         }
-        self.joins(clauses, bases.passed)?;
+        self.joins(at, clauses, bases.passed)?;
+        self.restore(held);
         Ok(bases)
     }
 
@@ -303,7 +306,9 @@ impl<'a> Maker<'a> {
             team: self.team,
             whose: self.whose,
             text: self.labels.begins(),
+            copied: self.first_copied,
         };
+        self.first_copied = self.copied.len();
         self.frame = Frame {
             next: count,
             most: count,
@@ -331,6 +336,9 @@ impl<'a> Maker<'a> {
         for place in bases.joined..self.joined.len() {
             if let Some(joined) = self.joined.get(place).copied() {
                 self.takes_part(at, joined)?;
+                if let Some(variable) = joined.copied {
+                    self.begins_copy(at, joined, variable)?;
+                }
             }
         }
         Ok(())
@@ -401,6 +409,7 @@ impl<'a> Maker<'a> {
 
     /// The task ends, and its parent's slots are those again.
     pub(crate) fn leaves(&mut self, at: u32, opened: Opened) -> Result<(), Fault> {
+        self.adds_copies(at)?;
         self.end_since(at, self.frame.floor)?;
         if let Some(flag) = opened.flag {
             self.set_flag(at, FINAL, flag)?;
@@ -422,6 +431,8 @@ impl<'a> Maker<'a> {
         self.team = opened.team;
         self.whose = opened.whose;
         self.labels.goes_on(opened.text);
+        self.copied.truncate(self.first_copied);
+        self.first_copied = opened.copied;
         self.forgets(opened.bases);
         Ok(())
     }
@@ -503,6 +514,7 @@ impl<'a> Maker<'a> {
                         fold: folded.fold,
                         slot: folded.slot,
                         cells: folded.cells,
+                        copied: None,
                     },
                 )?;
             }

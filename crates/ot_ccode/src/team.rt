@@ -278,6 +278,7 @@ impl<'a> Maker<'a> {
 
     /// The last piece of a thread's text ends, and all others: how many slots they have.
     fn ends_pieces(&mut self, at: u32, pieces: Pieces) -> Result<u32, Fault> {
+        self.adds_copies(at)?;
         self.end_since(at, self.frame.floor)?;
         self.emit(Form::Number(pieces.state, 0))?;
         self.lands(pieces.next)?;

@@ -91,6 +91,8 @@ impl<'a> Maker<'a> {
             joined: Vec::new(alloc),
             sizes_taken: Vec::new(alloc),
             folded: Vec::new(alloc),
+            copied: Vec::new(alloc),
+            first_copied: 0,
             lasts: Vec::new(alloc),
             nested: Vec::new(alloc),
             site: 0,

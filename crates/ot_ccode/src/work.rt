@@ -130,7 +130,7 @@ impl<'a> Maker<'a> {
     fn combines(&mut self, at: u32, clauses: &[Clause]) -> Result<(), Fault> {
         let when = Some(self.may_defer(at)?);
         let bases = self.bases();
-        self.joins(clauses, bases.passed)?;
+        self.joins(at, clauses, bases.passed)?;
         let behind = Bases {
             joined: self.joined.len(),
             ..bases
