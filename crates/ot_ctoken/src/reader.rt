@@ -243,4 +243,18 @@ const PREDEFINED: &str = "\
 #define __volatile__ volatile
 #define __const const
 #define __extension__
+#define __SIZE_TYPE__ unsigned long
+#define __PTRDIFF_TYPE__ long
+#define __INTPTR_TYPE__ long
+#define __UINTPTR_TYPE__ unsigned long
+#define __INT32_TYPE__ int
+#define __UINT32_TYPE__ unsigned int
+#define __INT64_TYPE__ long
+#define __UINT64_TYPE__ unsigned long
+#define __CHAR_BIT__ 8
+#define __INT_MAX__ 2147483647
+#define __LONG_MAX__ 9223372036854775807L
+#define __x86_64__ 1
+#define __linux__ 1
+#define __unix__ 1
 ";
