@@ -555,23 +555,30 @@ impl<'a> Search<'a> {
     fn begins_reducing(&mut self, at: u32, captures: &[Capture]) -> Result<(), Fault> {
         for capture in captures {
             let variable = capture.variable;
-            let by = match capture.how {
-                How::Reduced => Some(at),
-                How::Shared | How::Own => continue,
-                _ => None,
-            };
-            self.around.push(Reduced {
-                variable,
-                by: self
-                    .reducing
-                    .get(variable as usize)
-                    .copied()
-                    .unwrap_or(None),
-                count: self.count_of(variable),
-            })?;
-            if let Some(place) = self.reducing.get_mut(variable as usize) {
-                *place = by;
+            match capture.how {
+                How::Reduced => self.reduces(variable, Some(at))?,
+                How::Shared | How::Own => {}
+                _ => self.reduces(variable, None)?,
             }
+        }
+        Ok(())
+    }
+
+    /// In the text of a construct a variable is reduced by this one, or by none.
+    fn reduces(&mut self, variable: u32, by: Option<u32>) -> Result<(), Fault> {
+        let count = self.count_of(variable);
+        let was = self
+            .reducing
+            .get(variable as usize)
+            .copied()
+            .unwrap_or(None);
+        self.around.push(Reduced {
+            variable,
+            by: was,
+            count,
+        })?;
+        if let Some(place) = self.reducing.get_mut(variable as usize) {
+            *place = by;
         }
         Ok(())
     }
