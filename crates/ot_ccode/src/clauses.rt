@@ -358,11 +358,12 @@ impl<'a> Maker<'a> {
             stands_apart(aim.site, aim.within)?;
             let cells = self.item_cells(clause.at, item, aim)?;
             let slot = self.passes(aim.slot, base)?;
+            let copied = self.copied_item(at, item);
             self.joined.push(Joined {
                 fold,
                 slot,
                 cells,
-                copied: self.copied_item(at, item),
+                copied,
             })?;
         }
         Ok(())
