@@ -89,7 +89,7 @@ impl Numbers {
                 items.push(Folded {
                     fold: Fold::Plus,
                     slot: self.at(k),
-                    cells: self.at(k.wrapping_add(1)),
+                    count: self.at(k.wrapping_add(1)),
                 })?;
             }
             k = k.wrapping_add(2);

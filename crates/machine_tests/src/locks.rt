@@ -17,7 +17,7 @@ const TOLD: &str =
 3 0 none|changes 7; begin 0 1 7; number 1 5; number 4 6; copy 2 0; copy 3 4; task 20 2 2 10 0; lock 30 1; store 21 0 1; unlock 31 1; finish; lock 32 1; lock 34 4; store 22 0 1; unlock 35 1; unlock 33 4; stop
 3 0 21 22 7.0|changes 7; begin 0 1 7; number 1 5; number 4 6; copy 2 0; copy 3 1; task 20 2 2 10 0; lock 30 1; store 21 0 1; unlock 31 1; finish; lock 32 1; lock 34 4; unlock 35 1; store 22 0 1; unlock 33 4; stop
 3 0 21 70 7.0|changes 7; begin 0 1 7; number 1 5; copy 2 0; copy 3 1; task 20 2 2 9 0; lock 30 1; store 21 0 1; unlock 31 1; finish; lock 32 1; end 70 0; unlock 33 1; stop
-3 0 21 62 7.0|changes 7; begin 0 1 7; number 1 5; copy 2 0; copy 3 1; task 20 2 2 9 0; lock 30 1; store 21 0 1; unlock 31 1; finish; lock 32 1; group 60 0 1; leave 62; unlock 33 1; stop
+3 0 21 62 7.0|changes 7; begin 0 1 7; number 1 1; copy 2 0; copy 3 1; task 20 2 2 9 0; lock 30 1; store 21 0 1; unlock 31 1; finish; lock 32 1; group 60 0 1; leave 62; unlock 33 1; stop
 3 0 none|changes 7; begin 0 1 7; begin 1 2 8; copy 2 0; copy 3 1; task 20 2 2 9 0; lock 30 1; store 21 0 1; unlock 31 1; finish; lock 32 1; store 22 0 1; unlock 33 1; stop
 3 0 21 22 7.0|changes 7; begin 0 1 7; begin 1 2 8; number 5 1; advance 4 1 5 1; copy 2 0; copy 3 1; task 20 2 2 11 0; lock 30 1; store 21 0 1; unlock 31 1; finish; lock 32 4; store 22 0 1; unlock 33 4; stop
 2 1 none|changes 7; begin 0 1 7; number 1 5; lock 30 1; store 21 0 1; load 22 2 0; unlock 31 1; branch 40 2 7; stop

@@ -20,7 +20,9 @@ const TASKS: &str = r#"0 0 none|stop
 4 0 none|begin 0 1 7; number 1 5; copy 2 0; copy 3 1; task 20 2 2 7 0 1 0; store 21 0 1; finish; waitfor 23 0 0; load 22 4 0; stop
 4 0 21 22 7.0|begin 0 1 7; begin 1 1 8; copy 2 0; copy 3 1; task 20 2 2 7 0 1 0; store 21 0 1; finish; waitfor 23 0 1; load 22 4 0; stop
 6 0 21<30:0 21<30:1 7.0|begin 0 1 7; number 1 0; number 2 3; number 3 1; context 4; within 4; less 5 1 2; repeat 30 5 16; turn 30 1; copy 6 0; copy 7 1; task 20 6 2 14 0; store 21 0 1; finish; add 1 1 3; jump 5; stop
-3 0 none|begin 0 1 7; number 1 5; group 60 0 1; copy 2 0; copy 3 1; task 20 2 2 9 0; joins 61 0; number 1 1; finish; leave 62; load 63 4 0; stop
+3 0 none|begin 0 1 7; number 1 1; group 60 0 1; copy 2 0; copy 3 1; task 20 2 2 9 0; joins 61 0; number 1 1; finish; leave 62; load 63 4 0; stop
+3 0 none|begin 0 4 7; number 1 4; group 60 0 1; number 2 3; advance 3 0 2 1; copy 4 3; copy 5 1; task 20 4 2 11 0; joins 61 0; number 1 1; finish; leave 62; load 63 6 0; stop
+NoGroup 8 0 none|begin 0 4 7; number 1 3; group 60 0 1; number 2 3; advance 3 0 2 1; copy 4 3; copy 5 1; task 20 4 2 11 0; joins 61 0; number 1 1; finish; leave 62; load 63 6 0; stop
 NoGroup 3 0 none|begin 0 1 7; copy 2 0; task 20 2 2 5 0; joins 61 0; finish; load 63 4 0; stop
 4 0 none|begin 0 1 7; number 1 5; group 60; copy 2 0; copy 3 1; task 20 2 2 8 0; store 21 0 1; finish; leave 62; load 63 4 0; stop
 4 0 21 63 7.0|begin 0 1 7; number 1 5; group 60; copy 2 0; copy 3 1; task 20 2 2 8 0; store 21 0 1; finish; load 63 4 0; leave 62; stop
@@ -29,7 +31,7 @@ NoGroup 3 0 none|begin 0 1 7; copy 2 0; task 20 2 2 5 0; joins 61 0; finish; loa
 /// In this order: null; beyond the last cell; before the first; a task's store beside the end of the object's life; a load behind that; a
 /// branch by what isn't known, of which one way has a race; one of which one way has a fault; a store at an index that isn't known; all of
 /// a range; what ends that didn't begin; a loop by what isn't known; one without end; a division by 0; objects of 8 times 4 cells, of an
-/// unknown number, and of too many; a call of what isn't known; an item that is no place; no form at all; a shift of pointers; null
+/// unknown number, items of an unknown number, objects of too many cells; a call of what isn't known; an item that is no place; no form at all; a shift of pointers; null
 /// beside a place; two ways with a race on the second.
 const FAULTS: &str = r#"Null 1 0 none|number 0 0; load 1 2 0; stop
 Outside 3 0 none|begin 0 4 7; number 1 4; advance 2 0 1 1; load 11 3 2; stop
@@ -48,6 +50,7 @@ TooManySteps 0 0 none|jump 0
 DivideByZero 2 0 none|number 0 1; number 1 0; divide 2 0 1; stop
 1 0 none|number 0 8; allocate 1 7 0 4; number 2 31; advance 3 1 2 1; store 11 3 2; stop
 UnknownLength 1 0 none|unknown 0; allocate 1 7 0 4; stop
+UnknownLength 2 0 none|begin 0 1 7; unknown 1; group 60 0 1; stop
 TooMuch 1 0 none|number 0 4000000000; allocate 1 7 0 4000000000; stop
 NoFunction 1 0 none|unknown 0; callby 40 0 1; stop
 NoPlace 1 0 none|number 0 5; waitfor 23 1 0; stop

@@ -1,6 +1,7 @@
 //! Clauses.
 use crate::fault::{Fault, Why};
 use crate::maker::{ALONE, Aim, FINAL, Held, LONG, Maker, WORD};
+use crate::section::Count;
 use crate::unions::stands_apart;
 use crate::value::DEEPEST;
 use ot_clayout::{Class, Sort};
@@ -17,7 +18,7 @@ const MOST_TURNS: u64 = 128;
 pub(crate) struct Joined {
     pub(crate) fold: Fold,
     pub(crate) slot: u32,
-    pub(crate) cells: u32,
+    pub(crate) cells: Count,
     /// The variable that leads there, where the task has cells of its own.
     pub(crate) copied: Option<u32>,
 }
@@ -125,24 +126,6 @@ impl<'a> Maker<'a> {
                 self.element(base.site, pointer, index)
             }
             other => self.aim(DEEPEST, other),
-        }
-    }
-
-    /// How many cells an item has.
-    fn item_cells(&mut self, at: u32, item: &Expr, aim: Aim) -> Result<u32, Fault> {
-        let extent = self.extent(at, aim.sort)?;
-        let Expr::Section(_, _, _, length) = item else {
-            return Ok(extent.cells);
-        };
-        let Some(length) = length else {
-            return Err(Fault::Refused(at, Why::Clause));
-        };
-        let Some(constant) = self.layouts.constant(self.unit, length) else {
-            return Err(Fault::Refused(at, Why::Clause));
-        };
-        match extent.times(constant.number) {
-            Some(all) => Ok(all.cells),
-            None => Err(Fault::Refused(at, Why::Clause)),
         }
     }
 
@@ -329,10 +312,11 @@ impl<'a> Maker<'a> {
             let aim = self.item_place(64, item)?;
             stands_apart(aim.site, aim.within)?;
             let cells = self.item_cells(at, item, aim)?;
+            let count = self.counted(cells)?;
             self.folded.push(Folded {
                 fold,
                 slot: aim.slot,
-                cells,
+                count,
             })?;
         }
         Ok(())
@@ -358,6 +342,10 @@ impl<'a> Maker<'a> {
             stands_apart(aim.site, aim.within)?;
             let cells = self.item_cells(clause.at, item, aim)?;
             let slot = self.passes(aim.slot, base)?;
+            let cells = match cells {
+                Count::Of(cells) => Count::Of(cells),
+                Count::By(count) => Count::By(self.passes(count, base)?),
+            };
             let copied = self.copied_item(at, item);
             self.joined.push(Joined {
                 fold,
@@ -366,25 +354,6 @@ impl<'a> Maker<'a> {
                 copied,
             })?;
         }
-        Ok(())
-    }
-
-    /// The task takes part by each of these cells.
-    pub(crate) fn takes_part(&mut self, at: u32, joined: Joined) -> Result<(), Fault> {
-        let mark = self.frame.next;
-        if joined.cells <= 4 {
-            for cell in 0..joined.cells {
-                let slot = self.moved(joined.slot, cell)?;
-                self.emit(Form::Joins(at, joined.fold, slot))?;
-            }
-        } else {
-            let count = self.number(u64::from(joined.cells))?;
-            let (index, start, out) = self.begins_count(at, count)?;
-            let slot = self.advance(joined.slot, index, 1)?;
-            self.emit(Form::Joins(at, joined.fold, slot))?;
-            self.ends_count(index, start, out)?;
-        }
-        self.frame.next = mark;
         Ok(())
     }
 

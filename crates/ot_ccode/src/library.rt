@@ -1,8 +1,8 @@
 //! What functions of the library do.
 use crate::fault::{Fault, Why};
-use crate::maker::{Aim, COUNT, FINAL, LONG, Maker, NUMBER, Val, WORD, Way};
+use crate::maker::{ACTIVE, ALONE, Aim, COUNT, FINAL, LONG, Maker, NUMBER, Val, WORD, Way};
 use crate::names::Known;
-use crate::team::Whose;
+use crate::team::{THREADS, Whose};
 use ot_clayout::{Base, Extent, Sort};
 use ot_code::{Form, Kind, Operation, Width};
 use ot_ctree::{Expr, Integer};
@@ -78,6 +78,7 @@ impl<'a> Maker<'a> {
             Known::InFinal => self.in_final(at),
             Known::ThreadNumber => self.of_thread(at, false),
             Known::ThreadCount => self.of_thread(at, true),
+            Known::ThreadsAtMost => self.threads_at_most(),
             Known::One => {
                 let slot = self.number(1)?;
                 Ok(self.value(slot, Sort::INT))
@@ -305,8 +306,29 @@ impl<'a> Maker<'a> {
             Whose::Caller if self.has_numbers => {
                 self.flag(at, if of_team { COUNT } else { NUMBER })?
             }
+            Whose::Caller | Whose::Nobody if of_team => self.threads_now(at)?,
             Whose::Caller | Whose::Nobody => self.unknown()?,
         };
+        Ok(self.value(slot, Sort::INT))
+    }
+
+    /// How many threads the team has that runs: those with which a team is judged, where there may be several.
+    fn threads_now(&mut self, at: u32) -> Result<u32, Fault> {
+        self.has_team = true;
+        let active = self.flag(at, ACTIVE)?;
+        let alone = self.flag(at, ALONE)?;
+        let several = self.is_zero(alone)?;
+        let several = self.operate(Operation::And, WORD, active, several)?;
+        let more = self.number(THREADS - 1)?;
+        let more = self.operate(Operation::Multiply, LONG, several, more)?;
+        let one = self.number(1)?;
+        self.operate(Operation::Add, LONG, one, more)
+    }
+
+    /// How many threads a team has at most that begins here.
+    fn threads_at_most(&mut self) -> Result<Val, Fault> {
+        self.has_team = true;
+        let slot = self.number(THREADS)?;
         Ok(self.value(slot, Sort::INT))
     }
 

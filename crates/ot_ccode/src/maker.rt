@@ -41,6 +41,8 @@ pub(crate) enum Way {
     Cell,
     /// No task sees that it is touched.
     Own,
+    /// A cell that the number of the thread names which runs.
+    Thread,
 }
 
 /// What may be assigned to: the slot itself or the one that has its place, what lies there, and the site of touches.
@@ -192,6 +194,9 @@ pub(crate) struct Maker<'a> {
     /// Cells of its own that a task has in the place of items of reductions: where those of what runs begin.
     pub(crate) copied: Vec<Copied>,
     pub(crate) first_copied: usize,
+    /// Variables that have the number of the thread that runs, and how many of them are of tasks around this one.
+    pub(crate) numbered: Vec<u32>,
+    pub(crate) first_numbered: usize,
     /// Places of `lastprivate` variables.
     pub(crate) lasts: Vec<Was>,
     /// Loops whose turns are divided among tasks.
@@ -228,6 +233,8 @@ pub(crate) struct Maker<'a> {
     pub(crate) seed: u32,
     /// Whether the numbers of threads are kept for functions that are called.
     pub(crate) has_numbers: bool,
+    /// Whether the text asks for the number of a thread.
+    pub(crate) asks_number: bool,
     /// Whether a `final` clause stands in the unit.
     pub(crate) has_final: bool,
     /// By name: whether a function is called of which nothing is known; and those names.

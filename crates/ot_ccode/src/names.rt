@@ -1,4 +1,5 @@
 //! Names that mean something: those of the library, and `main`.
+use ot_ctree::{Expr, Unit};
 
 /// What a function of the library does, as far as memory goes.
 #[derive(Clone, Copy, Debug, PartialEq, Eq)]
@@ -38,6 +39,8 @@ pub enum Known {
     InFinal,
     ThreadNumber,
     ThreadCount,
+    /// How many threads a team has at most.
+    ThreadsAtMost,
     One,
     /// It writes and reads an array.
     Sorts,
@@ -88,7 +91,7 @@ const TABLE: [(&str, Known); 146] = [
     ("strtol", Known::Reads),
     ("omp_in_final", Known::InFinal),
     ("omp_get_num_threads", Known::ThreadCount),
-    ("omp_get_max_threads", Known::Int),
+    ("omp_get_max_threads", Known::ThreadsAtMost),
     ("qsort", Known::Sorts),
     ("rand", Known::Draws),
     ("srand", Known::Seeds),
@@ -218,4 +221,25 @@ fn looked_up(table: &[(&str, Known)], name: &[u8]) -> Option<Known> {
         }
     }
     None
+}
+
+/// What is called, where it is a function of the library.
+pub(crate) fn library_of(unit: &Unit, known: &[Option<Known>], function: &Expr) -> Option<Known> {
+    let name = match function {
+        Expr::Undeclared(_, name) => *name,
+        Expr::Function(_, number) => match unit.functions.get(*number as usize) {
+            Some(function) => {
+                if function.body.is_some() {
+                    return None;
+                }
+                function.name
+            }
+            None => return None,
+        },
+        _ => return None,
+    };
+    match known.get(name as usize) {
+        Some(known) => *known,
+        None => None,
+    }
 }

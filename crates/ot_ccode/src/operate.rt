@@ -293,6 +293,7 @@ impl<'a> Maker<'a> {
         }
         let slot = self.fresh()?;
         match aim.way {
+            Way::Thread => self.touches_by_number(aim.site, Form::Load(aim.site, slot, aim.slot))?,
             Way::Cell => self.emit(Form::Load(aim.site, slot, aim.slot))?,
             _ => self.emit(Form::LoadOwn(aim.site, slot, aim.slot))?,
         };
@@ -321,6 +322,7 @@ impl<'a> Maker<'a> {
             Way::Slot => self.emit(Form::Copy(aim.slot, slot))?,
             Way::Cell => self.emit(Form::Store(aim.site, aim.slot, slot))?,
             Way::Own => self.emit(Form::StoreOwn(aim.site, aim.slot, slot))?,
+            Way::Thread => self.touches_by_number(aim.site, Form::Store(aim.site, aim.slot, slot))?,
         };
         match aim.within {
             Some(within) => self.reaches_over(aim, within, true),

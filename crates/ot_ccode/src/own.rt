@@ -3,7 +3,7 @@ ghost use Rattle.std.specs.Prelude.{◌<◌, IfOk};
 
 use crate::fault::Fault;
 use crate::maker::below;
-use crate::names::Known;
+use crate::names::{Known, library_of};
 use crate::reduced::{ITEM_DEPTH, variable_of};
 use crate::value::DEEPEST;
 use ot_clayout::{Class, Layouts, sort_of, type_of};
@@ -19,6 +19,7 @@ use std::collections::BTreeSet;
 pub(crate) struct Owned {
     memory: Vec<bool>,
     lent: Vec<bool>,
+    changed: Vec<bool>,
     /// By a construct's token: the items of its reductions to which more leads than the construct's own text.
     passed_on: BTreeSet<(u32, u32)>,
 }
@@ -32,6 +33,11 @@ impl Owned {
     /// Whether it has nothing but what is allocated for it, and nothing else leads there.
     pub(crate) fn has_memory(&self, variable: u32) -> bool {
         self.memory.get(variable as usize).copied().unwrap_or(false)
+    }
+
+    /// Whether it may get another value than the one with which it begins.
+    pub(crate) fn is_changed(&self, variable: u32) -> bool {
+        self.changed.get(variable as usize).copied().unwrap_or(true)
     }
 
     /// Whether tasks share it.
@@ -54,6 +60,8 @@ struct Search<'a> {
     /// Whether it may lead elsewhere, or others may lead where it does.
     given: Vec<bool>,
     lent: Vec<bool>,
+    /// Whether its name stands where it gets another value, or its address goes on.
+    changed: Vec<bool>,
     /// By variable: how many times clauses name it, of those in `named`; and the construct around by which it is reduced.
     in_clauses: Vec<u32>,
     reducing: Vec<Option<u32>>,
@@ -88,6 +96,7 @@ pub(crate) fn owned_of(
         harmless: vec![in alloc; 0u32; count]?,
         given: vec![in alloc; false; count]?,
         lent: vec![in alloc; false; count]?,
+        changed: vec![in alloc; false; count]?,
         in_clauses: vec![in alloc; 0u32; count]?,
         reducing: vec![in alloc; None; count]?,
         around: Vec::new(alloc),
@@ -167,6 +176,7 @@ impl<'a> Search<'a> {
         Ok(Owned {
             memory,
             lent: self.lent,
+            changed: self.changed,
             passed_on: self.passed_on,
         })
     }
@@ -186,23 +196,7 @@ impl<'a> Search<'a> {
 
     /// What is called, where it is a function of the library.
     fn known_of(&self, function: &Expr) -> Option<Known> {
-        let name = match function {
-            Expr::Undeclared(_, name) => *name,
-            Expr::Function(_, number) => match self.unit.functions.get(*number as usize) {
-                Some(function) => {
-                    if function.body.is_some() {
-                        return None;
-                    }
-                    function.name
-                }
-                None => return None,
-            },
-            _ => return None,
-        };
-        match self.known.get(name as usize) {
-            Some(known) => *known,
-            None => None,
-        }
+        library_of(self.unit, self.known, function)
     }
 
     /// Whether a value is what is allocated there, or null.
@@ -283,6 +277,13 @@ impl<'a> Search<'a> {
         Ok(())
     }
 
+    /// A place gets another value.
+    fn changes(&mut self, place: &Expr) {
+        if let Expr::Variable(_, variable) = place {
+            set(&mut self.changed, *variable);
+        }
+    }
+
     /// A variable gets a value.
     fn gets(&mut self, variable: u32, value: &Expr) {
         if !self.is_new(DEEPEST, value) {
@@ -342,7 +343,10 @@ impl<'a> Search<'a> {
             }
             Expr::Unary(_, sign, one) => {
                 match sign {
-                    Sign::Address => self.gives(one)?,
+                    Sign::Address => {
+                        self.changes(one);
+                        self.gives(one)?;
+                    }
                     Sign::Not => self.is_harmless(one),
                     Sign::Follow => self.touches(expr),
                     _ => {}
@@ -353,9 +357,11 @@ impl<'a> Search<'a> {
                 self.touches(expr);
                 self.expression(depth, one)
             }
-            Expr::StepBefore(_, _, one) | Expr::StepBehind(_, _, one) | Expr::Cast(_, _, one) => {
+            Expr::StepBefore(_, _, one) | Expr::StepBehind(_, _, one) => {
+                self.changes(one);
                 self.expression(depth, one)
             }
+            Expr::Cast(_, _, one) => self.expression(depth, one),
             Expr::Index(_, one, other) => {
                 self.touches(expr);
                 self.expression(depth, one)?;
@@ -369,7 +375,12 @@ impl<'a> Search<'a> {
                 self.expression(depth, one)?;
                 self.expression(depth, other)
             }
-            Expr::Assign(_, _, one, other) | Expr::Comma(_, one, other) => {
+            Expr::Assign(_, _, one, other) => {
+                self.changes(one);
+                self.expression(depth, one)?;
+                self.expression(depth, other)
+            }
+            Expr::Comma(_, one, other) => {
                 self.expression(depth, one)?;
                 self.expression(depth, other)
             }

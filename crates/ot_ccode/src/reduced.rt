@@ -3,6 +3,7 @@
 use crate::clauses::Joined;
 use crate::fault::{Fault, Why};
 use crate::maker::{Held, Maker};
+use crate::section::Count;
 use ot_clayout::{Class, Sort, kind_of};
 use ot_code::{Form, Kind, Operation};
 use ot_csharing::{Capture, How};
@@ -20,7 +21,7 @@ pub(crate) struct Copied {
     was: Held,
     item: u32,
     first: u32,
-    cells: u32,
+    cells: Count,
     adds: Option<(Operation, Kind)>,
 }
 
@@ -91,7 +92,16 @@ impl<'a> Maker<'a> {
             _ => None,
         };
         let first = self.fresh()?;
-        self.emit(Form::Begin(first, joined.cells, variable, adds.is_some()))?;
+        match joined.cells {
+            Count::Of(cells) => self.emit(Form::Begin(first, cells, variable, adds.is_some()))?,
+            Count::By(count) => self.emit(Form::Allocate(
+                first,
+                variable,
+                count,
+                1,
+                adds.is_some(),
+            ))?,
+        };
         let before = self.fresh()?;
         self.emit(Form::Distance(before, base, joined.slot, 1))?;
         let place = self.advance(first, before, 1)?;
@@ -124,7 +134,7 @@ impl<'a> Maker<'a> {
 
     fn adds_copy(&mut self, at: u32, copied: Copied) -> Result<(), Fault> {
         let mark = self.frame.next;
-        let count = self.number(u64::from(copied.cells))?;
+        let count = self.counted(copied.cells)?;
         let (index, start, out) = self.begins_count(at, count)?;
         let to = self.advance(copied.item, index, 1)?;
         let value = match copied.adds {

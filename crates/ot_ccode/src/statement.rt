@@ -40,6 +40,7 @@ impl<'a> Maker<'a> {
         if !is_automatic(declared) {
             return Ok(());
         }
+        self.notes_number(variable, initial)?;
         let sort = self.sort_of(variable);
         self.measure(16, at, sort)?;
         if self.sharing.is_object(variable) {

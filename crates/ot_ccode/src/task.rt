@@ -1,7 +1,6 @@
 //! Tasks: what they take along, and their bodies.
-use crate::clauses::Joined;
 use crate::fault::{Fault, Why};
-use crate::maker::{Aim, Around, FINAL, Frame, Held, Maker, Returns, Taken, Val, Way};
+use crate::maker::{Aim, Around, FINAL, Frame, Held, Maker, NUMBER, Returns, Taken, Val, Way};
 use crate::team::{Team, Whose};
 use ot_clayout::{Class, Sort};
 use ot_code::Form;
@@ -34,6 +33,9 @@ pub(crate) struct Opened {
     whose: Whose,
     text: u32,
     copied: usize,
+    /// How many variables with the number of a thread are of tasks around its parent; and the slot of what its parent's thread has for a number.
+    numbered: usize,
+    number: Option<u32>,
 }
 
 impl Opened {
@@ -260,6 +262,7 @@ impl<'a> Maker<'a> {
             }
             None => None,
         };
+        let number = self.leaves_number(at, bases.passed)?;
         let first = self.frame.next;
         for place in bases.passed..self.passed.len() {
             if let Some(slot) = self.passed.get(place).copied() {
@@ -277,7 +280,9 @@ impl<'a> Maker<'a> {
             when,
         })?;
         let flag = finals.map(|finals| finals.1);
-        let opened = self.opens(task, first, count, bases, flag);
+        let mut opened = self.opens(task, first, count, bases, flag);
+        opened.number = number;
+        self.hides_number(at, number)?;
         self.binds(at, bases)?;
         if let Some((inner, _)) = finals {
             self.set_flag(at, FINAL, inner)?;
@@ -307,8 +312,11 @@ impl<'a> Maker<'a> {
             whose: self.whose,
             text: self.labels.begins(),
             copied: self.first_copied,
+            numbered: self.first_numbered,
+            number: None,
         };
         self.first_copied = self.copied.len();
+        self.first_numbered = self.numbered.len();
         self.frame = Frame {
             next: count,
             most: count,
@@ -414,6 +422,9 @@ impl<'a> Maker<'a> {
         if let Some(flag) = opened.flag {
             self.set_flag(at, FINAL, flag)?;
         }
+        if let Some(number) = opened.number {
+            self.set_flag(at, NUMBER, number)?;
+        }
         self.emit(Form::Finish)?;
         let slots = self.frame.most.max(1);
         self.closes(opened, opened.first, slots)
@@ -433,6 +444,8 @@ impl<'a> Maker<'a> {
         self.labels.goes_on(opened.text);
         self.copied.truncate(self.first_copied);
         self.first_copied = opened.copied;
+        self.numbered.truncate(self.first_numbered);
+        self.first_numbered = opened.numbered;
         self.forgets(opened.bases);
         Ok(())
     }
@@ -502,23 +515,5 @@ impl<'a> Maker<'a> {
             }
         };
         self.hold_for_now(variable, held)
-    }
-
-    /// What a task takes part in, of what runs here.
-    pub(crate) fn joins_here(&mut self, at: u32) -> Result<(), Fault> {
-        for place in 0..self.folded.len() {
-            if let Some(folded) = self.folded.get(place).copied() {
-                self.takes_part(
-                    at,
-                    Joined {
-                        fold: folded.fold,
-                        slot: folded.slot,
-                        cells: folded.cells,
-                        copied: None,
-                    },
-                )?;
-            }
-        }
-        Ok(())
     }
 }

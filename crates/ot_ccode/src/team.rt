@@ -68,7 +68,7 @@ pub(crate) struct Kept {
 }
 
 /// How many threads a team has of which the text doesn't say that it has one.
-const THREADS: u64 = 2;
+pub(crate) const THREADS: u64 = 2;
 
 /// The slots of who leads.
 #[derive(Clone, Copy)]

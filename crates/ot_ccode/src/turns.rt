@@ -507,7 +507,7 @@ impl<'a> Maker<'a> {
         let aim = self.aim_variable(at, variable)?;
         let way = match aim.way {
             Way::Slot => Way::Slot,
-            Way::Cell | Way::Own => Way::Own,
+            Way::Cell | Way::Own | Way::Thread => Way::Own,
         };
         let value = self.convert(at, value, aim.sort)?;
         self.store_scalar(Aim { way, ..aim }, value.slot)

@@ -366,12 +366,13 @@ impl<'a> Maker<'a> {
             Expr::Index(_, one, other) => {
                 let one = self.expression(depth, one)?;
                 let other = self.expression(depth, other)?;
-                self.element(site, one, other)
+                let aim = self.element(site, one, other)?;
+                Ok(self.by_number(aim, expr))
             }
             Expr::Member(at, one, name) => {
                 let whole = self.aim(depth, one)?;
                 let found = self.member(*at, whole, *name)?;
-                Ok(Aim { site, ..found })
+                Ok(self.by_number(Aim { site, ..found }, expr))
             }
             Expr::Arrow(at, one, name) => {
                 let pointer = self.expression(depth, one)?;

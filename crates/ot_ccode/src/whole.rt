@@ -93,6 +93,8 @@ impl<'a> Maker<'a> {
             folded: Vec::new(alloc),
             copied: Vec::new(alloc),
             first_copied: 0,
+            numbered: Vec::new(alloc),
+            first_numbered: 0,
             lasts: Vec::new(alloc),
             nested: Vec::new(alloc),
             site: 0,
@@ -115,6 +117,7 @@ impl<'a> Maker<'a> {
             flags: 0,
             seed: 0,
             has_numbers: false,
+            asks_number: false,
             has_final: false,
             is_untouched,
             untouched: Vec::new(alloc),
@@ -405,7 +408,8 @@ pub fn translate(alloc: Global, unit: &Unit, known: &[Option<Known>]) -> Result<
     let owned = owned_of(alloc, unit, known, &sharing, &layouts)?;
     let mut maker = Maker::empty(alloc, unit, known, &sharing, &owned, layouts)?;
     maker.has_final = sharing.has_final;
-    maker.has_numbers = sharing.has_threads && asks_numbers(known);
+    maker.asks_number = asks_numbers(known);
+    maker.has_numbers = sharing.has_threads && maker.asks_number;
     maker.binds = binding_functions(alloc, unit)?;
     let (globals, slots) = maker.run(entry, is_alone)?;
     maker.functions(if is_alone {

@@ -148,7 +148,7 @@ impl<'a> Maker<'a> {
 
     /// The cells of an item are written with what they have.
     fn writes_again(&mut self, at: u32, joined: Joined) -> Result<(), Fault> {
-        let count = self.number(u64::from(joined.cells))?;
+        let count = self.counted(joined.cells)?;
         let (index, start, out) = self.begins_count(at, count)?;
         let place = self.advance(joined.slot, index, 1)?;
         let value = self.fresh()?;

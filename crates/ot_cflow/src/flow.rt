@@ -1,8 +1,8 @@
 //! What branches and indexes rest on: values that come from memory, or aren't known. What an automatic variable has that only its own task
 //! changes isn't from memory; nor are numbers of which the turns of loops and lengths are made.
-use crate::graph::Touches;
-use crate::trace::{Trace, traced};
-use ot_code::Code;
+use crate::graph::{Graph, Touches};
+use crate::trace::{Asked, Trace, traced};
+use ot_code::{Code, Form};
 use std::alloc::{AllocError, Global};
 
 /// By form, whether its branch or its index is from memory, or isn't known, or whether a task is deferred. None where it is too much.
@@ -22,6 +22,7 @@ pub fn marks_of(
         globals,
         ..
     } = traced(alloc, code, parameters, closed)?;
+    let mut marks = vec![in alloc; false; code.forms.len()]?;
     if !graph.is_full {
         let touches = Touches {
             loads: &loads,
@@ -30,16 +31,25 @@ pub fn marks_of(
             bounds: &bounds,
             globals: &globals,
         };
-        graph.settle(alloc, &touches)?;
+        let fixed = graph.settle(alloc, &touches)?;
+        mark(code, &graph, &asked, true, &mut marks);
+        graph.comes_from_memory(alloc, &fixed)?;
+        mark(code, &graph, &asked, false, &mut marks);
     }
     if graph.is_full {
         return Ok(None);
     }
-    let mut marks = vec![in alloc; false; code.forms.len()]?;
-    for it in &asked {
-        if let Some(mark) = marks.get_mut(it.at) {
-            *mark = graph.is_memory(it.value);
+    Ok(Some(marks))
+}
+
+/// Marks the indexes that come from memory, or all else that does.
+fn mark(code: &Code, graph: &Graph, asked: &[Asked], of_indexes: bool, marks: &mut [bool]) {
+    for it in asked {
+        let is_index = matches!(code.forms.get(it.at), Some(Form::Advance(_, _, _, _)));
+        if is_index == of_indexes {
+            if let Some(mark) = marks.get_mut(it.at) {
+                *mark = graph.is_memory(it.value);
+            }
         }
     }
-    Ok(Some(marks))
 }

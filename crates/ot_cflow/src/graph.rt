@@ -11,6 +11,8 @@ pub(crate) enum Going {
     Is,
     /// It may be that value, which matters where that is read.
     MayBe,
+    /// It was put where that is taken from.
+    Held,
 }
 
 /// What is found of values.
@@ -18,6 +20,8 @@ pub(crate) enum Going {
 enum Mark {
     /// It is a place that another task got.
     Lent,
+    /// It is a place that isn't the same each time.
+    Moved,
     /// It comes from memory, or isn't known.
     Memory,
 }
@@ -42,6 +46,7 @@ struct Point {
     chief: u32,
     is_read: bool,
     is_lent: bool,
+    is_moved: bool,
     is_memory: bool,
     /// Of a chief: what lies there may be changed by another task, or from where nobody looks.
     is_outer: bool,
@@ -117,6 +122,8 @@ impl Graph {
         }
         graph.marks(UNKNOWN, Mark::Memory);
         graph.marks(MEMORY, Mark::Memory);
+        graph.marks(UNKNOWN, Mark::Moved);
+        graph.marks(MEMORY, Mark::Moved);
         graph.leaks(OUTER);
         graph.leaks(MEMORY);
         Ok(graph)
@@ -136,6 +143,7 @@ impl Graph {
             chief: number,
             is_read: false,
             is_lent: false,
+            is_moved: false,
             is_memory: false,
             is_outer: false,
             is_global: false,
@@ -152,7 +160,7 @@ impl Graph {
             self.is_full = true;
             return Ok(());
         }
-        if going != Going::Counted && self.crosses(from, to) {
+        if matches!(going, Going::Is | Going::MayBe) && self.crosses(from, to) {
             self.marks(to, Mark::Lent);
         }
         let number = u32::try_from(self.edges.len()).unwrap_or(NONE);
@@ -221,6 +229,18 @@ impl Graph {
         }
     }
 
+    fn is_moved(&self, value: u32) -> bool {
+        match self.points.get(value as usize) {
+            Some(point) => point.is_moved,
+            None => true,
+        }
+    }
+
+    /// It isn't the same place each time.
+    pub(crate) fn moves(&mut self, value: u32) {
+        self.marks(value, Mark::Moved);
+    }
+
     /// Marks it: whether it wasn't marked so before.
     fn marks(&mut self, value: u32, mark: Mark) -> bool {
         match self.points.get_mut(value as usize) {
@@ -228,6 +248,11 @@ impl Graph {
                 Mark::Lent => {
                     let is_new = !point.is_lent;
                     point.is_lent = true;
+                    is_new
+                }
+                Mark::Moved => {
+                    let is_new = !point.is_moved;
+                    point.is_moved = true;
                     is_new
                 }
                 Mark::Memory => {
@@ -313,12 +338,13 @@ impl Graph {
 
 /// What is found when all edges are there.
 impl Graph {
-    /// Which values come from memory, where these places are loaded from and stored to.
+    /// Which values come from memory, where these places are loaded from and stored to: those of which indexes are made. What is given does too, where
+    /// branches are made of it.
     pub(crate) fn settle(
         &mut self,
         alloc: Global,
         touches: &Touches<'_>,
-    ) -> Result<(), AllocError> {
+    ) -> Result<Vec<u32>, AllocError> {
         let loads = touches.loads;
         let stores = touches.stores;
         self.spread_reads(alloc)?;
@@ -345,6 +371,34 @@ impl Graph {
         }
         self.fill(alloc, touches)?;
         self.bounds(alloc, touches)?;
+        let fixed = self.fixed(alloc, touches)?;
+        self.spread(alloc, Mark::Memory)?;
+        Ok(fixed)
+    }
+
+    /// What is loaded from a place that is the same each time, by no index and through no pointer in memory, and comes from memory: such as a member of a struct. It is as the
+    /// run has it where an index is made of it.
+    fn fixed(&mut self, alloc: Global, touches: &Touches<'_>) -> Result<Vec<u32>, AllocError> {
+        self.spread(alloc, Mark::Moved)?;
+        let mut fixed = Vec::new(alloc);
+        for load in touches.loads {
+            if self.is_memory(load.value) && !self.is_moved(load.place) {
+                self.is_as_run(load.value);
+                fixed.push(load.value)?;
+            }
+        }
+        Ok(fixed)
+    }
+
+    /// These come from memory.
+    pub(crate) fn comes_from_memory(
+        &mut self,
+        alloc: Global,
+        values: &[u32],
+    ) -> Result<(), AllocError> {
+        for value in values {
+            self.marks(*value, Mark::Memory);
+        }
         self.spread(alloc, Mark::Memory)
     }
 
@@ -438,7 +492,7 @@ impl Graph {
     fn carries(&self, edge: Edge) -> bool {
         match edge.going {
             Going::Counted => false,
-            Going::Is => true,
+            Going::Is | Going::Held => true,
             Going::MayBe => self.is_read(edge.to),
         }
     }
@@ -460,6 +514,7 @@ impl Graph {
         for (number, point) in self.points.iter().enumerate() {
             let is_marked = match mark {
                 Mark::Lent => point.is_lent,
+                Mark::Moved => point.is_moved,
                 Mark::Memory => point.is_memory,
             };
             if is_marked {
@@ -493,14 +548,15 @@ impl Graph {
         let mut contents = vec![in alloc; NONE; self.points.len()]?;
         for store in touches.starts.iter().chain(touches.stores) {
             if let Some(content) = self.content(&mut contents, store.place)? {
-                self.link(store.value, content, Going::Counted)?;
+                self.link(store.value, content, Going::Held)?;
             }
         }
         for load in touches.loads {
             match self.content(&mut contents, load.place)? {
-                Some(content) => self.link(content, load.value, Going::Counted)?,
+                Some(content) => self.link(content, load.value, Going::Held)?,
                 None => {
                     self.marks(load.value, Mark::Memory);
+                    self.marks(load.value, Mark::Moved);
                 }
             }
         }

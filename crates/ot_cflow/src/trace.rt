@@ -81,8 +81,8 @@ pub(crate) struct Trace<'a> {
     /// Of what is called by a value: its parameters, and what it gives.
     passed: Vec<u32>,
     given: u32,
-    /// The place of two cells that no variable names, which say what runs.
-    flags: u32,
+    /// By index the places of cells that no variable names, which say what runs.
+    flags: BTreeMap<u32, u32>,
     /// What runs.
     function: u32,
     base: u32,
@@ -99,7 +99,6 @@ impl<'a> Trace<'a> {
         let spots = spots_of(alloc, code)?;
         let mut graph = Graph::new(alloc)?;
         let given = graph.value(ANY)?;
-        let flags = graph.value(ANY)?;
         let slots = spots.slots.min(SLOTS);
         if spots.slots > SLOTS {
             graph.is_full = true;
@@ -130,7 +129,7 @@ impl<'a> Trace<'a> {
             functions: Vec::new(alloc),
             passed: Vec::new(alloc),
             given,
-            flags,
+            flags: BTreeMap::new(alloc),
             function: NONE,
             base: 0,
             task: 0,
@@ -371,6 +370,7 @@ impl<'a> Trace<'a> {
             return Ok(());
         }
         if let Some(value) = self.meeting(slot)? {
+            self.graph.moves(value);
             self.heads.push(Was { slot, value })?;
         }
         Ok(())
@@ -425,12 +425,8 @@ impl<'a> Trace<'a> {
             Form::Operate(to, _, _, one, other) | Form::Distance(to, one, other, _) => {
                 self.counts(*to, *one, *other)
             }
-            Form::Advance(to, place, number, _) => {
-                self.asks(at, *number)?;
-                let place = self.reads(*place)?;
-                self.gives(*to, place)
-            }
-            Form::Address(to, object, _) => self.address(*to, *object),
+            Form::Advance(to, place, number, _) => self.advances(at, *to, *place, *number),
+            Form::Address(to, object, index) => self.address(*to, *object, *index),
             Form::Begin(to, _, name, _) => self.begins_object(*to, *name),
             Form::Allocate(to, name, count, _, _) => {
                 self.bounds_by(*count)?;
@@ -463,6 +459,19 @@ impl<'a> Trace<'a> {
         Ok(())
     }
 
+    /// A place is moved on. By a number that isn't written in the text it moves from turn to turn, and from call to call.
+    fn advances(&mut self, at: usize, to: u32, place: u32, by: u32) -> Result<(), AllocError> {
+        self.asks(at, by)?;
+        let place = self.reads(place)?;
+        if self.reads(by)? == PLAIN {
+            return self.gives(to, place);
+        }
+        let moved = self.graph.value(self.task)?;
+        self.graph.link(place, moved, Going::Is)?;
+        self.graph.moves(moved);
+        self.gives(to, moved)
+    }
+
     fn counts(&mut self, to: u32, one: u32, other: u32) -> Result<(), AllocError> {
         let one = self.reads(one)?;
         let other = self.reads(other)?;
@@ -477,12 +486,11 @@ impl<'a> Trace<'a> {
         self.gives(to, value)
     }
 
-    /// The place of an object that lives as long as the program. Two of its cells that no variable names say which task runs.
-    fn address(&mut self, to: u32, object: u32) -> Result<(), AllocError> {
+    /// The place of an object that lives as long as the program. Cells of one that no variable names say what runs.
+    fn address(&mut self, to: u32, object: u32, index: u32) -> Result<(), AllocError> {
         let Some(Form::Begin(_, cells, name, _)) = self.code.forms.get(object as usize) else {
             return self.gives(to, OUTER);
         };
-        let flags = self.flags;
         let place = match self.closed.get(*name as usize) {
             Some(true) => {
                 let global = self.global(object)?;
@@ -490,13 +498,26 @@ impl<'a> Trace<'a> {
             }
             Some(false) if *cells == 1 => self.outer()?,
             Some(false) => OUTER,
-            None if *cells > 1 && *name as usize == self.closed.len() => self.same_as(flags)?,
+            None if *cells > 1 && *name as usize == self.closed.len() => {
+                let flag = self.flag(index)?;
+                self.same_as(flag)?
+            }
             None => OUTER,
         };
         if *cells == 1 && place > MEMORY {
             let _ = self.cells.insert(place, object)?;
         }
         self.gives(to, place)
+    }
+
+    /// The place of a cell that says what runs.
+    fn flag(&mut self, index: u32) -> Result<u32, AllocError> {
+        if let Some(place) = self.flags.get(&index) {
+            return Ok(*place);
+        }
+        let place = self.graph.value(ANY)?;
+        let _ = self.flags.insert(index, place)?;
+        Ok(place)
     }
 
     /// A place at which others may write.

@@ -55,17 +55,36 @@ pub(crate) fn members(unit: &Unit, record: u32) -> &[Member] {
 impl Layouts {
     pub fn of(alloc: Global, unit: &Unit) -> Result<Layouts, AllocError> {
         let mut made = Layouts::empty(alloc, unit)?;
+        made.measure(unit);
+        made.complete_all(unit);
+        made.measure(unit);
+        Ok(made)
+    }
+
+    /// Measures all types that aren't complete yet.
+    fn measure(&mut self, unit: &Unit) {
         for number in 0..unit.enumerators.len() {
             if let Ok(number) = u32::try_from(number) {
-                let _ = made.enumerator(unit, DEEPEST, number);
+                let _ = self.enumerator(unit, DEEPEST, number);
             }
         }
         for kind in 0..unit.types.len() {
             if let Ok(kind) = u32::try_from(kind) {
-                let _ = made.kind(unit, DEEPEST, kind);
+                if self.kinds.get(kind as usize) == Some(&State::Open) {
+                    self.set(kind, State::Unseen);
+                }
+                let _ = self.kind(unit, DEEPEST, kind);
             }
         }
-        Ok(made)
+    }
+
+    /// Arrays of the file, and static ones, of which the length of others may be made.
+    fn complete_all(&mut self, unit: &Unit) {
+        for (number, variable) in unit.variables.iter().enumerate() {
+            if let (Ok(number), Some(initial)) = (u32::try_from(number), &variable.initial) {
+                self.complete(unit, number, initial);
+            }
+        }
     }
 
     fn empty(alloc: Global, unit: &Unit) -> Result<Layouts, AllocError> {

@@ -20,12 +20,12 @@ pub struct Item {
     pub slot: u32,
 }
 
-/// An item of a `task_reduction` clause: its operation, the slot that has the place of its first cell, and how many cells it has.
+/// An item of a `task_reduction` clause: its operation, the slot that has the place of its first cell, and the one that has how many cells it has.
 #[derive(Clone, Copy, Debug, PartialEq, Eq)]
 pub struct Folded {
     pub fold: Fold,
     pub slot: u32,
-    pub cells: u32,
+    pub count: u32,
 }
 
 /// A form of the machine's code. Slots are those of the function or task that runs, from 0; the first slot of those named is

@@ -244,8 +244,13 @@ impl Parser {
             self.step();
             self.step();
         }
-        let Some(by) = reducing_of(self.kind()) else {
-            return Err(self.fault(Why::Reduction));
+        let by = match self.kind() {
+            // (of the values that tasks have nothing is known, and how they are combined isn't either, as of products)
+            Kind::Name(name) if self.reductions.contains(&name) => Reducing::Times,
+            other => match reducing_of(other) {
+                Some(by) => by,
+                None => return Err(self.fault(Why::Reduction)),
+            },
         };
         self.step();
         self.want(Mark::Colon)?;

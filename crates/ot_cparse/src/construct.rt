@@ -27,6 +27,13 @@ impl Parser {
             self.threadprivate()?;
             return Ok(Stmt::Empty(at));
         }
+        if self.is_word(word::DECLARE) {
+            self.declares()?;
+            return Ok(Stmt::Empty(at));
+        }
+        if self.is_word(word::CANCEL) || self.is_word(word::CANCELLATION) {
+            return self.cancels(at);
+        }
         let Head {
             directives,
             name,
@@ -37,6 +44,47 @@ impl Parser {
             _ => Some(self.body(depth - 1)?),
         };
         Ok(Stmt::Construct(at, directives, name, clauses, body))
+    }
+
+    /// `cancel` and `cancellation point`: both are ignored unless cancellation is activated, which it isn't at first (OpenMP API 5.2, section 16.1).
+    /// The condition is evaluated.
+    fn cancels(&mut self, at: u32) -> Result<Stmt, ParseError> {
+        let is_point = self.is_word(word::CANCELLATION);
+        self.step();
+        if is_point {
+            if !self.is_word(word::POINT) {
+                return Err(self.fault(Why::Directive));
+            }
+            self.step();
+        }
+        match self.kind() {
+            Kind::Name(word::PARALLEL | word::FOR | word::SECTIONS | word::TASKGROUP) =>
+                self.step(),
+            _ => return Err(self.fault(Why::Directive)),
+        }
+        let _ = self.take(Mark::Comma);
+        let statement = if !is_point && self.is_word(word::IF) {
+            self.cancels_if()?
+        } else {
+            Stmt::Empty(at)
+        };
+        if self.kind() != Kind::PragmaEnd {
+            return Err(self.fault(Why::Clause));
+        }
+        self.step();
+        Ok(statement)
+    }
+
+    fn cancels_if(&mut self) -> Result<Stmt, ParseError> {
+        self.step();
+        self.want(Mark::Open)?;
+        if self.is_word(word::CANCEL) && self.ahead(1) == Kind::Mark(Mark::Colon) {
+            self.step();
+            self.step();
+        }
+        let condition = self.whole()?;
+        self.want(Mark::Close)?;
+        Ok(Stmt::Does(condition))
     }
 
     /// A directive to the end of its line.
@@ -113,6 +161,25 @@ impl Parser {
                 }
             }
             let _ = self.take(Mark::Comma);
+        }
+        self.at = self.end_of_line();
+        self.step();
+        Ok(())
+    }
+
+    /// `declare reduction`, whose name is noted, and `declare simd`. How a reduction combines two values isn't looked at.
+    pub(crate) fn declares(&mut self) -> Result<(), ParseError> {
+        self.step();
+        match self.kind() {
+            Kind::Name(word::REDUCTION) => {
+                self.step();
+                self.want(Mark::Open)?;
+                if let Kind::Name(name) = self.kind() {
+                    self.reductions.insert(name)?;
+                }
+            }
+            Kind::Name(word::SIMD) => {}
+            _ => return Err(self.fault(Why::Directive)),
         }
         self.at = self.end_of_line();
         self.step();

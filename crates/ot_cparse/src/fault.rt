@@ -25,7 +25,7 @@ pub enum Why {
     Directive,
     /// A clause that isn't read.
     Clause,
-    /// A reduction that the program declares.
+    /// What names no reduction.
     Reduction,
     /// A kind of dependence that isn't read.
     Dependence,

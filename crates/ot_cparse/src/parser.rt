@@ -4,6 +4,7 @@ use crate::scope::{Meaning, Scope};
 use ot_ctoken::{Kind, Mark, Names, Token, word};
 use ot_ctree::{Integer, Length, Type, Unit};
 use std::alloc::{AllocError, Global};
+use std::collections::BTreeSet;
 
 /// How deep what is read nests: each pair of brackets is some seven.
 pub(crate) const MAX_DEPTH: u32 = 1400;
@@ -64,6 +65,8 @@ pub(crate) struct Parser {
     pub is_inside: bool,
     /// How many links the value has that is being read.
     pub links: u32,
+    /// The names of reductions that the text declares.
+    pub reductions: BTreeSet<u32>,
 }
 
 /// A number that counts what has been made.
@@ -89,6 +92,7 @@ impl Parser {
             enumerations: Vec::new(alloc),
             is_inside: false,
             links: 0,
+            reductions: BTreeSet::new(alloc),
         };
         parser.put_types()?;
         parser.put_names(&KNOWN)?;

@@ -50,7 +50,12 @@ impl Parser {
         }
         if self.kind() == Kind::Pragma {
             if let Kind::Name(
-                word::TASKWAIT | word::TASKYIELD | word::BARRIER | word::FLUSH,
+                word::TASKWAIT
+                | word::TASKYIELD
+                | word::BARRIER
+                | word::FLUSH
+                | word::CANCEL
+                | word::CANCELLATION,
             ) = self.ahead(1)
             {
                 return Err(self.fault(Why::Alone));

@@ -26,6 +26,7 @@ pub fn unit_of(alloc: Global, tokens: Vec<Token>) -> Result<Unit, ParseError> {
         enumerations: _,
         is_inside: _,
         links: _,
+        reductions: _,
     } = parser;
     Ok(unit)
 }
@@ -35,10 +36,10 @@ impl Parser {
     fn top(&mut self) -> Result<(), ParseError> {
         if self.kind() == Kind::Pragma {
             self.step();
-            return if self.is_word(word::THREADPRIVATE) {
-                self.threadprivate()
-            } else {
-                Err(self.fault(Why::Directive))
+            return match self.kind() {
+                Kind::Name(word::THREADPRIVATE) => self.threadprivate(),
+                Kind::Name(word::DECLARE) => self.declares(),
+                _ => Err(self.fault(Why::Directive)),
             };
         }
         if self.take(Mark::Semicolon) {

@@ -1,9 +1,9 @@
 //! How cells are called.
 use crate::placing::line_text;
 use crate::reading::{Reading, byte_of};
-use ot_clayout::is_uneven;
+use ot_clayout::{Sort, is_uneven};
 use ot_ctoken::Whole;
-use ot_ctree::{Length, Type, Unit};
+use ot_ctree::{Type, Unit};
 use ot_machine::Run;
 use ot_model::Cell;
 use std::alloc::{AllocError, Global};
@@ -26,7 +26,7 @@ pub(crate) fn cell_name(
         Some(variable) => {
             let mut name = String::from_str(alloc, reading.names.text(variable.name))?;
             put_path(
-                &reading.unit,
+                reading,
                 alloc,
                 DEEPEST,
                 variable.kind,
@@ -50,44 +50,12 @@ fn count_of_variables(reading: &Reading) -> u32 {
     u32::try_from(reading.unit.variables.len()).unwrap_or(u32::MAX)
 }
 
-/// How many cells a type has, as far as it is known here: 1 of a scalar.
-fn cells_of(unit: &Unit, depth: u32, kind: u32) -> u32 {
-    if depth == 0 {
-        return 1;
-    }
-    match unit.types.get(kind as usize) {
-        Some(Type::Array(of, length)) => cells_of(unit, depth - 1, *of).saturating_mul(count_of(
-            length,
-        )),
-        Some(Type::Record(record)) => match unit.records.get(*record as usize) {
-            Some(record) => match &record.members {
-                Some(members) => {
-                    let mut cells: u32 = 0;
-                    for member in members {
-                        let more = cells_of(unit, depth - 1, member.kind);
-                        cells = if record.is_union {
-                            cells.max(more)
-                        } else {
-                            cells.saturating_add(more)
-                        };
-                    }
-                    cells
-                }
-                None => 1,
-            },
-            None => 1,
-        },
-        _ => 1,
-    }
-}
-
-/// A length that is written as a number; of others 1 is as good.
-fn count_of(length: &Length) -> u32 {
-    match length {
-        Length::By(ot_ctree::Expr::Number(_, number, _)) => u32::try_from(*number).unwrap_or(
-            u32::MAX,
-        ),
-        _ => 1,
+/// How many cells a type has, where that is known before the run.
+fn cells_of(reading: &Reading, kind: u32) -> Option<u32> {
+    let unit = &reading.unit;
+    match reading.layouts.extent(unit, Sort::of(unit, kind)) {
+        Some(extent) => Some(extent.cells.max(1)),
+        None => None,
     }
 }
 
@@ -125,7 +93,7 @@ fn has_union_in(unit: &Unit, depth: u32, record: u32) -> bool {
 
 /// Puts the way from an object of this type to one of its cells behind its name.
 fn put_path(
-    unit: &Unit,
+    reading: &Reading,
     alloc: Global,
     depth: u32,
     kind: u32,
@@ -135,15 +103,20 @@ fn put_path(
     if depth == 0 {
         return Ok(());
     }
-    match unit.types.get(kind as usize) {
+    match reading.unit.types.get(kind as usize) {
         Some(Type::Array(of, _)) => {
-            if has_union(unit, DEEPEST, *of) {
+            if has_union(&reading.unit, DEEPEST, *of) {
                 return Ok(());
             }
-            let each = cells_of(unit, DEEPEST, *of).max(1);
+            let Some(each) = cells_of(reading, *of) else {
+                return Ok(());
+            };
+            if each == 0 {
+                return Ok(());
+            }
             let place = format!(in alloc; "[{}]", index / each)?;
             name.push_str(place.as_str())?;
-            put_path(unit, alloc, depth - 1, *of, index % each, name)
+            put_path(reading, alloc, depth - 1, *of, index % each, name)
         }
         _ => Ok(()),
     }

@@ -4,6 +4,7 @@ use crate::join::Placed;
 use crate::reason::{of_tokens, of_tree};
 use ot_ccode as code;
 use ot_ccode::{Known, Why, meaning_of, translate};
+use ot_clayout::Layouts;
 use ot_cparse::{ParseError, unit_of};
 use ot_ctoken::{Kind, Names, ReadError, Token, Whole, tokens_of};
 use ot_ctree::{Storage, Unit};
@@ -15,6 +16,7 @@ pub(crate) struct Reading {
     pub names: Names,
     pub tokens: Vec<Token>,
     pub unit: Unit,
+    pub layouts: Layouts,
     /// The names of functions without a body that are called.
     pub untouched: Vec<u32>,
     /// Whether teams are executed that may have more than two threads.
@@ -151,6 +153,7 @@ fn code_of(
     let known = known_of(alloc, &names)?;
     match translate(alloc, &unit, &known) {
         Ok(translated) => {
+            let layouts = Layouts::of(alloc, &unit)?;
             let placed = Placed {
                 code: translated.code,
                 sites: translated.sites,
@@ -159,6 +162,7 @@ fn code_of(
                 names,
                 tokens,
                 unit,
+                layouts,
                 untouched: translated.untouched,
                 has_team: translated.has_team,
                 follows_letters: translated.follows_letters,

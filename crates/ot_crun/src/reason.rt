@@ -39,10 +39,7 @@ pub(crate) fn of_tree(alloc: Global, why: parse::Why, word: &str) -> Result<Stri
         parse::Why::NotRead => format!(in alloc; "`{word}` isn't read"),
         parse::Why::Directive => format!(in alloc; "the directive `{word}` isn't read"),
         parse::Why::Clause => format!(in alloc; "the clause `{word}` isn't read"),
-        parse::Why::Reduction => String::from_str(
-            alloc,
-            "a reduction that the program declares isn't read",
-        ),
+        parse::Why::Reduction => format!(in alloc; "`{word}` names no reduction"),
         parse::Why::Dependence => format!(in alloc; "the kind of dependence `{word}` isn't read"),
         parse::Why::Alone => format!(in alloc;
             "the directive `{word}` stands alone, and is no body"

@@ -406,8 +406,10 @@ pub const ATOMIC_UINT: u32 = 201;
 
 pub const ATOMIC_LONG: u32 = 202;
 
+pub const POINT: u32 = 203;
+
 /// Each at its number.
-pub(crate) const WORDS: [&str; 203] = [
+pub(crate) const WORDS: [&str; 204] = [
     "auto",
     "break",
     "case",
@@ -611,4 +613,5 @@ pub(crate) const WORDS: [&str; 203] = [
     "atomic_int",
     "atomic_uint",
     "atomic_long",
+    "point",
 ];

@@ -16,7 +16,7 @@ use Rattle.ot_model.specs.declared.stmt.Use.{Use}
 use Rattle.ot_parts.specs.Modes.{use_as}
 use Rattle.ot_race.specs.Events.{Begins, Awaits}
 use Rattle.ot_state.specs.Results.{◌>>=◌, found, each}
-use Rattle.ot_state.specs.Values.{is_unknown, is_so, combined, converted, advanced, distance}
+use Rattle.ot_state.specs.Values.{number, is_unknown, is_so, combined, converted, advanced, distance}
 use Rattle.ot_state.specs.Siblings.{mode_at, turns, behind}
 use Rattle.ot_state.specs.Slots.{Slots, slots, read, put, enter}
 use Rattle.ot_state.specs.Memory.{Memory, cell, count_of, span_of, span_at, taken, kept, filled, begun, finished}
@@ -43,10 +43,6 @@ abbrev pub Step : Type 0
 Step = Result State Reason
 
 -- ---- what a value is
-
-abbrev pub number : Reason → Value → Result ℕ Reason
-number r (Number n) = Ok n
-number r _ = Err r
 
 abbrev pub function : Value → Result ℕ Reason
 function (Function k) = Ok k

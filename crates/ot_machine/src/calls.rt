@@ -5,9 +5,9 @@ ghost use Rattle.ot_machine.specs.Steps.{function, turn_of, is_call, frame_here,
 ghost use Rattle.ot_machine.specs.View.{state_of};
 ghost use Rattle.ot_state.specs.View.{nest_of};
 
-use crate::machine::{Machine, number};
+use crate::machine::Machine;
 use ot_code::Code;
-use ot_state::{Entered, Frame, Halt, Kept, Limits, Reason, Value, is_unknown};
+use ot_state::{Entered, Frame, Halt, Kept, Limits, Reason, Value, is_unknown, number};
 
 /// The function that a value is.
 fn function(value: Value) -> Result<u32, Halt>

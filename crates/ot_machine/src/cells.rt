@@ -5,10 +5,10 @@ ghost use Rattle.ot_machine.specs.Steps.{first_value, beginning, allocating, end
 ghost use Rattle.ot_machine.specs.View.{state_of};
 
 use crate::locks::{seen, written};
-use crate::machine::{Machine, number};
+use crate::machine::Machine;
 use ot_code::Code;
 use ot_model::Mode;
-use ot_state::{Halt, Limits, Reason, Value};
+use ot_state::{Halt, Limits, Reason, Value, number};
 use std::alloc::Global;
 
 /// What the cells of a new object have.

@@ -2,14 +2,14 @@
 ghost use Rattle.std.specs.Prelude.{◌≡◌};
 ghost use Rattle.ot_state.specs.Results.{Gives};
 ghost use Rattle.ot_machine.specs.State.{from};
-ghost use Rattle.ot_machine.specs.Steps.{number, putting, copying, operating, converting, advancing, measuring};
+ghost use Rattle.ot_machine.specs.Steps.{putting, copying, operating, converting, advancing, measuring};
 ghost use Rattle.ot_machine.specs.View.{state_of};
 ghost use Rattle.ot_state.specs.declared.value.Value.TheVariants.{Number};
 
 use ot_code::{Kind, Operation};
 use ot_state::{
-    Halt, Locks, Memory, Nest, Reason, Siblings, Slots, Trail, Value, advanced, combined,
-    converted, distance,
+    Halt, Locks, Memory, Nest, Siblings, Slots, Trail, Value, advanced, combined, converted,
+    distance,
 };
 
 /// The form that is next, slots, objects, what happened, what is open, locks, siblings in no order, how many tasks there have been, and whether the run has ended.
@@ -24,18 +24,6 @@ pub(crate) struct Machine {
     pub(crate) siblings: Vec<Siblings>,
     pub(crate) tasks: u32,
     pub(crate) ended: bool,
-}
-
-/// The number that a value is, or else this is the reason.
-pub(crate) fn number(reason: Reason, value: Value) -> Result<u64, Halt>
-    ensures { Gives (λ n. n) result (number reason value) }
-{
-    match value {
-        Value::Number(n) => Ok(n),
-        Value::Pointer(_, _) | Value::Within(_) | Value::Function(_) | Value::Unknown => Err(
-            Halt::For(reason),
-        ),
-    }
 }
 
 impl Machine {

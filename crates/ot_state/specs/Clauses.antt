@@ -15,8 +15,9 @@ use Rattle.ot_state.specs.Memory.{Memory, cell, span_at}
 use Rattle.ot_state.specs.Nest.{part}
 use Rattle.ot_state.specs.Siblings.{told_mode}
 use Rattle.ot_state.specs.Slots.{Slots, read}
+use Rattle.ot_state.specs.Values.{number}
 use Rattle.ot_state.specs.declared.fault.Reason.{Reason}
-use Rattle.ot_state.specs.declared.fault.Reason.TheVariants.{Outside, TooManyItems}
+use Rattle.ot_state.specs.declared.fault.Reason.TheVariants.{Outside, TooManyItems, UnknownLength}
 use Rattle.ot_state.specs.declared.limits.Limits.{Limits}
 use Rattle.ot_state.specs.declared.memory.Span.{Span}
 use Rattle.ot_state.specs.declared.nest.Part.{Part}
@@ -63,7 +64,9 @@ items_of l s m waits ss is = if nat_le (length is) l.items then each (with_item 
 unfoldable pub with_part : Slots → Memory → Folded → List Part → Result (List Part) Reason
 with_part s m x ps = do
   p ← read s x.slot
-  c ← span_at m p x.cells
+  v ← read s x.count
+  n ← number UnknownLength v
+  c ← span_at m p n
   Ok (ps ++ part x.fold c ∷ [])
 
 unfoldable pub parts_of : Limits → Slots → Memory → List Folded → Result (List Part) Reason

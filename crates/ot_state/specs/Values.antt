@@ -15,6 +15,11 @@ abbrev pub is_unknown : Value → Bool
 is_unknown Unknown = true
 is_unknown _ = false
 
+-- the number that it is, or else this is the reason
+abbrev pub number : Reason → Value → Result ℕ Reason
+number r (Number n) = Ok n
+number r _ = Err r
+
 -- whether a condition is so; of a value that isn't known the answer says it
 abbrev pub is_so : Value → Bool → Bool
 is_so (Number n) answer = not (n == 0)

@@ -11,6 +11,7 @@ use crate::memory::Memory;
 use crate::nest::Part;
 use crate::siblings::{Siblings, told_mode};
 use crate::slots::Slots;
+use crate::value::number;
 use ot_code::{Folded, Item};
 use ot_model::{Cell, Decl, Mode, Use};
 use std::alloc::Global;
@@ -167,7 +168,9 @@ fn add_part(slots: &Slots, memory: &Memory, item: Folded, parts: &mut Vec<Part>)
     ensures { Gives (λ _. parts.new.items) result (with_part (slots_of slots.now) (memory_of memory.now) item parts.old.items) }
 {
     let place = slots.read(item.slot)?;
-    let span = memory.span_at(place, u64::from(item.cells))?;
+    let value = slots.read(item.count)?;
+    let count = number(Reason::UnknownLength, value)?;
+    let span = memory.span_at(place, count)?;
     parts.push(Part {
         fold: item.fold,
         span,

@@ -24,4 +24,4 @@ pub use operating::{advanced, combined, converted, distance};
 pub use siblings::{Siblings, mode_at, put_behind, turns};
 pub use slots::Slots;
 pub use trail::{Context, Entered, Row, Trail};
-pub use value::{Value, is_unknown};
+pub use value::{Value, is_unknown, number};

@@ -1,5 +1,8 @@
 ghost use Rattle.std.specs.Prelude.{◌≡◌};
-ghost use Rattle.ot_state.specs.Values.{is_unknown};
+ghost use Rattle.ot_state.specs.Results.{Gives};
+ghost use Rattle.ot_state.specs.Values.{is_unknown, number};
+
+use crate::fault::{Halt, Reason};
 
 /// What a slot or a cell has.
 #[derive(Clone, Copy, Debug, PartialEq, Eq)]
@@ -21,5 +24,17 @@ pub fn is_unknown(value: Value) -> bool
     match value {
         Value::Unknown => true,
         Value::Number(_) | Value::Pointer(_, _) | Value::Within(_) | Value::Function(_) => false,
+    }
+}
+
+/// The number that a value is, or else this is the reason.
+pub fn number(reason: Reason, value: Value) -> Result<u64, Halt>
+    ensures { Gives (λ n. n) result (number reason value) }
+{
+    match value {
+        Value::Number(n) => Ok(n),
+        Value::Pointer(_, _) | Value::Within(_) | Value::Function(_) | Value::Unknown => Err(
+            Halt::For(reason),
+        ),
     }
 }
