@@ -1,5 +1,6 @@
 //! What branches and indexes rest on: values that come from memory, or aren't known. What an automatic variable has that only its own task
-//! changes isn't from memory; nor are numbers of which the turns of loops and lengths are made.
+//! changes isn't from memory; nor are numbers of which the turns of loops and lengths are made, nor branches that decide them before anything is created.
+use crate::deciding::{Deciding, unmark};
 use crate::graph::{Graph, Touches};
 use crate::trace::{Asked, Trace, traced};
 use ot_code::{Code, Form};
@@ -19,6 +20,8 @@ pub fn marks_of(
         stores,
         starts,
         bounds,
+        meetings,
+        free_stores,
         globals,
         ..
     } = traced(alloc, code, parameters, closed)?;
@@ -35,6 +38,14 @@ pub fn marks_of(
         mark(code, &graph, &asked, true, &mut marks);
         graph.comes_from_memory(alloc, &fixed)?;
         mark(code, &graph, &asked, false, &mut marks);
+        let deciding = Deciding {
+            loads: &loads,
+            bounds: &bounds,
+            meetings: &meetings,
+            stores: &free_stores,
+        };
+        let decides = deciding.forms(alloc, code, &mut graph)?;
+        unmark(code, &asked, &decides, &mut marks);
     }
     if graph.is_full {
         return Ok(None);

@@ -276,7 +276,7 @@ impl Graph {
     }
 
     /// The one that stands for all places that may be the same. Those on the way there come nearer to it.
-    fn chief_of(&mut self, value: u32) -> u32 {
+    pub(crate) fn chief_of(&mut self, value: u32) -> u32 {
         let mut at = value;
         for _ in 0..self.points.len() {
             let above = self.chief(at);
@@ -430,7 +430,7 @@ impl Graph {
     }
 
     /// By value, whether one of these was made of it.
-    fn parts_of(&self, alloc: Global, values: &[u32]) -> Result<Vec<bool>, AllocError> {
+    pub(crate) fn parts_of(&self, alloc: Global, values: &[u32]) -> Result<Vec<bool>, AllocError> {
         let mut parts = vec![in alloc; false; self.points.len()]?;
         let mut work = Vec::new(alloc);
         for value in values {

@@ -1,6 +1,7 @@
 //! What of a run rests on memory: where the values of branches and of indexes come from, found in the machine's code alone.
 #![tactic(auto)]
 
+mod deciding;
 mod flow;
 mod graph;
 mod slots;

@@ -34,6 +34,15 @@ struct Called {
 pub(crate) struct Asked {
     pub at: usize,
     pub value: u32,
+    /// Whether it stands in the first function, in no task and no region: nothing else happens meanwhile.
+    pub is_free: bool,
+}
+
+/// What slots may have at a form, or where a form stores.
+#[derive(Clone, Copy)]
+pub(crate) struct Met {
+    pub at: usize,
+    pub value: u32,
 }
 
 /// When a slot was last looked at, and what it was then given.
@@ -63,6 +72,9 @@ pub(crate) struct Trace<'a> {
     pub starts: Vec<Touch>,
     /// Of which the turns of loops and lengths are made.
     pub bounds: Vec<u32>,
+    /// What slots may have where jumps meet, and where forms of the first function store that stand in no task and no region.
+    pub meetings: Vec<Met>,
+    pub free_stores: Vec<Met>,
     /// The places of these variables, by the form at which each begins.
     pub globals: BTreeMap<u32, u32>,
     /// By place of a variable of one cell that lives as long as the program, the form at which it begins.
@@ -83,11 +95,24 @@ pub(crate) struct Trace<'a> {
     given: u32,
     /// By index the places of cells that no variable names, which say what runs.
     flags: BTreeMap<u32, u32>,
-    /// What runs.
+    /// What runs: the function, the first one that is called, the task, how many regions are open in the function, and the form.
     function: u32,
+    entry: u32,
     base: u32,
     task: u32,
+    regions: u32,
+    at: usize,
     work: usize,
+}
+
+/// The function that is called first.
+fn entry_of(code: &Code) -> u32 {
+    for form in &code.forms {
+        if let Form::Call(_, function, _) = form {
+            return *function;
+        }
+    }
+    NONE
 }
 
 /// No jump goes there.
@@ -114,6 +139,8 @@ impl<'a> Trace<'a> {
             stores: Vec::new(alloc),
             starts: Vec::new(alloc),
             bounds: Vec::new(alloc),
+            meetings: Vec::new(alloc),
+            free_stores: Vec::new(alloc),
             globals: BTreeMap::new(alloc),
             cells: BTreeMap::new(alloc),
             now: vec![in alloc; PLAIN; slots]?,
@@ -131,8 +158,11 @@ impl<'a> Trace<'a> {
             given,
             flags: BTreeMap::new(alloc),
             function: NONE,
+            entry: entry_of(code),
             base: 0,
             task: 0,
+            regions: 0,
+            at: 0,
             work: 0,
         })
     }
@@ -279,6 +309,7 @@ impl<'a> Trace<'a> {
     /// What begins, meets or turns at a form.
     fn comes_to(&mut self, at: usize) -> Result<(), AllocError> {
         let spot = self.spots.at(at);
+        self.at = at;
         self.base = spot.inside.base;
         self.task = spot.inside.task;
         if spot.function != NONE {
@@ -296,6 +327,7 @@ impl<'a> Trace<'a> {
 
     fn begins(&mut self, function: u32) -> Result<(), AllocError> {
         self.function = function;
+        self.regions = 0;
         for number in 0..self.log.len() {
             if let Some(was) = self.log.get(number).copied() {
                 if let Some(value) = self.now.get_mut(was.slot as usize) {
@@ -328,6 +360,7 @@ impl<'a> Trace<'a> {
             if let Some(was) = self.log.get(number).copied() {
                 if let Some(value) = self.meeting(was.slot)? {
                     self.graph.link(was.value, value, Going::MayBe)?;
+                    self.meetings.push(Met { at: self.at, value })?;
                 }
             }
         }
@@ -455,8 +488,13 @@ impl<'a> Trace<'a> {
     /// A branch or an index is made of a slot, or a task deferred.
     fn asks(&mut self, at: usize, slot: u32) -> Result<(), AllocError> {
         let value = self.reads(slot)?;
-        self.asked.push(Asked { at, value })?;
+        let is_free = self.is_free();
+        self.asked.push(Asked { at, value, is_free })?;
         Ok(())
+    }
+
+    fn is_free(&self) -> bool {
+        self.function == self.entry && self.task == 0 && self.regions == 0
     }
 
     /// A place is moved on. By a number that isn't written in the text it moves from turn to turn, and from call to call.
@@ -560,6 +598,9 @@ impl<'a> Trace<'a> {
                 let place = self.reads(*place)?;
                 let value = self.reads(*from)?;
                 self.stores.push(Touch { place, value })?;
+                if self.is_free() {
+                    self.free_stores.push(Met { at, value: place })?;
+                }
                 Ok(())
             }
             Form::ReadRange(_, _, count) => self.bounds_by(*count),
@@ -573,6 +614,7 @@ impl<'a> Trace<'a> {
                 Ok(())
             }
             Form::Group(_, folded) => {
+                self.regions = self.regions.saturating_add(1);
                 for one in folded {
                     self.is_reduced(one.slot)?;
                 }
@@ -614,6 +656,10 @@ impl<'a> Trace<'a> {
             }
             Form::CallBy(_, _, first) => self.call_by(*first),
             Form::Return => self.returns(),
+            Form::Leave(_) => {
+                self.regions = self.regions.saturating_sub(1);
+                Ok(())
+            }
             Form::Task {
                 when: Some(slot),
                 ..

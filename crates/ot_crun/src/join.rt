@@ -34,6 +34,20 @@ impl Other {
         self.regions.has(self.old(at))
     }
 
+    /// Whether bodies that leave loops are joined: these branches are to be split.
+    pub(crate) fn splits_loops(&self, split: &mut [bool]) -> bool {
+        let mut has_some = false;
+        for region in &self.regions.all {
+            if region.leaves_loop()
+                && let Some(place) = split.get_mut(region.start)
+            {
+                *place = true;
+                has_some = true;
+            }
+        }
+        has_some
+    }
+
     /// The branch that joins it, in the old code.
     pub(crate) fn joined_by(&self, at: usize) -> Option<usize> {
         self.regions.around(self.old(at))
@@ -185,7 +199,12 @@ fn made_of(alloc: Global, code: &Code, sites: &[u32], plan: &Plan<'_>) -> Result
         made.places.push(here)?;
         if let Some(list) = blurs.get(at) {
             for region in list {
-                if let Some(part) = code.forms.get(region.start..at.min(code.forms.len())) {
+                let from = if at == region.end {
+                    region.first
+                } else {
+                    region.start
+                };
+                if let Some(part) = code.forms.get(from..at.min(code.forms.len())) {
                     made.blur(alloc, part)?;
                 }
             }

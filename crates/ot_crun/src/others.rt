@@ -64,6 +64,7 @@ fn other_ways(
             }
             Ok(None)
         }
+        None if other.splits_loops(split) => Ok(None),
         None => Ok(Some(Met::TooMany)),
     }
 }

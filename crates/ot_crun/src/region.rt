@@ -3,7 +3,8 @@
 use ot_code::Form;
 use std::alloc::{AllocError, Global};
 
-/// A branch whose bodies are joined: its first body goes up to a form, and the other one, if there is one, from there to the end.
+/// A branch whose bodies are joined: its first body goes up to a form, and the other one, if there is one, from there to the end. Where the first body leaves
+/// a loop, the other one is all that the loop does behind it.
 #[derive(Clone, Copy, Debug, PartialEq, Eq)]
 pub(crate) struct Region {
     /// The branch.
@@ -14,6 +15,32 @@ pub(crate) struct Region {
     pub end: usize,
     /// Whether a jump to the end stands before the middle.
     pub has_other: bool,
+    /// Where the turns begin of the loop that the first body leaves; else the branch.
+    pub first: usize,
+}
+
+impl Region {
+    /// Whether its first body leaves a loop.
+    pub(crate) fn leaves_loop(self) -> bool {
+        self.first < self.start
+    }
+
+    /// The first form that stands in it.
+    fn inside(self) -> usize {
+        if self.leaves_loop() {
+            self.first
+        } else {
+            self.start.saturating_add(1)
+        }
+    }
+
+    fn has(self, at: usize) -> bool {
+        self.inside() <= at && at < self.end
+    }
+
+    fn length(self) -> usize {
+        self.end.saturating_sub(self.first)
+    }
 }
 
 /// Whether a form creates, awaits, calls or ends nothing, and jumps nowhere but here.
@@ -53,7 +80,7 @@ fn are_plain(forms: &[Form], start: usize, end: usize) -> bool {
 }
 
 /// The region of a branch at this form, if its bodies can be joined.
-pub(crate) fn region_at(forms: &[Form], at: usize) -> Option<Region> {
+fn region_at(forms: &[Form], at: usize, looks: &mut usize) -> Option<Region> {
     let Form::Branch(_, _, to) = forms.get(at)? else {
         return None;
     };
@@ -71,6 +98,7 @@ pub(crate) fn region_at(forms: &[Form], at: usize) -> Option<Region> {
                 middle,
                 end,
                 has_other: true,
+                first: at,
             });
         }
     }
@@ -80,7 +108,48 @@ pub(crate) fn region_at(forms: &[Form], at: usize) -> Option<Region> {
             middle,
             end: middle,
             has_other: false,
+            first: at,
         });
+    }
+    region_of_loop(forms, at, middle, looks)
+}
+
+/// The region of a branch whose first body leaves a loop: its turns are executed to the end, too.
+fn region_of_loop(forms: &[Form], at: usize, middle: usize, looks: &mut usize) -> Option<Region> {
+    let Form::Jump(end) = forms.get(middle.checked_sub(1)?)? else {
+        return None;
+    };
+    let end = *end as usize;
+    if end <= middle || end.saturating_sub(at) > *looks {
+        return None;
+    }
+    *looks -= end.saturating_sub(at);
+    let first = turns_from(forms, at, middle, end)?;
+    if end.saturating_sub(first) > *looks {
+        return None;
+    }
+    *looks -= end.saturating_sub(first);
+    if !are_plain(forms, first, end) {
+        return None;
+    }
+    Some(Region {
+        start: at,
+        middle,
+        end,
+        has_other: true,
+        first,
+    })
+}
+
+/// Where the turns begin of the innermost loop around a branch whose last forms stand here.
+fn turns_from(forms: &[Form], at: usize, middle: usize, end: usize) -> Option<usize> {
+    for form in forms.get(middle..end)? {
+        if let Form::Jump(to) = form {
+            let to = *to as usize;
+            if to < at {
+                return Some(to);
+            }
+        }
     }
     None
 }
@@ -106,12 +175,13 @@ pub(crate) fn regions_of(
     let mut all = Vec::new(alloc);
     let mut depths = vec![in alloc; 0u32; forms.len()]?;
     let mut left = MOST;
+    let mut looks = MOST;
     for (at, is_marked) in marks.iter().enumerate() {
         if !*is_marked || matches!(split.get(at), Some(true)) {
             continue;
         }
-        if let Some(region) = region_at(forms, at) {
-            let length = region.end.saturating_sub(region.start);
+        if let Some(region) = region_at(forms, at, &mut looks) {
+            let length = region.length();
             if length > left {
                 return Ok(None);
             }
@@ -136,7 +206,7 @@ impl Regions {
     pub(crate) fn around(&self, at: usize) -> Option<usize> {
         let mut found = None;
         for region in &self.all {
-            if region.start < at && at < region.end {
+            if region.has(at) {
                 found = Some(region.start);
             }
         }
@@ -146,7 +216,7 @@ impl Regions {
 
 /// Counts a region at each of its forms.
 fn deepen(depths: &mut [u32], region: Region) {
-    for place in region.start.saturating_add(1)..region.end {
+    for place in region.inside()..region.end {
         if let Some(depth) = depths.get_mut(place) {
             *depth = depth.saturating_add(1);
         }
