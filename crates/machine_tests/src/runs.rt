@@ -81,14 +81,14 @@ fn passed(
 #[test]
 fn tasks(rt: HostRuntime) -> Result<(), Fail> {
     let (rows, wrong) = passed(rt.alloc(), &[], TASKS)?;
-    assert!(rt; rows == 16, "{wrong}");
+    assert!(rt; rows == 18, "{wrong}");
     Ok(())
 }
 
 #[test]
 fn faults(rt: HostRuntime) -> Result<(), Fail> {
     let (rows, wrong) = passed(rt.alloc(), &[], FAULTS)?;
-    assert!(rt; rows == 23, "{wrong}");
+    assert!(rt; rows == 24, "{wrong}");
     Ok(())
 }
 
