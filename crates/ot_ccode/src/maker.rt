@@ -194,9 +194,10 @@ pub(crate) struct Maker<'a> {
     /// Cells of its own that a task has in the place of items of reductions: where those of what runs begin.
     pub(crate) copied: Vec<Copied>,
     pub(crate) first_copied: usize,
-    /// Variables that have the number of the thread that runs, and how many of them are of tasks around this one.
+    /// By variable: the number of the task in which it has the number of the thread that runs; the number of this task, and how many there were.
     pub(crate) numbered: Vec<u32>,
-    pub(crate) first_numbered: usize,
+    pub(crate) level: u32,
+    pub(crate) levels: u32,
     /// Places of `lastprivate` variables.
     pub(crate) lasts: Vec<Was>,
     /// Loops whose turns are divided among tasks.

@@ -3,9 +3,11 @@
 use crate::fault::Fault;
 use crate::maker::{Aim, Maker, NUMBER, Way};
 use crate::names::{Known, library_of};
+use crate::task::Bases;
 use crate::team::Whose;
 use ot_clayout::{Class, type_of};
 use ot_code::Form;
+use ot_csharing::How;
 use ot_ctree::{Expr, Initial};
 
 /// How many casts are looked through, and how deep a place nests.
@@ -34,27 +36,49 @@ impl<'a> Maker<'a> {
     }
 
     fn is_numbered(&self, variable: u32) -> bool {
-        for place in self.first_numbered..self.numbered.len() {
-            if self.numbered.get(place) == Some(&variable) {
-                return true;
-            }
+        self.numbered.get(variable as usize) == Some(&self.level)
+    }
+
+    fn notes_variable(&mut self, variable: u32) {
+        if let Some(level) = self.numbered.get_mut(variable as usize) {
+            *level = self.level;
         }
-        false
     }
 
     /// A variable is declared: it is noted where it has the thread's number.
-    pub(crate) fn notes_number(
-        &mut self,
-        variable: u32,
-        initial: &Option<Initial>,
-    ) -> Result<(), Fault> {
-        if let Some(Initial::Value(value)) = initial
-            && self.is_thread_number(CASTS, value)
-            && !self.owned.is_changed(variable)
-        {
-            self.numbered.push(variable)?;
+    pub(crate) fn notes_number(&mut self, variable: u32, initial: &Option<Initial>) {
+        if let Some(Initial::Value(value)) = initial {
+            self.notes_value(variable, value);
         }
-        Ok(())
+    }
+
+    /// A variable gets a value: the only one that it ever has, if it is the thread's number.
+    fn notes_value(&mut self, variable: u32, value: &Expr) {
+        if self.is_thread_number(CASTS, value) && !self.owned.is_changed(variable) {
+            self.notes_variable(variable);
+        }
+    }
+
+    /// What a statement assigns.
+    pub(crate) fn notes_assigned(&mut self, done: &Expr) {
+        if let Expr::Assign(_, None, to, value) = done
+            && let Expr::Variable(_, variable) = &**to
+        {
+            self.notes_value(*variable, value);
+        }
+    }
+
+    /// In shared work a variable of the thread has its number still.
+    pub(crate) fn keeps_numbers(&mut self, bases: Bases, from: u32, to: u32) {
+        for place in bases.taken..self.taken.len() {
+            if let Some(taken) = self.taken.get(place).copied()
+                && taken.how == How::Own
+                && let Some(level) = self.numbered.get_mut(taken.variable as usize)
+                && *level == from
+            {
+                *level = to;
+            }
+        }
     }
 
     /// Whether a place is an element that the thread's number names, or lies within such a one.

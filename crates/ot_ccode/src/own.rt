@@ -199,6 +199,21 @@ impl<'a> Search<'a> {
         library_of(self.unit, self.known, function)
     }
 
+    /// Whether a value is the number of the thread that asks for it.
+    fn is_thread_number(&self, depth: u32, value: &Expr) -> bool {
+        if depth == 0 {
+            return false;
+        }
+        match value {
+            Expr::Cast(_, _, one) => self.is_thread_number(depth - 1, one),
+            Expr::Call(_, function, _) => matches!(
+                self.known_of(function),
+                Some(Known::ThreadNumber)
+            ),
+            _ => false,
+        }
+    }
+
     /// Whether a value is what is allocated there, or null.
     fn is_new(&self, depth: u32, value: &Expr) -> bool {
         if depth == 0 {
@@ -375,8 +390,10 @@ impl<'a> Search<'a> {
                 self.expression(depth, one)?;
                 self.expression(depth, other)
             }
-            Expr::Assign(_, _, one, other) => {
-                self.changes(one);
+            Expr::Assign(_, sign, one, other) => {
+                if sign.is_some() || !self.is_thread_number(DEEPEST, other) {
+                    self.changes(one);
+                }
                 self.expression(depth, one)?;
                 self.expression(depth, other)
             }

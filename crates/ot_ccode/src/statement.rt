@@ -40,7 +40,7 @@ impl<'a> Maker<'a> {
         if !is_automatic(declared) {
             return Ok(());
         }
-        self.notes_number(variable, initial)?;
+        self.notes_number(variable, initial);
         let sort = self.sort_of(variable);
         self.measure(16, at, sort)?;
         if self.sharing.is_object(variable) {
@@ -329,7 +329,11 @@ impl<'a> Maker<'a> {
                     let depth = below(depth, call.at)?;
                     self.made_here(depth, call)
                 }
-                None => self.discards(value),
+                None => {
+                    self.discards(value)?;
+                    self.notes_assigned(value);
+                    Ok(())
+                }
             },
             Stmt::Declares(at, variable, initial) => self.declares(*at, *variable, initial),
             Stmt::Block(at, list, end) => {

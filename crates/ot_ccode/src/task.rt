@@ -33,8 +33,8 @@ pub(crate) struct Opened {
     whose: Whose,
     text: u32,
     copied: usize,
-    /// How many variables with the number of a thread are of tasks around its parent; and the slot of what its parent's thread has for a number.
-    numbered: usize,
+    /// The number of its parent, and the slot of what its parent's thread has for a number.
+    level: u32,
     number: Option<u32>,
 }
 
@@ -283,6 +283,7 @@ impl<'a> Maker<'a> {
         let mut opened = self.opens(task, first, count, bases, flag);
         opened.number = number;
         self.hides_number(at, number)?;
+        self.keeps_numbers(bases, opened.level, self.level);
         self.binds(at, bases)?;
         if let Some((inner, _)) = finals {
             self.set_flag(at, FINAL, inner)?;
@@ -312,11 +313,12 @@ impl<'a> Maker<'a> {
             whose: self.whose,
             text: self.labels.begins(),
             copied: self.first_copied,
-            numbered: self.first_numbered,
+            level: self.level,
             number: None,
         };
         self.first_copied = self.copied.len();
-        self.first_numbered = self.numbered.len();
+        self.levels = self.levels.saturating_add(1);
+        self.level = self.levels;
         self.frame = Frame {
             next: count,
             most: count,
@@ -444,8 +446,8 @@ impl<'a> Maker<'a> {
         self.labels.goes_on(opened.text);
         self.copied.truncate(self.first_copied);
         self.first_copied = opened.copied;
-        self.numbered.truncate(self.first_numbered);
-        self.first_numbered = opened.numbered;
+        self.keeps_numbers(opened.bases, self.level, opened.level);
+        self.level = opened.level;
         self.forgets(opened.bases);
         Ok(())
     }

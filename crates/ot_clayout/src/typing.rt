@@ -57,7 +57,11 @@ fn signed(unit: &Unit, sign: Sign, one: Sort) -> Option<Sort> {
     match sign {
         Sign::Not => Some(Sort::INT),
         Sign::Address => Some(one.pointer()),
-        Sign::Follow => one.target(unit),
+        // (of a function it is the function: ISO C11, section 6.5.3.2)
+        Sign::Follow => match one.class(unit) {
+            Class::Function(_) => Some(one),
+            _ => one.target(unit),
+        },
         Sign::Plus | Sign::Minus | Sign::Complement => match one.class(unit) {
             Class::Integer(integer) => Some(Sort::integer(promoted(integer))),
             _ => Some(one),

@@ -1,21 +1,16 @@
 //! A text, executed and judged.
 use crate::drawing::drawn;
-use crate::join::{Other, Placed};
-use crate::locked::{Apartness, changes, has_locks, locked_race, locked_ways};
-use crate::others::judge_others;
 use crate::placing::origin_of;
-use crate::reading::{Read, Reading, byte_of, reading_of};
+use crate::reading::{Placed, Read, Reading, byte_of, reading_of};
 use crate::reason::of_run;
-use crate::telling::{Source, more_races, outside, race_found, with_assumed, wrong};
-use crate::ways::{QUESTIONS, WAYS, asks_at, first_limit, way_limits};
+use crate::telling::{Source, more_races, of_file, outside, race_found, with_assumed, wrong};
 use ot_code::Form;
-use ot_corder::{Order, races_by};
 use ot_ctoken::Whole;
 use ot_diagnosis::{Code, Diagnosis};
-use ot_machine::{Fault, Limits, Reason, Run, Ways, run_code};
-use ot_outline::{Told, events_of, race_of};
+use ot_machine::{Fault, Limits, Reason, Run, run_code};
 use ot_race::Race;
-use ot_races::More;
+use ot_races::{More, Races};
+use ot_verdict::{Bounds, Finding, finding_of};
 use std::alloc::{AllocError, Global};
 use std::collections::BTreeSet;
 
@@ -41,13 +36,8 @@ pub struct Judged {
     pub(crate) picture: Option<Vec<u8>>,
 }
 
-/// How many races are told, and how many are looked at.
+/// How many races are told.
 const MOST: usize = 20;
-
-const ALL: usize = 1_000_000;
-
-/// More events than any run has.
-const EVENTS: usize = 1 << 32;
 
 const TOO_MANY_WAYS: &str = "it has more ways than are judged: nothing is known of this condition";
 
@@ -64,10 +54,27 @@ const CROWDED: &str = "a cell is touched under too many sets of locks";
 const IN_RUN_APART: &str =
     "with these numbers nothing orders the two, and they hold no lock in common";
 
-const TOO_LONG: &str = "the run touches too many cells";
-
 /// What is known of a race of the run with the text's own numbers.
 const IN_RUN: &str = "with these numbers nothing orders the two";
+
+const ON_WAY: &str = "some path has both";
+
+const ONLY_RUN: &str =
+    "only the run with these numbers was judged: other numbers in memory may take other ways, and there are too many";
+
+/// How many steps one of several ways takes at most.
+const STEPS: u32 = 1_000_000;
+
+/// How far code is executed.
+fn bounds() -> Bounds {
+    Bounds {
+        run: Limits::usual(),
+        way: Limits {
+            steps: STEPS,
+            ..Limits::usual()
+        },
+    }
+}
 
 /// Executes a text, with those of the files that it includes, behind definitions of a command line, each `NAME=VALUE` or `NAME`, and
 /// judges what its tasks touch.
@@ -169,11 +176,11 @@ fn with_picture(judged: Judged, whole: Option<Vec<u8>>) -> Judged {
 
 /// What is judged: a text with those of the files that it includes, and what they are read as.
 #[derive(Clone, Copy)]
-pub(crate) struct Of<'a> {
-    pub whole: &'a Whole,
-    pub reading: &'a Reading,
+struct Of<'a> {
+    whole: &'a Whole,
+    reading: &'a Reading,
     /// Whether a race is drawn.
-    pub draws: bool,
+    draws: bool,
 }
 
 impl<'a> Of<'a> {
@@ -189,11 +196,7 @@ impl<'a> Of<'a> {
     }
 }
 
-pub(crate) fn one_found(
-    alloc: Global,
-    verdict: Verdict,
-    one: Diagnosis,
-) -> Result<Judged, AllocError> {
+fn one_found(alloc: Global, verdict: Verdict, one: Diagnosis) -> Result<Judged, AllocError> {
     let mut found = Vec::new(alloc);
     found.push(one)?;
     Ok(Judged {
@@ -203,106 +206,42 @@ pub(crate) fn one_found(
     })
 }
 
-/// How many objects the run writes under locks at most, by their names, and how often one more is found on its ways.
-const CHANGING: usize = 32;
-
-const LATE: usize = 8;
-
-/// What is told, or the name of what is written under a lock, of which nothing is to be known then.
-#[derive(Drop)]
-pub(crate) enum Outcome {
-    Judged(Judged),
-    Changes(u32),
-}
-
 fn judge(alloc: Global, of: Of<'_>, placed: Placed) -> Result<Judged, AllocError> {
     let mut placed = placed;
-    for _ in 0..LATE {
-        let Some(run) = named_run(alloc, &mut placed)? else {
-            return at_form(alloc, of, &placed, 0, TOO_MUCH_CHANGES);
-        };
-        match judge_once(alloc, of, &placed, &run)? {
-            Outcome::Judged(judged) => return Ok(judged),
-            Outcome::Changes(name) => placed.code.changing.push(name)?,
-        }
-    }
-    at_form(alloc, of, &placed, 0, TOO_MUCH_CHANGES)
+    let parameters = of.reading.parameters(alloc)?;
+    let closed = of.reading.closed(alloc)?;
+    let found = finding_of(alloc, &mut placed.code, bounds(), &parameters, &closed)?;
+    told(alloc, of, &placed, found)
 }
 
-/// The run, of which the code says what it writes under locks; none where that is too much.
-fn named_run(alloc: Global, placed: &mut Placed) -> Result<Option<Run>, AllocError> {
-    let none = Vec::new(alloc);
-    for _ in 0..=CHANGING {
-        let run = run_code(alloc, &placed.code, Limits::usual(), &none)?;
-        match changes(run.fault) {
-            Some(name) => placed.code.changing.push(name)?,
-            None => return Ok(Some(run)),
+/// What is told of a finding.
+fn told(alloc: Global, of: Of<'_>, placed: &Placed, found: Finding) -> Result<Judged, AllocError> {
+    match found {
+        Finding::Nothing(_) => Ok(clean(alloc)),
+        Finding::OnlyRun(_) => only_run(alloc),
+        Finding::InRun(run, races) => all_races(alloc, of, &run, &races),
+        Finding::Apart(run, race) => one_race(alloc, of, &run, race, IN_RUN_APART),
+        Finding::OnWay(run, race) | Finding::OnOtherWay(run, race) => {
+            one_race(alloc, of, &run, race, ON_WAY)
         }
-    }
-    Ok(None)
-}
-
-fn judge_once(
-    alloc: Global,
-    of: Of<'_>,
-    placed: &Placed,
-    run: &Run,
-) -> Result<Outcome, AllocError> {
-    if run.asked > 0 {
-        return judge_asking(alloc, of, placed);
-    }
-    if let Some(fault) = run.fault {
-        let judged = ended(alloc, of, placed, fault)?;
-        return Ok(Outcome::Judged(judged));
-    }
-    let first = judge_run_alone(alloc, of, run)?;
-    if first.verdict != Verdict::Clean {
-        return Ok(Outcome::Judged(first));
-    }
-    judge_others(alloc, of, placed, first)
-}
-
-/// Of a text whose run asks: its ways. Where they are too many it isn't judged, unless it is with less that is known.
-fn judge_asking(alloc: Global, of: Of<'_>, placed: &Placed) -> Result<Outcome, AllocError> {
-    let mut budget = WAYS;
-    match ways_of(alloc, of, placed, None, &mut budget)? {
-        Met::Changes(name) => Ok(Outcome::Changes(name)),
-        Met::Nothing => judge_others(alloc, of, placed, clean(alloc)),
-        Met::TooMany => {
-            let at = asks_at(alloc, &placed.code, way_limits())?;
-            let first = at_form(alloc, of, placed, at, TOO_MANY_WAYS)?;
-            judge_others(alloc, of, placed, first)
-        }
-        Met::Races(judged) => Ok(Outcome::Judged(judged)),
-        Met::Fault(fault) => {
-            let judged = ended(alloc, of, placed, fault)?;
-            Ok(Outcome::Judged(judged))
-        }
-        Met::Crowded => {
-            let judged = at_form(alloc, of, placed, 0, CROWDED)?;
-            Ok(Outcome::Judged(judged))
-        }
+        Finding::Ended(fault) => ended(alloc, of, placed, fault),
+        Finding::TooManyWays(at) => at_form(alloc, of, placed, at, TOO_MANY_WAYS),
+        Finding::Crowded => at_form(alloc, of, placed, 0, CROWDED),
+        Finding::TooManyChanges => at_form(alloc, of, placed, 0, TOO_MUCH_CHANGES),
     }
 }
 
-/// Of a run that asks nothing.
-fn judge_run_alone(alloc: Global, of: Of<'_>, run: &Run) -> Result<Judged, AllocError> {
-    if run.sets.len() <= 1 {
-        return judge_one(alloc, of, run);
-    }
-    match locked_race(alloc, run)? {
-        Apartness::Nothing => Ok(clean(alloc)),
-        Apartness::Races(race) => one_race(alloc, of, run, race, IN_RUN_APART),
-        Apartness::TooMany => {
-            let words = String::from_str(alloc, CROWDED)?;
-            let one = outside(alloc, of.whole, 0, words)?;
-            one_found(alloc, Verdict::Outside, one)
-        }
-    }
+fn only_run(alloc: Global) -> Result<Judged, AllocError> {
+    let words = String::from_str(alloc, ONLY_RUN)?;
+    one_found(
+        alloc,
+        Verdict::OnlyRun,
+        of_file(alloc, Code::OnlyRun, words),
+    )
 }
 
 /// A race alone.
-pub(crate) fn one_race(
+fn one_race(
     alloc: Global,
     of: Of<'_>,
     run: &Run,
@@ -329,15 +268,9 @@ fn picture_of(
     Ok(Some(picture))
 }
 
-/// Of a run that asks nothing: its races, each pair of places in the text once, in the order of the later touch.
-fn judge_one(alloc: Global, of: Of<'_>, run: &Run) -> Result<Judged, AllocError> {
+/// The races of a run, each pair of places in the text once, in the order of the later touch.
+fn all_races(alloc: Global, of: Of<'_>, run: &Run, races: &Races) -> Result<Judged, AllocError> {
     let source = &of.source(run);
-    let events = events_of(alloc, &run.log)?;
-    if events.len() >= EVENTS {
-        let one = outside(alloc, of.whole, 0, String::from_str(alloc, TOO_LONG)?)?;
-        return one_found(alloc, Verdict::Outside, one);
-    }
-    let races = races_by(alloc, Order::OfC, events, ALL)?;
     let mut pairs = BTreeSet::new(alloc);
     let mut found = Vec::new(alloc);
     let mut more: u64 = 0;
@@ -350,9 +283,6 @@ fn judge_one(alloc: Global, of: Of<'_>, run: &Run) -> Result<Judged, AllocError>
         } else {
             more = more.saturating_add(1);
         }
-    }
-    if found.is_empty() {
-        return Ok(clean(alloc));
     }
     let more = match races.more {
         More::Exactly(0) => More::Exactly(more),
@@ -372,54 +302,11 @@ fn judge_one(alloc: Global, of: Of<'_>, run: &Run) -> Result<Judged, AllocError>
     })
 }
 
-pub(crate) fn clean(alloc: Global) -> Judged {
+fn clean(alloc: Global) -> Judged {
     Judged {
         verdict: Verdict::Clean,
         found: Vec::new(alloc),
         picture: None,
-    }
-}
-
-/// What is met on all ways.
-#[derive(Drop)]
-pub(crate) enum Met {
-    Nothing,
-    Races(Judged),
-    /// What the judge can't do.
-    Fault(Fault),
-    TooMany,
-    /// A cell is touched under too many sets of locks.
-    Crowded,
-    /// What this names is written under a lock, and the code doesn't say so.
-    Changes(u32),
-}
-
-/// Of code that asks: all its ways, unless there are too many. Each takes one from the budget.
-pub(crate) fn ways_of(
-    alloc: Global,
-    of: Of<'_>,
-    placed: &Placed,
-    joined: Option<&Other>,
-    budget: &mut u32,
-) -> Result<Met, AllocError> {
-    let code = &placed.code;
-    if has_locks(code) {
-        return locked_ways(alloc, of, placed, joined, budget);
-    }
-    let limits = way_limits();
-    let ways = Ways { code, limits };
-    let none = Vec::new(alloc);
-    match race_of(alloc, Order::OfC, &ways, QUESTIONS, budget, &none)? {
-        Told::RacesOn(answers, race) => {
-            let run = run_code(alloc, code, limits, &answers)?;
-            let judged = one_race(alloc, of, &run, race, "some path has both")?;
-            Ok(Met::Races(judged))
-        }
-        Told::RacesNowhere => match first_limit(alloc, code, limits, joined)? {
-            Some(fault) => Ok(Met::Fault(fault)),
-            None => Ok(Met::Nothing),
-        },
-        Told::TooMany => Ok(Met::TooMany),
     }
 }
 

@@ -1,14 +1,21 @@
 //! From a text to the machine's code.
 use crate::beyond::beyond;
-use crate::join::Placed;
 use crate::reason::{of_tokens, of_tree};
 use ot_ccode as code;
 use ot_ccode::{Known, Why, meaning_of, translate};
 use ot_clayout::Layouts;
+use ot_code::Code;
 use ot_cparse::{ParseError, unit_of};
 use ot_ctoken::{Kind, Names, ReadError, Token, Whole, tokens_of};
 use ot_ctree::{Storage, Unit};
 use std::alloc::{AllocError, Global};
+
+/// Code, and by form the token at which stands what it is made of.
+#[derive(Drop)]
+pub(crate) struct Placed {
+    pub code: Code,
+    pub sites: Vec<u32>,
+}
 
 /// A text that is read: its names, its tokens and its tree.
 #[derive(Drop)]

@@ -78,11 +78,3 @@ pub(crate) fn of_run(reason: Reason) -> &'static str {
         Reason::TooMuch => "the run needs too much memory",
     }
 }
-
-/// Whether the program is wrong that comes to this, and not only too much for the judge.
-pub(crate) fn is_error(reason: Reason) -> bool {
-    matches!(
-        reason,
-        Reason::Null | Reason::Outside | Reason::Ended | Reason::DivideByZero
-    )
-}

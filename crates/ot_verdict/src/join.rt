@@ -6,17 +6,10 @@ use ot_code::{Code, Form, Function};
 use std::alloc::{AllocError, Global};
 use std::collections::BTreeSet;
 
-/// Code, and by form the token at which stands what it is made of.
-#[derive(Drop)]
-pub(crate) struct Placed {
-    pub code: Code,
-    pub sites: Vec<u32>,
-}
-
 /// The code in which less is known, and by its form the one of which that is made.
 #[derive(Drop)]
 pub(crate) struct Other {
-    pub placed: Placed,
+    pub code: Code,
     olds: Vec<u32>,
     regions: Regions,
 }
@@ -87,20 +80,17 @@ impl<'a> Plan<'a> {
 #[derive(Drop)]
 struct Made {
     forms: Vec<Form>,
-    sites: Vec<u32>,
     olds: Vec<u32>,
     /// By form of the old code, where it stands in the new one.
     places: Vec<u32>,
     /// Tests in the new code, which go on behind themselves.
     tests: Vec<u32>,
-    site: u32,
     old: u32,
 }
 
 impl Made {
     fn put(&mut self, form: Form) -> Result<(), AllocError> {
         self.forms.push(form)?;
-        self.sites.push(self.site)?;
         self.olds.push(self.old)?;
         Ok(())
     }
@@ -178,22 +168,16 @@ fn blurs(alloc: Global, code: &Code, plan: &Plan<'_>) -> Result<Vec<Vec<Region>>
 }
 
 /// The forms of the code at their new places, whose jumps still name old ones.
-fn made_of(alloc: Global, code: &Code, sites: &[u32], plan: &Plan<'_>) -> Result<Made, AllocError> {
+fn made_of(alloc: Global, code: &Code, plan: &Plan<'_>) -> Result<Made, AllocError> {
     let blurs = blurs(alloc, code, plan)?;
     let mut made = Made {
         forms: Vec::new(alloc),
-        sites: Vec::new(alloc),
         olds: Vec::new(alloc),
         places: Vec::new(alloc),
         tests: Vec::new(alloc),
-        site: 0,
         old: 0,
     };
     for (at, form) in code.forms.iter().enumerate() {
-        made.site = match sites.get(at) {
-            Some(site) => *site,
-            None => 0,
-        };
         made.old = u32::try_from(at).unwrap_or(u32::MAX);
         let here = made.here();
         made.places.push(here)?;
@@ -239,7 +223,7 @@ fn put_form(
                 // An index that isn't known, and doesn't come from memory, comes from what was joined: it isn't judged.
                 let here = made.here();
                 made.tests.push(here)?;
-                made.put(Form::Repeat(made.site, *number, 0))?;
+                made.put(Form::Repeat(0, *number, 0))?;
                 made.put(Form::Advance(*to, *place, *number, *stride))
             }
         }
@@ -354,15 +338,14 @@ fn move_jumps(forms: &mut [Form], places: &[u32]) {
 /// where it is too much.
 pub(crate) fn forgotten(
     alloc: Global,
-    placed: &Placed,
+    code: &Code,
     marks: &[bool],
     split: &[bool],
 ) -> Result<Option<Other>, AllocError> {
-    let code = &placed.code;
     let Some(plan) = plan_of(alloc, code, marks, split)? else {
         return Ok(None);
     };
-    let mut made = made_of(alloc, code, &placed.sites, &plan)?;
+    let mut made = made_of(alloc, code, &plan)?;
     move_jumps(&mut made.forms, &made.places);
     for test in &made.tests {
         if let Some(Form::Repeat(_, _, to)) = made.forms.get_mut(*test as usize) {
@@ -376,22 +359,14 @@ pub(crate) fn forgotten(
         functions.push(Function { start, slots })?;
     }
     let changing = code.changing.as_slice().to_vec(alloc)?;
-    let Made {
-        forms,
-        sites,
-        olds,
-        ..
-    } = made;
+    let Made { forms, olds, .. } = made;
     let Plan { regions, .. } = plan;
     Ok(Some(Other {
-        placed: Placed {
-            code: Code {
-                forms,
-                slots,
-                functions,
-                changing,
-            },
-            sites,
+        code: Code {
+            forms,
+            slots,
+            functions,
+            changing,
         },
         olds,
         regions,

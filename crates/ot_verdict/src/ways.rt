@@ -1,8 +1,14 @@
 //! Ways of a run, by the answers to what isn't known.
+ghost use Rattle.std.specs.Prelude.{◌≡◌, ◌++◌, ◌∷◌, [], IfOk, None};
+ghost use Rattle.ot_verdict.specs.Findings.{Meets, IsFault, IsOldOr};
+
+use crate::finding::{Met, Rest};
 use crate::join::Other;
-use crate::reason::is_error;
+use crate::locked::{has_locks, locked_ways};
 use ot_code::Code;
-use ot_machine::{Fault, Limits, run_code};
+use ot_corder::Order;
+use ot_machine::{Fault, Limits, Reason, Ways, run_code};
+use ot_outline::{Told, race_of};
 use std::alloc::{AllocError, Global};
 
 /// How many questions are answered on one way, and how many ways are gone.
@@ -10,19 +16,47 @@ pub(crate) const QUESTIONS: u32 = 12;
 
 pub(crate) const WAYS: u32 = 64;
 
-/// How many steps one of several ways takes at most.
-const STEPS: u32 = 1_000_000;
-
-/// How far each of several ways goes.
-pub(crate) fn way_limits() -> Limits {
-    Limits {
-        steps: STEPS,
-        ..Limits::usual()
+/// Of code that asks: all its ways, unless there are too many. Each takes one from the budget.
+pub(crate) fn ways_of(
+    alloc: Global,
+    code: &Code,
+    limits: Limits,
+    joined: Option<&Other>,
+    budget: &mut u32,
+) -> Result<Met, AllocError>
+    ensures { IfOk result (Meets code.now limits) }
+{
+    if has_locks(code) {
+        return locked_ways(alloc, code, limits, joined, budget);
+    }
+    let ways = Ways { code, limits };
+    let none = Vec::new(alloc);
+    match race_of(alloc, Order::OfC, &ways, QUESTIONS, budget, &none)? {
+        Told::RacesOn(answers, race) => {
+            let run = run_code(alloc, code, limits, &answers)?;
+            Ok(Met::Races(run, race))
+        }
+        Told::RacesNowhere => {
+            if let Some(fault) = first_limit(alloc, code, limits, joined)? {
+                return Ok(Met::Fault(fault));
+            }
+            Ok(Met::Nothing(Rest::Ways))
+        }
+        Told::TooMany => Ok(Met::TooMany),
     }
 }
 
+/// The answers with one more.
+pub(crate) fn with(alloc: Global, given: &[bool], next: bool) -> Result<Vec<bool>, AllocError>
+    ensures { IfOk result (λ more. more.items ≡ given.now ++ next ∷ []) }
+{
+    let mut more = given.to_vec(alloc)?;
+    more.push(next)?;
+    Ok(more)
+}
+
 /// The next answers behind these, which begin with yes: the last yes becomes a no. There are none behind all no.
-pub(crate) fn next(answers: &mut Vec<bool>) -> Result<bool, AllocError> {
+fn next(answers: &mut Vec<bool>) -> Result<bool, AllocError> {
     for _ in 0..answers.len() {
         match answers.pop() {
             Some(true) => {
@@ -38,12 +72,14 @@ pub(crate) fn next(answers: &mut Vec<bool>) -> Result<bool, AllocError> {
 
 /// What ends a way that isn't an error of the program: what the judge can't do, and what a body comes to that is joined with another. On a
 /// way that asks nothing each fault does, and so it does where no way comes to its end.
-pub(crate) fn first_limit(
+fn first_limit(
     alloc: Global,
     code: &Code,
     limits: Limits,
     joined: Option<&Other>,
-) -> Result<Option<Fault>, AllocError> {
+) -> Result<Option<Fault>, AllocError>
+    ensures { IfOk result (IsFault code.now limits) }
+{
     let mut answers = Vec::new(alloc);
     let mut last = None;
     let mut has_ended = false;
@@ -53,18 +89,37 @@ pub(crate) fn first_limit(
             answers.push(true)?;
             continue;
         }
-        match run.fault {
-            Some(fault) if is_limit(fault, joined) => return Ok(Some(fault)),
-            Some(fault) => last = Some(fault),
-            None => has_ended = true,
+        if let Some(fault) = run.fault
+            && is_limit(fault, joined)
+        {
+            return Ok(Some(fault));
         }
+        has_ended = has_ended || run.fault.is_none();
+        last = later_of(last, run.fault);
         if !next(&mut answers)? {
-            break;
+            return Ok(unless(has_ended, last));
         }
     }
-    Ok(if has_ended { None } else { last })
+    Ok(unless(has_ended, last))
 }
 
+/// The fault of a way, or of those before where it has none.
+fn later_of(last: Option<Fault>, fault: Option<Fault>) -> Option<Fault>
+    ensures { IsOldOr last fault result }
+{
+    match fault {
+        Some(_) => fault,
+        None => last,
+    }
+}
+
+fn unless(has_ended: bool, last: Option<Fault>) -> Option<Fault>
+    ensures { IsOldOr last None result }
+{
+    if has_ended { None } else { last }
+}
+
+/// Whether a fault ends the judging: one that isn't the program's own, or that every way has.
 pub(crate) fn is_limit(fault: Fault, joined: Option<&Other>) -> bool {
     if fault.asked == 0 || !is_error(fault.reason) {
         return true;
@@ -73,6 +128,14 @@ pub(crate) fn is_limit(fault: Fault, joined: Option<&Other>) -> bool {
         Some(other) => other.is_joined(fault.at),
         None => false,
     }
+}
+
+/// Whether it is the program that errs, where this ends a run.
+fn is_error(reason: Reason) -> bool {
+    matches!(
+        reason,
+        Reason::Null | Reason::Outside | Reason::Ended | Reason::DivideByZero
+    )
 }
 
 /// The form by which a run asks more than is answered, or else the last by which it asks.

@@ -1,0 +1,24 @@
+/* A function that is called by `*` before its name gives what it gives by its name, also as a side of `?:`. */
+#include <stdio.h>
+
+static long long beyond_int(void) {
+    return 1LL << 40;
+}
+
+int main(void) {
+    int x = 0;
+    long long size = 1 ? (*beyond_int)() : 0;
+    int steps = sizeof((*beyond_int)()) == sizeof(long long) ? 1 : 2;
+#pragma omp parallel
+#pragma omp single
+    {
+        if (size > 5) {
+#pragma omp task shared(x)
+            x = steps;
+        }
+#pragma omp task shared(x)
+        x += 2;
+    }
+    printf("%d\n", x);
+    return 0;
+}
