@@ -3,9 +3,9 @@ use Rattle.std.specs.Prelude.{◌≡◌, ◌≢◌, true, ℕ, List, [], map, Op
 use Rattle.std.specs.List.{ends_with}
 use Rattle.clap.specs.Words.{Row, Text, all_of, first_of, one_of}
 use Rattle.ot_commands.specs.Rules.{IsRead, IsSaid, entered_name, entered_rows}
-use Rattle.ot_diagnosis.specs.declared.format.Format.{Format}
-use Rattle.ot_diagnosis.specs.declared.format.Format.TheVariants.{Text as AsText, Json, Sarif, Github}
-use Rattle.ot_diagnosis.specs.declared.paint.Paint.{Paint}
+use Rattle.ot_file_diagnosis.specs.declared.format.Format.{Format}
+use Rattle.ot_file_diagnosis.specs.declared.format.Format.TheVariants.{Text as AsText, Json, Sarif, Github}
+use Rattle.ot_file_diagnosis.specs.declared.paint.Paint.{Paint}
 use Rattle.omptask.specs.declared.asked.Ask.{Ask}
 use Rattle.omptask.specs.declared.asked.Check.{Check}
 use Rattle.omptask.specs.declared.asked.Kind.{Kind}

@@ -2,20 +2,20 @@
 use Rattle.std.specs.Prelude.{ℕ, Bool, nat_lt, if◌then◌else◌, List, codes}
 use Rattle.std.specs.declared.io.ErrorKind.{ErrorKind}
 use Rattle.std.specs.declared.io.ErrorKind.TheVariants as kind
-use Rattle.ot_ask.specs.declared.asked.AskFault.{AskFault}
-use Rattle.ot_ask.specs.declared.asked.AskFault.TheVariants as ask
-use Rattle.ot_ask.specs.declared.asked.Asked.{Asked}
-use Rattle.ot_ask.specs.declared.asked.Asked.TheVariants as asked
-use Rattle.ot_cjudge.specs.declared.report.Verdict.{Verdict}
-use Rattle.ot_cjudge.specs.declared.report.Verdict.TheVariants as verdict
-use Rattle.ot_diagnosis.specs.declared.summary.Outcome.{Outcome}
-use Rattle.ot_diagnosis.specs.declared.summary.Outcome.TheVariants as o
+use Rattle.ot_client_ask.specs.declared.asked.AskFault.{AskFault}
+use Rattle.ot_client_ask.specs.declared.asked.AskFault.TheVariants as ask
+use Rattle.ot_client_ask.specs.declared.asked.Asked.{Asked}
+use Rattle.ot_client_ask.specs.declared.asked.Asked.TheVariants as asked
+use Rattle.ot_c_judge.specs.declared.report.Verdict.{Verdict}
+use Rattle.ot_c_judge.specs.declared.report.Verdict.TheVariants as verdict
+use Rattle.ot_file_diagnosis.specs.declared.summary.Outcome.{Outcome}
+use Rattle.ot_file_diagnosis.specs.declared.summary.Outcome.TheVariants as o
 use Rattle.ot_front.specs.declared.fault.FrontFault.{FrontFault}
 use Rattle.ot_front.specs.declared.fault.FrontFault.TheVariants as front
-use Rattle.ot_keep.specs.declared.fault.KeepFault.{KeepFault}
-use Rattle.ot_keep.specs.declared.fault.KeepFault.TheVariants as keep
-use Rattle.ot_last.specs.declared.fault.LastFault.{LastFault}
-use Rattle.ot_last.specs.declared.fault.LastFault.TheVariants as last
+use Rattle.ot_client_keep.specs.declared.fault.KeepFault.{KeepFault}
+use Rattle.ot_client_keep.specs.declared.fault.KeepFault.TheVariants as keep
+use Rattle.ot_show_last.specs.declared.fault.LastFault.{LastFault}
+use Rattle.ot_show_last.specs.declared.fault.LastFault.TheVariants as last
 use Rattle.omptask.specs.declared.ended.Ended.{Ended}
 use Rattle.omptask.specs.declared.ended.Ended.TheVariants.{Well, Refused, Outside, OnlyRun}
 use Rattle.omptask.specs.declared.reaching.Cause.{Cause}

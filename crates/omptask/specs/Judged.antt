@@ -3,25 +3,25 @@ use Rattle.std.specs.Prelude.{◌≡◌, ℕ, Bool, true, false, List, [], ◌�
 use Rattle.std.specs.Io.KnownBytes.{Appends}
 use Rattle.serde_json.specs.Data.{Data}
 use Rattle.serde_json.specs.Written.{has_float}
-use Rattle.ot_diagnosis.specs.Diagnoses.{Diagnosis}
-use Rattle.ot_diagnosis.specs.DiagnosisView.{diagnosis_by}
-use Rattle.ot_diagnosis.specs.Formats.{found_text, without_refusals, document_text}
-use Rattle.ot_diagnosis.specs.Sarif.{document_value}
-use Rattle.ot_diagnosis.specs.Summaries.{summary_text}
-use Rattle.ot_diagnosis.specs.declared.diagnosis.Code.TheVariants as code
-use Rattle.ot_diagnosis.specs.declared.diagnosis.Severity.TheVariants.{Error}
-use Rattle.ot_diagnosis.specs.declared.format.Format.{Format}
-use Rattle.ot_diagnosis.specs.declared.format.Format.TheVariants.{Text, Json, Sarif, Github}
-use Rattle.ot_diagnosis.specs.declared.summary.Outcome.{Outcome}
-use Rattle.ot_diagnosis.specs.declared.summary.Outcome.TheVariants as o
-use Rattle.ot_file.specs.Comments.{blanked}
+use Rattle.ot_file_diagnosis.specs.Diagnoses.{Diagnosis}
+use Rattle.ot_file_diagnosis.specs.DiagnosisView.{diagnosis_by}
+use Rattle.ot_file_diagnosis.specs.Formats.{found_text, without_refusals, document_text}
+use Rattle.ot_file_diagnosis.specs.Sarif.{document_value}
+use Rattle.ot_file_diagnosis.specs.Summaries.{summary_text}
+use Rattle.ot_file_diagnosis.specs.declared.diagnosis.Code.TheVariants as code
+use Rattle.ot_file_diagnosis.specs.declared.diagnosis.Severity.TheVariants.{Error}
+use Rattle.ot_file_diagnosis.specs.declared.format.Format.{Format}
+use Rattle.ot_file_diagnosis.specs.declared.format.Format.TheVariants.{Text, Json, Sarif, Github}
+use Rattle.ot_file_diagnosis.specs.declared.summary.Outcome.{Outcome}
+use Rattle.ot_file_diagnosis.specs.declared.summary.Outcome.TheVariants as o
+use Rattle.ot_file_text.specs.Comments.{blanked}
 use Rattle.ot_store.specs.Arrays.{Named}
-use Rattle.ot_judge.specs.Judging.{refusals_in, finds, made}
-use Rattle.ot_report.specs.Report.{Reports}
-use Rattle.ot_cjudge.specs.Reports.{Told}
-use Rattle.ot_ctext.specs.Judging.{Judges}
-use Rattle.ot_ctext.specs.declared.session.Session.{Session}
-use Rattle.ot_ctext.specs.declared.session.Session.TheVariants as session
+use Rattle.ot_file_judge.specs.Judging.{refusals_in, finds, made}
+use Rattle.ot_file_report.specs.Report.{Reports}
+use Rattle.ot_c_judge.specs.Reports.{Told}
+use Rattle.ot_c_text.specs.Judging.{Judges}
+use Rattle.ot_c_text.specs.declared.session.Session.{Session}
+use Rattle.ot_c_text.specs.declared.session.Session.TheVariants as session
 use Rattle.omptask.specs.Faults.{outcome_of}
 use Rattle.omptask.specs.declared.ended.Ended.{Ended}
 use Rattle.omptask.specs.declared.ended.Ended.TheVariants.{Well, Outside}

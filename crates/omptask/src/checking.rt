@@ -12,8 +12,8 @@ use crate::judging::{
     Judged, judge_c, judge_cpp, judge_requests, tell, tell_end, without_lines, write_lines,
     write_session,
 };
-use ot_ctext::{Session, session_of};
-use ot_diagnosis::{Format, Outcome, Paint, Source, put_diagnosis, put_results};
+use ot_c_text::{Session, session_of};
+use ot_file_diagnosis::{Format, Outcome, Paint, Source, put_diagnosis, put_results};
 use ot_front::Writing;
 use ot_model::ArrayShape;
 use serde_json::Value;

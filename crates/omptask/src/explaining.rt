@@ -1,8 +1,8 @@
 //! A session with a server, with what is wrong in words behind each refusal.
 use crate::fault::Fault;
-use ot_ask::{Asked, LineSource, Remarker, Tally, converse, greet, hear};
+use ot_client_ask::{Asked, LineSource, Remarker, Tally, converse, greet, hear};
+use ot_client_mirror::Mirror;
 use ot_front::{Sink, write_whole};
-use ot_mirror::Mirror;
 use std::alloc::{AllocError, Global};
 
 /// Says what is wrong where the server refuses a line, over the arrays that its replies tell.
@@ -13,9 +13,9 @@ struct Explainer {
 
 impl Remarker for Explainer {
     ghost use Rattle.std.specs.Prelude.{option_and_then};
-    ghost use Rattle.ot_explain.specs.Explaining.{AreOn};
+    ghost use Rattle.ot_why_explain.specs.Explaining.{AreOn};
     ghost use Rattle.ot_book.specs.Answers.{code_in};
-    ghost use Rattle.ot_mirror.specs.Mirrors.{told_in};
+    ghost use Rattle.ot_client_mirror.specs.Mirrors.{told_in};
 
     ghost says = { λ reply text. AreOn (option_and_then code_in (told_in reply)) text };
 

@@ -3,10 +3,10 @@ ghost use Rattle.std.specs.Prelude.{◌≡◌};
 ghost use Rattle.omptask.specs.Faults.{fault_of, fault_of_keep, fault_of_last, fault_of_session, line_of, want_for, want_text};
 
 use crate::reaching::Cause;
-use ot_ask::AskFault;
+use ot_client_ask::AskFault;
+use ot_client_keep::KeepFault;
 use ot_front::FrontFault;
-use ot_keep::KeepFault;
-use ot_last::{LastFault, Untaken};
+use ot_show_last::{LastFault, Untaken};
 use std::io::ErrorKind;
 
 /// What went wrong, one variant for each line that the program may print.

@@ -1,7 +1,7 @@
 //! The files that a text in C includes.
 use crate::fault::Fault;
-use ot_ctoken::{Whole, wanted_by};
-use ot_diagnosis::Source;
+use ot_exec_tokens::{Whole, wanted_by};
+use ot_file_diagnosis::Source;
 use std::alloc::Global;
 use std::fs::File;
 use std::io;

@@ -1,29 +1,29 @@
 //! A text, judged, or written as lines.
 ghost use Rattle.std.specs.Prelude.{◌≡◌, false, [], ◌∷◌, ◌++◌, map, if◌then◌else◌, IfOk, OnOk, flat_map};
-ghost use Rattle.ot_diagnosis.specs.Summaries.{summary_text};
+ghost use Rattle.ot_file_diagnosis.specs.Summaries.{summary_text};
 ghost use Rattle.std.specs.Io.KnownBytes.{Appends};
 ghost use Rattle.serde_json.specs.View.{view};
 ghost use Rattle.ot_model.specs.Programs.{arrays_of};
-ghost use Rattle.ot_diagnosis.specs.DiagnosisView.{diagnosis_by};
-ghost use Rattle.ot_judge.specs.Judging.{lines_in, with_end};
+ghost use Rattle.ot_file_diagnosis.specs.DiagnosisView.{diagnosis_by};
+ghost use Rattle.ot_file_judge.specs.Judging.{lines_in, with_end};
 ghost use Rattle.omptask.specs.Faults.{outcome_of};
 ghost use Rattle.omptask.specs.declared.ended.Ended.TheVariants.{Well};
 ghost use Rattle.omptask.specs.Judged as meant;
 
 use crate::ended::Ended;
 use crate::fault::Fault;
-use ot_cjudge::Verdict;
-use ot_crun::judge_run;
-use ot_ctext::{Session, judge_text};
-use ot_ctoken::Whole;
-use ot_diagnosis::{
+use ot_c_judge::Verdict;
+use ot_c_text::{Session, judge_text};
+use ot_exec_check::judge_run;
+use ot_exec_tokens::Whole;
+use ot_file_diagnosis::{
     Code, Diagnosis, Format, Outcome, Remark, Severity, Source, put_document, put_found,
     put_summary, without_refusals,
 };
+use ot_file_judge::{JudgeFault, lines_of};
+use ot_file_report::report_on;
 use ot_front::{Sink, write_whole};
-use ot_judge::{JudgeFault, lines_of};
 use ot_model::ArrayShape;
-use ot_report::report_on;
 use serde_json::Value;
 use std::alloc::{AllocError, Global};
 
@@ -110,12 +110,12 @@ fn executed(
 }
 
 /// How the judging of a text in C ended that is executed, by its verdict.
-pub(crate) fn outcome_of_run(verdict: ot_crun::Verdict) -> Outcome {
+pub(crate) fn outcome_of_run(verdict: ot_exec_check::Verdict) -> Outcome {
     match verdict {
-        ot_crun::Verdict::Clean => Outcome::Clean,
-        ot_crun::Verdict::OnlyRun => Outcome::OnlyRun,
-        ot_crun::Verdict::Races => Outcome::Races,
-        ot_crun::Verdict::Outside => Outcome::Outside,
+        ot_exec_check::Verdict::Clean => Outcome::Clean,
+        ot_exec_check::Verdict::OnlyRun => Outcome::OnlyRun,
+        ot_exec_check::Verdict::Races => Outcome::Races,
+        ot_exec_check::Verdict::Outside => Outcome::Outside,
     }
 }
 

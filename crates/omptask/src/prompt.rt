@@ -1,5 +1,5 @@
 //! Lines that are typed at a terminal, behind a prompt.
-use ot_ask::{LineEnd, LineSource, ReadFault};
+use ot_client_ask::{LineEnd, LineSource, ReadFault};
 use std::io::Eprint;
 
 /// Lines, and before each is read a prompt on standard error where a person types them.

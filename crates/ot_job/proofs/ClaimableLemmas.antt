@@ -6,7 +6,7 @@ use Rattle.ot_check.proofs.Cited.{and_false}
 use Rattle.ot_depend.proofs.ReadyLemmas.{depends_on-from_DependsOn}
 use Rattle.ot_depend.proofs.SiblingsLemmas.{IsReady-from_All}
 use Rattle.std.proofs.lemmas.List.Sums.{AllPass-from_list_all}
-use Rattle.ot_roster.proofs.ListedLemmas.{passing-found}
+use Rattle.ot_job_roster.proofs.ListedLemmas.{passing-found}
 use Rattle.ot_job.proofs.KeptLemmas.{at-updated, at-updated-other, at-more}
 use Rattle.ot_job.proofs.EachLemmas.{field-kept, field-more}
 

@@ -38,19 +38,19 @@ pub use Rattle.ot_owner.specs.declared.lent.LentCell.{LentCell}
 pub use Rattle.ot_owner.proofs.LentLemmas.{found-lent}
 pub use Rattle.ot_owner.proofs.OutLemmas.{permutation_rest}
 pub use Rattle.ot_owner.proofs.WorthLemmas.{cell_of-worths, worths-same}
-pub use Rattle.ot_roster.specs.Members.{Kept, Tells, put, with_kid, with_member}
-pub use Rattle.ot_roster.proofs.TellsLemmas.{put-here, put-other, tells-same}
+pub use Rattle.ot_job_roster.specs.Members.{Kept, Tells, put, with_kid, with_member}
+pub use Rattle.ot_job_roster.proofs.TellsLemmas.{put-here, put-other, tells-same}
 pub use Rattle.ot_check.specs.Discipline.{AreAssigns, Children, IsClean, IsFine, IsHarmless, behind_one}
 pub use Rattle.ot_check.specs.Offences.{Declared, Openings, allows, awaits, clashes, covers, folds_by, folds_to, has_cell, opened_by_any, touches, use_as, Agree, EachRead, EachTask, EachTouch}
 pub use Rattle.ot_check.specs.declared.fault.Offence.TheVariants.{ConflictsWithChild, NotDeclared, ReductionMisuse}
 pub use Rattle.ot_check.proofs.Cited.{and_left, and_right, and_true, clash_free, group_free, groups_inside, harmless, harmless_if, not_false, not_true, opened-none, or_false_left, or_false_right, or_right, or_true, same_is, touch-weaker, true_or}
-pub use Rattle.ot_task.specs.Assigns.{CanAssign, CanRun, AreHeld, held, held_as, mode_held, noted, stronger, with_mode}
-pub use Rattle.ot_task.specs.Copies.{Look, assigned}
-pub use Rattle.ot_task.specs.Pieces.{awake, begun, behind, group_passed, leading, leading_len, passed, test_of, is_at_end}
-pub use Rattle.ot_task.specs.Regions.{Open, todo, Region, Run, Waiting, children_at, executed, group_next, inside, new_region, next_task, over, rest_at, root_region, stepped, stepped_from, stopped, tasks_next, with_child, with_created, with_rest, without, end_lets_go, is_awaited_at, is_held, is_let_go, region_weight, weight_left, weight_of}
-pub use Rattle.ot_task.specs.Touched.{assign_touches, piece_touches, test_touches}
-pub use Rattle.ot_task.proofs.CellLemmas.{same_self}
-pub use Rattle.ot_task.proofs.HeldLemmas.{reads-append}
+pub use Rattle.ot_job_task.specs.Assigns.{CanAssign, CanRun, AreHeld, held, held_as, mode_held, noted, stronger, with_mode}
+pub use Rattle.ot_job_task.specs.Copies.{Look, assigned}
+pub use Rattle.ot_job_task.specs.Pieces.{awake, begun, behind, group_passed, leading, leading_len, passed, test_of, is_at_end}
+pub use Rattle.ot_job_task.specs.Regions.{Open, todo, Region, Run, Waiting, children_at, executed, group_next, inside, new_region, next_task, over, rest_at, root_region, stepped, stepped_from, stopped, tasks_next, with_child, with_created, with_rest, without, end_lets_go, is_awaited_at, is_held, is_let_go, region_weight, weight_left, weight_of}
+pub use Rattle.ot_job_task.specs.Touched.{assign_touches, piece_touches, test_touches}
+pub use Rattle.ot_job_task.proofs.CellLemmas.{same_self}
+pub use Rattle.ot_job_task.proofs.HeldLemmas.{reads-append}
 pub use Rattle.ot_job.specs.Awaiting.{AwaitsAll, IsFineAt, Kids, children_of, kids_behind, opened, unawaited}
 pub use Rattle.ot_job.specs.Calls.{HasPiece, IsBack}
 pub use Rattle.ot_job.specs.Claiming.{claimable_of, is_claimable, picked}

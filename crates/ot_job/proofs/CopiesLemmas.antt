@@ -4,7 +4,7 @@ use Rattle.ot_job.proofs.Common.{join_by, unit_of, Cell, Mode, Reads, Writes, Fo
 use Rattle.ot_model.specs.Monoids.{join-associative, join-absorbed}
 use Rattle.ot_model.specs.Cells.{with_cell}
 use Rattle.ot_check.proofs.Cited.{read-weaker, value-same}
-use Rattle.ot_task.specs.Copies.{with_copy}
+use Rattle.ot_job_task.specs.Copies.{with_copy}
 use Rattle.ot_model.proofs.CellsLemmas.{same_cells}
 use Rattle.ot_owner.proofs.LentLemmas.{same-from_is_at}
 use Rattle.ot_model.proofs.CellsLemmas as model

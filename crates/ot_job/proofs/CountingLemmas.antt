@@ -5,8 +5,8 @@ use Rattle.std.proofs.lemmas.List.Folds.{sum_by-zero}
 use Rattle.ot_model.proofs.CellsLemmas.{lengths-with_cell}
 use Rattle.ot_model.specs.declared.plain.Counts.{Counts}
 use Rattle.ot_model.proofs.SerialLemmas.{serial-from, either-both}
-use Rattle.ot_roster.specs.Members.{passing}
-use Rattle.ot_roster.proofs.ListedLemmas.{passing-behind}
+use Rattle.ot_job_roster.specs.Members.{passing}
+use Rattle.ot_job_roster.proofs.ListedLemmas.{passing-behind}
 
 -- ---- what a job counts, now and at its end
 

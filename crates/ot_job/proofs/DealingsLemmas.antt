@@ -7,7 +7,7 @@ use Rattle.ot_check.specs.Jobs.{Spec}
 use Rattle.ot_job.proofs.SettleLemmas.{run_of, runs-within}
 use Rattle.ot_job.specs.Moves.{Claimed}
 use Rattle.ot_job.specs.Dealings.{Starts, FailsBy, Work, work_of, brought, run_with, work_in, work_at, NoneOut, out_of, state_of, weight_of, after_failure, IsFresh, Takes, Returns, Gives, Pays, Breaks, Aborts}
-use Rattle.ot_task.specs.Regions.{weight_of as weight_in}
+use Rattle.ot_job_task.specs.Regions.{weight_of as weight_in}
 use Rattle.ot_job.proofs.CountingLemmas.{one, count-cons, count-updated, out-any}
 use Rattle.ot_job.proofs.KeptLemmas.{at-updated, at-updated-other}
 use Rattle.ot_job.proofs.WellLemmas.{claimable-idle}

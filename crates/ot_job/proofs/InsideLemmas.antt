@@ -2,7 +2,7 @@
 use Rattle.std.proofs.Common.{◌≡◌, ℕ, ◌+◌, ◌<◌, ◌≤◌, ◌∙◌, refl, ap, ap₂, sym, subst, arith, List, ◌∷◌, Bor, Bool, true, false, true≢false, length, ◌↔◌, IsTrue, if◌then◌else◌, Option, Some, IfSome, option_map, get_or, IsPermutation}
 use Rattle.ot_job.proofs.Common.{size, expanded_of, Cell, Operation, Use, tasks_in-≤-size, all_back, Keeping, Owned, loan_of, leading_len, Region, group_next, tasks_next, weight_of, IsBack, claimable_of, is_claimable, picked, live_of, Live, at, IsRoomFor, Opens, CreatesInOrder, Settles, settled, units_of, claimable_in, Came, IsOut, taken_by, worker_in, IsWell, IsOnCourse, MaySettle, Inside}
 use Rattle.ot_owner.specs.Keeping.{IsOpenable}
-use Rattle.ot_task.specs.Regions.{is_control}
+use Rattle.ot_job_task.specs.Regions.{is_control}
 use Rattle.ot_job.specs.Calls.{MayEnd, MayTakeBack}
 use Rattle.ot_job.proofs.CourseLemmas.{counts-few, settle-lighter, settle-well}
 use Rattle.ot_job.proofs.DealingsLemmas.{picked-in, works}

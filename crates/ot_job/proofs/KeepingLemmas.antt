@@ -1,7 +1,7 @@
 -- The roster tells of the tasks rightly, through each change of the regions.
 use Rattle.std.proofs.Common.{◌≡◌, ◌≢◌, ◌<◌, ◌+◌, ℕ, zero, suc, Bool, true, false, List, [], ◌∷◌, ◌++◌, length, refl, sym, ap, subst, ◌∙◌, inl, inr, arith, is_some}
 use Rattle.ot_job.proofs.Common.{cases_eq, cases_lt, cases_Bool, length-append, updated, length-updated, Use, has, with_finished, LetsTheSame, Body, End, Next, Region, root_region, with_child, new_region, children_at, stepped, executed, without, tasks_next, at, is_claimable, IsRefreshed, AreKept, member, members, Kept, Tells, put, with_kid, with_member, put-here, put-other, tells-same}
-use Rattle.ot_roster.specs.Members.{IsAlone}
+use Rattle.ot_job_roster.specs.Members.{IsAlone}
 use Rattle.ot_job.proofs.StepLemmas.{stepped-field, stepped-children, stepped-running, executed-some, children-here}
 use Rattle.ot_job.proofs.ClaimableLemmas.{claimable-busy, claimable-other, claimable-told, claimable-created, claimable-root}
 use Rattle.ot_job.proofs.KeptLemmas.{at-updated, at-updated-other, at-more, at-new}

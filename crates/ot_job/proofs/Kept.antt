@@ -4,7 +4,7 @@ use Rattle.ot_job.proofs.Common.{cases_eq, cases_Bool, nat_tests, E, S, Set, Fol
 use Rattle.ot_model.proofs.SerialLemmas.{serial-bump, either-ap}
 use Rattle.ot_check.specs.Offences.{EachTouchOne, AreApart}
 use Rattle.ot_check.proofs.Cited.{read-behind, apart}
-use Rattle.ot_task.proofs.AssignLemmas.{read-all}
+use Rattle.ot_job_task.proofs.AssignLemmas.{read-all}
 use Rattle.ot_job.proofs.Order.{order, order_from, insert_before, run_all, left-order, Anc, self, up, IsBefore, Each, Each-weaker, Ordered, Descends, AreParents, order-ordered, branch, anc-le}
 
 abbrev pub Uses : Type 1

@@ -11,7 +11,7 @@ use Rattle.ot_owner.specs.Worth.{IsCombined}
 use Rattle.ot_owner.proofs.NameLemmas.{place-named as place-of}
 use Rattle.ot_owner.proofs.ShareLemmas.{bares, bares-back, bares-begun}
 use Rattle.ot_owner.proofs.OpenLemmas.{same_worth, worth-unsummed as over-unsummed}
-use Rattle.ot_task.specs.Pieces.{ended_group}
+use Rattle.ot_job_task.specs.Pieces.{ended_group}
 use Rattle.ot_job.specs.Opened.{numbers_in}
 use Rattle.ot_job.proofs.FoldLemmas.{same-op}
 use Rattle.ot_job.proofs.KeptLemmas.{at-updated, at-updated-other}

@@ -2,7 +2,7 @@
 use Rattle.std.proofs.Common.{◌≡◌, ℕ, Bool, true, false, cond, List, [], ◌∷◌, map, refl, sym, ap, subst, ◌∙◌, inl, Option, Some, None, option_map, if◌then◌else◌, find, IfSome, IsSome}
 use Rattle.ot_job.proofs.Common.{E, Set, Fold, If, Body, End, Next, append, NamedIn, ValueNamedIn, cells_named, same_cell, mode_in, Cell, Operation, Mode, Reads, Writes, Folds, Use, use_as, touches, Declared, Openings, allows, folds_to, EachRead, EachTouch, Children, IsFine, AreAssigns, NotDeclared, is_at, uses_of, LentCell, IsRight, OnlyFolds, test_of, assign_touches, test_touches, piece_touches, held, held_as, mode_held, not_false, HasAll, lengths, lent_from, first_at, value_at, CanAssign, CanRun, Region, at, leading, behind, awake, AreHeld, Live, IsOnCourse, Lease, lease_of, use_of, Look, assigned}
 use Rattle.ot_check.proofs.Cited.{one_op}
-use Rattle.ot_task.proofs.AssignLemmas.{all-kept, assigned-same}
+use Rattle.ot_job_task.proofs.AssignLemmas.{all-kept, assigned-same}
 use Rattle.ot_job.proofs.CopiesLemmas.{Lets, LetsMode, mode_at}
 use Rattle.ot_job.proofs.CoverLemmas.{read-from, Covers, covered, flip, among-left, among-right, piece-can, piece-reads, lent-fresh}
 use Rattle.ot_job.proofs.FoldLemmas.{held-alike, only-unread, only-unwritten}

@@ -2,7 +2,7 @@
 use Rattle.std.proofs.Common.{◌++◌, get_or, set, sym, length, length-append, true, false, ◌≡◌, ◌<◌, ℕ, suc, Bool, List, [], ◌∷◌, refl, ap, ◌∙◌, arith, ◌+◌, ◌⊎◌, inl, inr, Option, Some, None, option_map, nat_lt, if◌then◌else◌, ◌&&◌, subst, true≢false, not}
 use Rattle.ot_job.proofs.Common.{length-updated, updated-updated, If, Wait, Group, Body, End, Next, append, updated, Use, Region, with_child, new_region, children_at, stepped, stepped_from, next_task, rest_at, with_created, executed, tasks_next, over, without, Waiting, Open, is_at_end, none-some, same_Some, told_parent, closed, moved_on, at, parent_of, Sibling, Cell, Operation, E, allows, EachTouch, EachTask, todo, IsFineAt, AwaitsAll, unawaited, with_rest, inside, LetsAll, IsBegun, IsPlaced, IsSound, awaits}
 use Rattle.ot_model.specs.Tree.{Task as Fork}
-use Rattle.ot_task.specs.Regions.{child_of, with_noted}
+use Rattle.ot_job_task.specs.Regions.{child_of, with_noted}
 use Rattle.ot_job.proofs.ViewLemmas.{set-changed}
 use Rattle.ot_job.proofs.ClaimableLemmas.{at-here}
 use Rattle.ot_job.proofs.EachLemmas.{field-kept, field-more, moved-by}

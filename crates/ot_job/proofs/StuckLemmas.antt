@@ -3,7 +3,7 @@ use Rattle.std.proofs.Common.{◌≡◌, ℕ, zero, suc, ◌+◌, ◌<◌, ◌�
 use Rattle.ot_job.proofs.Common.{cases_Bool, Sibling, IsReady, Region, at, parent_of, ended_at, IsBegun, IsKin, IsSound, nat_tests, length-map, Body, End, Next, is_ready, is_unfinished, is_unfinished_in, and_true, or_false_left, or_false_right, Open, whole, wholes, is_claimable, claimable_of, is_held, is_let_go, end_lets_go, Live, IsWell, any_out, all_ended, state_in, Working, Failing, Ended, Failed, or_right, same_Some}
 use Rattle.ot_depend.proofs.CountLemmas.{none_unfinished, none_unfinished_in}
 use Rattle.ot_depend.proofs.ReadyLemmas.{is_ready-told}
-use Rattle.ot_roster.proofs.ListedLemmas.{passing-some}
+use Rattle.ot_job_roster.proofs.ListedLemmas.{passing-some}
 use Rattle.ot_job.proofs.AwaitsLemmas.{held-unfinished}
 use Rattle.ot_job.proofs.AwakeLemmas.{none-counted}
 use Rattle.ot_job.proofs.RightsLemmas.{at-whole}

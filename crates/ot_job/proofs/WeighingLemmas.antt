@@ -2,7 +2,7 @@
 use Rattle.std.proofs.Common.{◌≡◌, ℕ, zero, suc, ◌+◌, ◌*◌, ◌<◌, ◌≤◌, max, Bool, true, false, List, [], ◌∷◌, ◌++◌, length, refl, sym, ap, ◌∙◌, arith, true≢false, Option, Some, None, is_some, nat_lt, if◌then◌else◌}
 use Rattle.ot_job.proofs.Common.{Set, Fold, If, Task, Wait, Group, Body, End, Next, append, size, updated, Use, length-updated, updated-updated, Lease, Open, Region, Run, with_child, new_region, with_created, stepped, stepped_from, executed, next_task, rest_at, children_at, over, stopped, without, at, parent_of, leading, behind, passed, begun, closed, settled, is_at_end, weight_left, region_weight, weight_of}
 use Rattle.ot_parts.proofs.WeightLemmas.{weight-behind}
-use Rattle.ot_task.specs.Regions.{weight, weight_behind}
+use Rattle.ot_job_task.specs.Regions.{weight, weight_behind}
 use Rattle.ot_job.proofs.EachLemmas.{told-by}
 use Rattle.ot_job.proofs.StopLemmas.{front}
 use Rattle.ot_job.proofs.StepLemmas.{tell, tell-field, tell-long, rest-here}

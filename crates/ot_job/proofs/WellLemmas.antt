@@ -14,7 +14,7 @@ use Rattle.ot_job.proofs.EachLemmas.{each-begun, at-each, field-at}
 use Rattle.ot_job.proofs.HoldingLemmas.{course-holds, course-apart}
 use Rattle.ot_job.proofs.ClaimableLemmas.{ready-from}
 use Rattle.ot_job.proofs.OpenLemmas.{pieces_apart}
-use Rattle.ot_task.proofs.HeldLemmas.{AllIn, all-append, reads-in, held-there}
+use Rattle.ot_job_task.proofs.HeldLemmas.{AllIn, all-append, reads-in, held-there}
 
 pub leading-assigns : (b : Body) → AreAssigns (leading b)
 leading-assigns (Next (Set c e) rest) = leading-assigns rest

@@ -5,7 +5,7 @@ use Rattle.ot_model.specs.Tree.{Body}
 use Rattle.ot_depend.specs.Siblings.{Sibling, is_unfinished, is_in}
 use Rattle.ot_check.specs.Offences.{Declared, Openings}
 use Rattle.ot_check.specs.Discipline.{Children, anyone, nothing_open, with_group, through, behind, IsFine}
-use Rattle.ot_task.specs.Regions.{Open, Waiting, is_awaited_at}
+use Rattle.ot_job_task.specs.Regions.{Open, Waiting, is_awaited_at}
 
 -- whether an open group by an operation names a cell
 abbrev pub opened : List Open → Openings

@@ -11,7 +11,7 @@ use Rattle.ot_owner.specs.Worth.{AreStored, all_back, worth, AreJoined, AreWorth
 use Rattle.ot_owner.specs.Lending.{lent_from}
 use Rattle.ot_owner.specs.Owning.{Owned, loan_of, IsFreeFor, IsSummed, IsSummedBy, begun_for}
 use Rattle.ot_owner.specs.declared.lent.LentCell.{LentCell}
-use Rattle.ot_task.specs.Regions.{Region}
+use Rattle.ot_job_task.specs.Regions.{Region}
 use Rattle.ot_job.specs.Numbered.{at, parent_of}
 use Rattle.ot_job.specs.Opened.{opened_under}
 use Rattle.ot_job.specs.Opening.{MayOpen, left_open, passed_over}

@@ -2,7 +2,7 @@
 use Rattle.std.specs.Prelude.{ℕ, ◌==◌, ◌%◌, ◌&&◌, ◌||◌, Bool, not, List, [], ◌∷◌, length, Option, None, is_some, slice_get, filter}
 use Rattle.std.specs.List.{range_with_len}
 use Rattle.ot_depend.specs.Siblings.{is_ready}
-use Rattle.ot_task.specs.Regions.{Region, is_let_go}
+use Rattle.ot_job_task.specs.Regions.{Region, is_let_go}
 use Rattle.ot_job.specs.Numbered.{at}
 
 abbrev pub is_claimable : List Region → ℕ → Bool

@@ -4,9 +4,9 @@ use Rattle.ot_model.specs.Tree.{E, Body}
 use Rattle.ot_model.specs.Programs.{expanded_of, Expanded}
 use Rattle.ot_check.specs.Jobs.{Spec}
 use Rattle.ot_owner.specs.Lending.{Lease, lease_of}
-use Rattle.ot_task.specs.Regions.{Region, Run, weight_of as weight_in, root_region, stopped}
+use Rattle.ot_job_task.specs.Regions.{Region, Run, weight_of as weight_in, root_region, stopped}
 use Rattle.ot_job.specs.Numbered.{at}
-use Rattle.ot_task.specs.Pieces.{test_of}
+use Rattle.ot_job_task.specs.Pieces.{test_of}
 use Rattle.ot_job.specs.Taken.{Taken, Came, IsOut, worker_in}
 use Rattle.ot_job.specs.Left.{out_in}
 use Rattle.ot_job.specs.declared.state.State.{State}

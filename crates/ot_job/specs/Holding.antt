@@ -8,9 +8,9 @@ use Rattle.ot_model.specs.declared.stmt.Use.{Use}
 use Rattle.ot_check.specs.Offences.{Declared, folds_to}
 use Rattle.ot_owner.specs.Lending.{lease_of, lent_from}
 use Rattle.ot_owner.specs.Worth.{worths}
-use Rattle.ot_task.specs.Pieces.{test_of}
-use Rattle.ot_task.specs.Regions.{Region, Run}
-use Rattle.ot_task.specs.Touched.{piece_touches}
+use Rattle.ot_job_task.specs.Pieces.{test_of}
+use Rattle.ot_job_task.specs.Regions.{Region, Run}
+use Rattle.ot_job_task.specs.Touched.{piece_touches}
 use Rattle.ot_job.specs.Dealings.{Live}
 use Rattle.ot_job.specs.Numbered.{at}
 

@@ -2,7 +2,7 @@
 use Rattle.std.specs.Prelude.{ℕ, ◌+◌, List, [], ◌∷◌, ◌==◌, if◌then◌else◌, is_some, count_by}
 use Rattle.ot_model.specs.Tree.{Body}
 use Rattle.ot_model.specs.Serial.{State, serial}
-use Rattle.ot_task.specs.Regions.{Region}
+use Rattle.ot_job_task.specs.Regions.{Region}
 
 -- what is left of the children of the task p among the tasks k, k + 1, .., whose parents are listed, in order of
 -- creation: of each child what is left of its own children, and then its remaining statements

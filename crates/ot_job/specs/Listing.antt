@@ -1,8 +1,8 @@
 -- The tasks as members of their roster.
 use Rattle.std.specs.Prelude.{◌≡◌, ◌<◌, ℕ, Bool, true, List, length, is_some}
 use Rattle.ot_depend.specs.Siblings.{has}
-use Rattle.ot_roster.specs.Members.{Member, Kept, Tells}
-use Rattle.ot_task.specs.Regions.{Region}
+use Rattle.ot_job_roster.specs.Members.{Member, Kept, Tells}
+use Rattle.ot_job_task.specs.Regions.{Region}
 use Rattle.ot_job.specs.Numbered.{at}
 use Rattle.ot_job.specs.Claiming.{is_claimable}
 

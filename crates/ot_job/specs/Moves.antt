@@ -10,14 +10,14 @@ use Rattle.ot_job.specs.Numbered.{at, parent_of}
 use Rattle.ot_job.specs.Dealings.{Live, claimable_in, state_in}
 use Rattle.ot_job.specs.Opening.{left_open, passed_over, Opens}
 use Rattle.ot_job.specs.Taken.{Taken, Came, IsOut, taken_by, worker_in}
-use Rattle.ot_task.specs.Pieces.{leading, behind, test_of, awake, begun, group_passed, is_at_end, leading_len}
-use Rattle.ot_task.specs.Touched.{piece_touches}
+use Rattle.ot_job_task.specs.Pieces.{leading, behind, test_of, awake, begun, group_passed, is_at_end, leading_len}
+use Rattle.ot_job_task.specs.Touched.{piece_touches}
 use Rattle.ot_job.specs.Holding.{Holds}
 use Rattle.ot_job.specs.Claiming.{picked}
 use Rattle.ot_model.specs.Serial.{State, bump}
 use Rattle.ot_model.specs.declared.plain.Counts.{Counts}
 use Rattle.ot_model.specs.declared.stmt.Use.{Use}
-use Rattle.ot_task.specs.Regions.{Region, group_next, executed, is_control, next_task, over, stopped, tasks_next, without, weight_of}
+use Rattle.ot_job_task.specs.Regions.{Region, group_next, executed, is_control, next_task, over, stopped, tasks_next, without, weight_of}
 use Rattle.ot_job.specs.declared.piece.Refused.{Refused}
 use Rattle.ot_job.specs.declared.piece.Refused.TheVariants.{Stranger, Failing, Memory}
 use Rattle.ot_job.specs.declared.state.State.TheVariants.{Working}

@@ -3,7 +3,7 @@ use Rattle.std.specs.Prelude.{ℕ, zero, suc, Bool, true, List, [], ◌∷◌, m
 use Rattle.ot_model.specs.Tree.{Body, End}
 use Rattle.ot_model.specs.Serial.{State}
 use Rattle.ot_job.specs.Left.{left}
-use Rattle.ot_task.specs.Regions.{todo, Region}
+use Rattle.ot_job_task.specs.Regions.{todo, Region}
 
 -- no region
 abbrev pub gone : Region

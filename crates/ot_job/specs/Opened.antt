@@ -5,7 +5,7 @@ use Rattle.ot_model.specs.declared.fold.Fold.{Fold as Operation}
 use Rattle.ot_model.specs.declared.stmt.Use.{Use}
 use Rattle.ot_check.specs.Offences.{has_cell}
 use Rattle.ot_owner.specs.Owning.{Summed, names, IsNamed}
-use Rattle.ot_task.specs.Regions.{Open, Region}
+use Rattle.ot_job_task.specs.Regions.{Open, Region}
 use Rattle.ot_job.specs.Numbered.{at}
 
 -- the numbers of all open groups

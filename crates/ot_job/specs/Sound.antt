@@ -10,7 +10,7 @@ use Rattle.ot_model.specs.Cells.{same_fold}
 use Rattle.ot_depend.specs.Siblings.{Sibling, IsReady, is_in}
 use Rattle.ot_check.specs.Offences.{use_as, Declared, Openings, allows, folds_to, has_cell, EachTouch, EachTask}
 use Rattle.ot_job.specs.Numbered.{at, parent_of, ended_at}
-use Rattle.ot_task.specs.Regions.{Open, todo, Region}
+use Rattle.ot_job_task.specs.Regions.{Open, todo, Region}
 use Rattle.ot_job.specs.Awaiting.{opened, IsFineAt, AwaitsAll, unawaited}
 
 abbrev pub may_at : List Region → ℕ → Use → Type 0

@@ -4,9 +4,9 @@ use Rattle.ot_model.specs.Tree.{E, Body, val}
 use Rattle.ot_model.specs.declared.expr.Cell.{Cell}
 use Rattle.ot_owner.specs.Lending.{first_at, value_at}
 use Rattle.ot_owner.specs.declared.lent.LentCell.{LentCell}
-use Rattle.ot_task.specs.Copies.{assigned}
-use Rattle.ot_task.specs.Pieces.{Runs, leading_len}
-use Rattle.ot_task.specs.Regions.{Region}
+use Rattle.ot_job_task.specs.Copies.{assigned}
+use Rattle.ot_job_task.specs.Pieces.{Runs, leading_len}
+use Rattle.ot_job_task.specs.Regions.{Region}
 use Rattle.ot_job.specs.Numbered.{at}
 
 -- its task, its sets and folds, the condition behind them, and the copies that it was lent

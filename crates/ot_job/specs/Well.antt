@@ -3,7 +3,7 @@ use Rattle.std.specs.Prelude.{◌≡◌, ◌<◌, ◌≤◌, ◌+◌, ◌*◌, �
 use Rattle.ot_model.specs.Names.{NamedIn, AreInShape}
 use Rattle.ot_model.specs.Cells.{cell_of, lengths}
 use Rattle.ot_model.specs.Tree.{size}
-use Rattle.ot_task.specs.Regions.{Run, weight_of}
+use Rattle.ot_job_task.specs.Regions.{Run, weight_of}
 use Rattle.ot_job.specs.Numbered.{at, parent_of, todo_at}
 use Rattle.ot_job.specs.Sound.{IsBegun, IsSound}
 use Rattle.ot_job.specs.Kept.{IsKept}

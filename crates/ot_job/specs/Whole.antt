@@ -2,7 +2,7 @@
 use Rattle.std.specs.Prelude.{List, [], ◌∷◌, Option, Some, None, map}
 use Rattle.ot_model.specs.Tree.{Body, End, append}
 use Rattle.ot_owner.specs.Owning.{Loan}
-use Rattle.ot_task.specs.Regions.{Region, Run}
+use Rattle.ot_job_task.specs.Regions.{Region, Run}
 
 abbrev pub assigns_out : Option Run → Body
 assigns_out None = End

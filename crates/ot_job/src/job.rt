@@ -3,16 +3,16 @@ ghost use Rattle.ot_job.specs.Taken.{IsOut};
 ghost use Rattle.ot_model.specs.Cells.{lengths, cell_of};
 ghost use Rattle.ot_model.specs.Names.{NamedIn};
 ghost use Rattle.ot_model.specs.Programs.{expanded_of};
-ghost use Rattle.ot_task.specs.Regions.{root_region, weight_of};
+ghost use Rattle.ot_job_task.specs.Regions.{root_region, weight_of};
 
 use crate::lending::{lend, room_for, take_back};
 use crate::piece::{Done, Piece, Refused};
 use crate::state::State;
 use crate::tasks::{Tasks, weigh_tasks};
 use ot_check::{JobSpec, Outcome};
+use ot_job_task::{Prepared, Running, Task, prepare};
 use ot_model::{Cell, Cells, Counts, Look};
 use ot_owner::Owners;
-use ot_task::{Prepared, Running, Task, prepare};
 use std::alloc::{AllocError, Global};
 use std::marker::Model;
 use std::sync::Arc;

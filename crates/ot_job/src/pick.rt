@@ -2,11 +2,11 @@ ghost use Rattle.std.specs.Prelude.{◌≡◌, ◌<◌, length, ℕ, Bool, All};
 ghost use Rattle.ot_job.specs.Claiming.{is_claimable};
 ghost use Rattle.ot_depend.specs.Siblings.{is_ready};
 ghost use Rattle.ot_job.specs.Numbered.{at};
-ghost use Rattle.ot_roster.specs.Members.{Tells};
+ghost use Rattle.ot_job_roster.specs.Members.{Tells};
 ghost use Rattle.ot_job.specs.Listing.{IsRefreshed, members};
 
-use ot_roster::Roster;
-use ot_task::Task;
+use ot_job_roster::Roster;
+use ot_job_task::Task;
 
 /// Whether a child may begin as far as its earlier siblings go.
 fn is_ready(tasks: &[Task], parent: usize, child: usize) -> bool

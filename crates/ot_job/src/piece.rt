@@ -4,9 +4,9 @@ ghost use Rattle.ot_model.specs.Tree.{val, HasAll};
 ghost use Rattle.ot_owner.specs.Lending.{value_at};
 ghost use Rattle.ot_job.specs.Taken.{IsRun, taken_by};
 
+use ot_job_task::{Assigns, Task, assign_all};
 use ot_model::{Cells, Expr, value};
 use ot_owner::{Lent, Owners};
-use ot_task::{Assigns, Task, assign_all};
 use std::marker::Model;
 
 /// A piece of a task's body that was claimed: sets and folds, the condition of an `if` that comes
@@ -24,7 +24,7 @@ impl Model for Piece {
     ghost use Rattle.std.specs.Prelude.{option_map};
     ghost use Rattle.ot_model.specs.Code.{body_code, value_code};
     ghost use Rattle.ot_model.specs.View.{expr_of};
-    ghost use Rattle.ot_task.specs.Assigns.{CanRun};
+    ghost use Rattle.ot_job_task.specs.Assigns.{CanRun};
     ghost use Rattle.ot_job.specs.Taken.{Taken};
 
     ghost Value = { Taken };
@@ -65,7 +65,7 @@ impl Model for Done {
 }
 
 impl Piece {
-    ghost use Rattle.ot_task.specs.Assigns.{CanRun};
+    ghost use Rattle.ot_job_task.specs.Assigns.{CanRun};
     ghost use Rattle.ot_job.specs.Dealings.{brought, work_of};
     ghost use Rattle.ot_job.specs.Taken.{is_short};
 
@@ -149,7 +149,7 @@ impl Done {
     ghost use Rattle.ot_owner.specs.Worth.{AreStored, all_back, AreJoined, worth};
     ghost use Rattle.ot_owner.specs.Keeping.{IsOpenable};
     ghost use Rattle.ot_owner.specs.Owning.{loan_of, IsSummed};
-    ghost use Rattle.ot_task.specs.Pieces.{Runs, leading_len};
+    ghost use Rattle.ot_job_task.specs.Pieces.{Runs, leading_len};
 
     /// The number of its task.
     pub(crate) fn task(&self) -> u32

@@ -1,12 +1,12 @@
-ghost use Rattle.ot_task.specs.Regions.{executed, over, stopped, tasks_next, without, root_region, weight_of};
+ghost use Rattle.ot_job_task.specs.Regions.{executed, over, stopped, tasks_next, without, root_region, weight_of};
 ghost use Rattle.std.specs.Prelude.{◌≡◌, ◌<◌, ◌≤◌, length, vec_len, OnOk, OnErr, ◌^◌, [], ◌∷◌, None, false, slice_index_or, IfOk};
 ghost use Rattle.ot_job.specs.Numbered.{at, parent_of};
 ghost use Rattle.ot_job.specs.Moves.{CreatesInOrder, closed, moved_on, settled};
 
 use crate::pick::{is_claimable, refresh_children};
+use ot_job_roster::Roster;
+use ot_job_task::{Running, Task};
 use ot_parts::Part;
-use ot_roster::Roster;
-use ot_task::{Running, Task};
 use std::alloc::{AllocError, Global};
 use std::marker::Model;
 use std::sync::Arc;
@@ -23,7 +23,7 @@ impl Model for Tasks {
     ghost use Rattle.std.specs.Coded.{codes};
     ghost use Rattle.std.specs.Prelude.{List};
     ghost use Rattle.ot_model.specs.Code.{body_code};
-    ghost use Rattle.ot_task.specs.Regions.{Region};
+    ghost use Rattle.ot_job_task.specs.Regions.{Region};
 
     ghost Value = { List Region };
 
@@ -40,7 +40,7 @@ impl Tasks {
     ghost use Rattle.std.specs.Arc.{arc_value};
     ghost use Rattle.ot_model.specs.Cells.{updated};
     ghost use Rattle.ot_parts.specs.Parts.{parts_of};
-    ghost use Rattle.ot_task.specs.Pieces.{leading, awake, begun};
+    ghost use Rattle.ot_job_task.specs.Pieces.{leading, awake, begun};
     ghost use Rattle.ot_job.specs.Claiming.{claimable_of, picked};
     ghost use Rattle.ot_job.specs.Dealings.{any_out, all_ended};
     ghost use Rattle.ot_job.specs.Calls.{HasPiece, MayEnd, MayFinish};

@@ -9,7 +9,7 @@ use Rattle.ot_model.proofs.expr.Expr.TheLaws.TheKnot.{send-Expr, sync-Expr}
 use Rattle.ot_model.proofs.stmt.Stmt.TheLaws.TheKnot.{send-Stmt, sync-Stmt}
 use Rattle.ot_parts.proofs.SendLemmas.{part-send, part-sync}
 use Rattle.ot_check.specs.contracts.job.JobSpec as spec
-use Rattle.ot_task.proofs.SendLemmas.{task-send}
+use Rattle.ot_job_task.proofs.SendLemmas.{task-send}
 use Rattle.ot_job.specs.contracts.job.Job as job
 use Rattle.ot_core.specs.contracts.hall.Hall as hall
 use Rattle.ot_pool.specs.contracts.hub.Hub as hub

@@ -1,6 +1,6 @@
 use Rattle.std.proofs.Common.{◌≡◌, ◌∙◌, ap, sym, arith, IsTrue, subst, ◌↔◌}
 use Rattle.ot_job.proofs.Common.{Region, at}
-use Rattle.ot_task.specs.Pieces.{Runs}
+use Rattle.ot_job_task.specs.Pieces.{Runs}
 use Rattle.ot_job.proofs.ClaimableLemmas.{at-here}
 use Rattle.ot_job.proofs.job.is_out.Goals as goal
 use Rattle.ot_job.proofs.SoundLemmas.{at-past}

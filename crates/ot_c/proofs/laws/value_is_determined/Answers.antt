@@ -1,5 +1,0 @@
-use Rattle.ot_c.proofs.ValueLemmas.{value_law}
-use Rattle.ot_c.proofs.laws.value_is_determined.Goals as goal
-
-pub returns : goal.returns
-returns c = value_law

@@ -1,0 +1,7 @@
+-- One after another, up to the first that is refused.
+use Rattle.std.specs.Prelude.{List, [], ◌∷◌, Result, Ok}
+use Rattle.ot_c_scope.specs.Results.{Refusal, ◌>>=◌}
+
+unfoldable pub each : {A B : Type 0} → (A → B → Result A Refusal) → A → List B → Result A Refusal
+each step a [] = Ok a
+each step a (b ∷ bs) = step a b >>= λ c. each step c bs

@@ -1,0 +1,20 @@
+-- What a C program begins with.
+use Rattle.std.specs.Prelude.{ℕ, List, ◌++◌, map, length, replicate, string_bytes}
+use Rattle.ot_model.specs.Programs.{Arrays}
+use Rattle.ot_c_judge.specs.declared.lowered.CArray.{CArray}
+
+-- the numbers of an array at the start
+abbrev pub numbers_of : CArray → List ℕ
+numbers_of a = a.cells.items ++ replicate a.zeros 0
+
+-- names and lengths
+abbrev pub named : List CArray → List (List ℕ × ℕ)
+named arrays = map (λ a. (string_bytes a.name, length (numbers_of a))) arrays
+
+-- what its program may name, by names and lengths; of tasks it may have as many as it may have statements
+abbrev pub shape_of : List CArray → Arrays
+shape_of arrays = record { arrays = named arrays; tasks = 20000 }
+
+-- the numbers at the start
+abbrev pub cells_of : List CArray → List (List ℕ)
+cells_of arrays = map numbers_of arrays

@@ -1,0 +1,56 @@
+//! What a C program begins with.
+ghost use Rattle.std.specs.Prelude.{◌≡◌, length, IfOk};
+ghost use Rattle.ot_c_judge.specs.Start.{cells_of, numbers_of, shape_of};
+
+use crate::lowered::CArray;
+use ot_model::{ArrayShape, Cells, Shape};
+use std::alloc::{AllocError, Global};
+
+/// How many task statements a program may have: no fewer than statements.
+pub(crate) const MAX_TASKS: u32 = 20_000;
+
+/// How many numbers an array has.
+fn number_count(array: &CArray) -> usize
+    ensures { result ≡ length (numbers_of array.now) }
+{
+    array.cells.len() + array.zeros as usize
+}
+
+/// Names and lengths of arrays, fewer than 2^32 and each shorter.
+pub(crate) fn shape_of(alloc: Global, arrays: &[CArray]) -> Result<Shape, AllocError>
+    ensures { IfOk result (λ shape. shape ≡ shape_of arrays.now) }
+{
+    let mut named = Vec::new(alloc);
+    for array in arrays {
+        let Ok(len) = u32::try_from(number_count(array)) else {
+            return Err(AllocError);
+        };
+        let name = String::from_str(alloc, array.name.as_str())?;
+        named.push(ArrayShape { name, len })?;
+    }
+    if named.len() > u32::MAX as usize {
+        return Err(AllocError);
+    }
+    Ok(Shape::new(named, MAX_TASKS))
+}
+
+/// All numbers of an array at the start, of which none is copied.
+fn all_numbers(alloc: Global, array: CArray) -> Result<Vec<u64>, AllocError>
+    ensures { IfOk result (λ numbers. numbers.items ≡ numbers_of array) }
+{
+    let mut numbers = array.cells;
+    let zeros = vec![in alloc; 0u64; array.zeros as usize]?;
+    numbers.extend_from_slice(&zeros)?;
+    Ok(numbers)
+}
+
+/// The numbers at the start. Only here are their zeros made.
+pub(crate) fn cells_of(alloc: Global, arrays: Vec<CArray>) -> Result<Cells, AllocError>
+    ensures { IfOk result (λ cells. cells ≡ cells_of arrays.items) }
+{
+    let mut cells = Vec::new(alloc);
+    for array in arrays {
+        cells.push(all_numbers(alloc, array)?)?;
+    }
+    Ok(Cells::new(cells))
+}

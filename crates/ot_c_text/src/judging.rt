@@ -1,0 +1,92 @@
+//! A text, judged.
+ghost use Rattle.std.specs.Prelude.{◌≡◌, map, IfOk};
+ghost use Rattle.ot_c_program.specs.Files.{lowered_of};
+ghost use Rattle.ot_c_judge.specs.Reports.{told_by};
+ghost use Rattle.ot_c_arrays.specs.Arrays.{array_of};
+ghost use Rattle.ot_c_text.specs.Judging.{Judges, JudgesProgram, JudgesBy, IsJudged, judged_array};
+
+use crate::reading::{Meaning, meaning_of};
+use ot_c_judge::{Order, Report, report_c};
+use ot_c_program::Reductions;
+use std::alloc::{AllocError, Global};
+
+/// Judges a text of this name, and tells what is found. Nothing is told where it means no program that can be judged.
+pub fn judge_text(alloc: Global, name: &str, text: &[u8]) -> Result<Option<Report>, AllocError>
+    ensures { IfOk result (λ told. Judges name.now text.now (told_by told)) }
+{
+    match meaning_of(alloc, text)? {
+        Meaning::Program(lowered) => judge_program(alloc, name, text, lowered),
+        Meaning::Outside(_, _) => Ok(None),
+    }
+}
+
+/// Judges a program by what orders its tasks in C: there a task that takes part in a reduction by a name has no dependence by
+/// that, and one that does by a pointer has the one of an `in`. Where some do so and some so neither order is C's.
+fn judge_program(
+    alloc: Global,
+    name: &str,
+    text: &[u8],
+    lowered: ot_c_program::Lowered,
+) -> Result<Option<Report>, AllocError>
+    ensures { IfOk result (λ told. JudgesProgram name.now text.now (lowered_of lowered) lowered.reductions (told_by told)) }
+{
+    match lowered.reductions {
+        Reductions::ByNames => judge_by(alloc, name, text, Order::OfC, lowered),
+        Reductions::ByPointers => judge_by(alloc, name, text, Order::OfCByPointers, lowered),
+        Reductions::Mixed(_) => Ok(None),
+    }
+}
+
+fn judge_by(
+    alloc: Global,
+    name: &str,
+    text: &[u8],
+    order: Order,
+    lowered: ot_c_program::Lowered,
+) -> Result<Option<Report>, AllocError>
+    ensures { IfOk result (λ told. JudgesBy order name.now text.now (lowered_of lowered) (told_by told)) }
+{
+    let judged = judged(alloc, order, lowered)?;
+    report_c(alloc, name, text, judged)
+}
+
+/// A program as it is judged, where this orders its tasks.
+fn judged(
+    alloc: Global,
+    order: Order,
+    lowered: ot_c_program::Lowered,
+) -> Result<ot_c_judge::Lowered, AllocError>
+    ensures { IfOk result (IsJudged order (lowered_of lowered)) }
+{
+    let arrays = judged_arrays(alloc, lowered.arrays)?;
+    Ok(ot_c_judge::Lowered {
+        arrays,
+        program: lowered.program,
+        places: lowered.places,
+        order,
+    })
+}
+
+/// The arrays with their cells, of which none is copied.
+fn judged_arrays(
+    alloc: Global,
+    arrays: Vec<ot_c_program::CArray>,
+) -> Result<Vec<ot_c_judge::CArray>, AllocError>
+    ensures { IfOk result (λ judged. map judged_array judged.items ≡ map array_of arrays.items) }
+{
+    let mut judged = Vec::new(alloc);
+    for array in arrays {
+        judged.push(judged_array(array))?;
+    }
+    Ok(judged)
+}
+
+fn judged_array(array: ot_c_program::CArray) -> ot_c_judge::CArray
+    ensures { judged_array result ≡ array_of array }
+{
+    ot_c_judge::CArray {
+        name: array.name,
+        cells: array.cells,
+        zeros: array.zeros,
+    }
+}

@@ -1,0 +1,8 @@
+use Rattle.std.proofs.Common.{◌≡◌, ◌+◌, drop}
+use Rattle.std.specs.List.{prefix_len}
+use Rattle.ot_c_words.specs.Spans.{is_blank}
+use Rattle.ot_c_words.proofs.span.blank_len.Given as goal
+
+-- what is left tells how many
+abbrev pub invariant-loop-i : goal.invariant-loop-i
+invariant-loop-i l = l.i + prefix_len is_blank (drop l.i l.bytes) ≡ prefix_len is_blank l.bytes

@@ -1,0 +1,108 @@
+//! Words that mean something in what is read.
+ghost use Rattle.std.specs.Prelude.{◌≡◌};
+ghost use Rattle.ot_c_words.specs.Names.{known_of};
+
+use crate::table::look_up;
+
+/// A word of C, of the preprocessor, or of OpenMP's directives and clauses.
+#[derive(Clone, Copy, Debug, PartialEq, Eq)]
+pub enum Known {
+    If,
+    Else,
+    For,
+    Static,
+    Const,
+    Void,
+    Int,
+    Unsigned,
+    Long,
+    Word64,
+    Size,
+    Main,
+    Return,
+    Printf,
+    Show,
+    Min,
+    Max,
+    Include,
+    Define,
+    Pragma,
+    Omp,
+    Parallel,
+    Single,
+    Master,
+    Masked,
+    Task,
+    Taskwait,
+    Taskgroup,
+    Taskyield,
+    Depend,
+    Iterator,
+    In,
+    Out,
+    Inout,
+    InReduction,
+    TaskReduction,
+    Shared,
+    Firstprivate,
+    Default,
+    None,
+    NumThreads,
+    Untied,
+    Mergeable,
+    Priority,
+}
+
+const KNOWN: [(&str, Known); 44] = [
+    ("if", Known::If),
+    ("else", Known::Else),
+    ("for", Known::For),
+    ("static", Known::Static),
+    ("const", Known::Const),
+    ("void", Known::Void),
+    ("int", Known::Int),
+    ("unsigned", Known::Unsigned),
+    ("long", Known::Long),
+    ("uint64_t", Known::Word64),
+    ("size_t", Known::Size),
+    ("main", Known::Main),
+    ("return", Known::Return),
+    ("printf", Known::Printf),
+    ("show", Known::Show),
+    ("min", Known::Min),
+    ("max", Known::Max),
+    ("include", Known::Include),
+    ("define", Known::Define),
+    ("pragma", Known::Pragma),
+    ("omp", Known::Omp),
+    ("parallel", Known::Parallel),
+    ("single", Known::Single),
+    ("master", Known::Master),
+    ("masked", Known::Masked),
+    ("task", Known::Task),
+    ("taskwait", Known::Taskwait),
+    ("taskgroup", Known::Taskgroup),
+    ("taskyield", Known::Taskyield),
+    ("depend", Known::Depend),
+    ("iterator", Known::Iterator),
+    ("in", Known::In),
+    ("out", Known::Out),
+    ("inout", Known::Inout),
+    ("in_reduction", Known::InReduction),
+    ("task_reduction", Known::TaskReduction),
+    ("shared", Known::Shared),
+    ("firstprivate", Known::Firstprivate),
+    ("default", Known::Default),
+    ("none", Known::None),
+    ("num_threads", Known::NumThreads),
+    ("untied", Known::Untied),
+    ("mergeable", Known::Mergeable),
+    ("priority", Known::Priority),
+];
+
+/// Which word a text is, where it is one of these.
+pub(crate) fn known_word(text: &[u8]) -> Option<Known>
+    ensures { result ≡ known_of text.now }
+{
+    look_up(&KNOWN, text)
+}

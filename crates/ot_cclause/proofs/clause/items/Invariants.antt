@@ -1,9 +1,0 @@
-use Rattle.std.proofs.Common.{◌≡◌, drop}
-use Rattle.ot_cread.specs.Tree.{items_of, over_of}
-use Rattle.ot_cdeclare.specs.Each.{each}
-use Rattle.ot_cclause.specs.Clauses.{head_of, item_step}
-use Rattle.ot_cclause.proofs.clause.items.Given as goal
-
--- those that are left complete what there is
-abbrev pub invariant-loop-item : goal.invariant-loop-item
-invariant-loop-item l = each (item_step l.role (over_of l.over)) (head_of l.heading) (items_of (drop l.item-index l.items)) ≡ each (item_step l.role (over_of l.over)) (head_of l.fn.heading) (items_of l.items)

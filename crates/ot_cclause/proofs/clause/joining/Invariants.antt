@@ -1,9 +1,0 @@
-use Rattle.std.proofs.Common.{◌≡◌, drop}
-use Rattle.ot_cread.specs.Tree.{items_of}
-use Rattle.ot_cdeclare.specs.Each.{each}
-use Rattle.ot_cclause.specs.Clauses.{joined_of, takes_part}
-use Rattle.ot_cclause.proofs.clause.joining.Given as goal
-
--- those that are left complete what there is
-abbrev pub invariant-loop-item : goal.invariant-loop-item
-invariant-loop-item l = each (takes_part l.operation) (joined_of l.joined) (items_of (drop l.item-index l.items)) ≡ each (takes_part l.operation) (joined_of l.fn.joined) (items_of l.items)

@@ -1,9 +1,0 @@
-use Rattle.std.proofs.Common.{◌≡◌, drop}
-use Rattle.ot_cread.specs.Tree.{clauses_of}
-use Rattle.ot_cdeclare.specs.Each.{each}
-use Rattle.ot_cclause.specs.Clauses.{head_of, clause_step}
-use Rattle.ot_cclause.proofs.clause.others.Given as goal
-
--- those that are left complete what there is
-abbrev pub invariant-loop-clause : goal.invariant-loop-clause
-invariant-loop-clause l = each clause_step (head_of l.heading) (clauses_of (drop l.clause-index l.clauses)) ≡ each clause_step (head_of l.fn.heading) (clauses_of l.clauses)

@@ -1,5 +1,0 @@
-use Rattle.ot_cclause.proofs.OwnLemmas.{unmarked}
-use Rattle.ot_cclause.proofs.own.Owns.new.Goals as goal
-
-pub returns : goal.returns
-returns c = unmarked c.new.result c.new.ensures.empty c.args.cells.items

@@ -1,5 +1,0 @@
-use Rattle.ot_ccode.proofs.maker.Maker.+measure.Given as goal
-
--- each call goes one deeper
-abbrev pub decreases-measure : goal.decreases-measure
-decreases-measure l = l.depth

@@ -1,9 +1,0 @@
-use Rattle.std.proofs.Common.{◌≡◌, drop}
-use Rattle.ot_cstatement.specs.Tree.{exprs_of}
-use Rattle.ot_cdeclare.specs.Each.{each}
-use Rattle.ot_cdeclare.specs.Arrays.{number_step, numbers}
-use Rattle.ot_cdeclare.proofs.arrays.numbers.Given as goal
-
--- those that are left complete what there is
-abbrev pub invariant-loop-expr : goal.invariant-loop-expr
-invariant-loop-expr l = each (number_step l.scope l.kind) l.cells.items (exprs_of (drop l.expr-index l.exprs)) ≡ numbers l.scope l.kind (exprs_of l.exprs)

@@ -1,9 +1,0 @@
-use Rattle.std.proofs.Common.{◌≡◌, ◌-◌, [], length}
-use Rattle.ot_cfile.specs.Program.{variables_of}
-use Rattle.ot_cstatement.specs.Reading.{steps}
-use Rattle.ot_cfile.specs.Declarations.{variables_step}
-use Rattle.ot_cfile.proofs.declaration.variables.Given as goal
-
--- what is left to read completes what was read
-abbrev pub invariant-loop-turn : goal.invariant-loop-turn
-invariant-loop-turn l = steps variables_step (length l.words - l._turn) (variables_of l.found.items) l.rest ≡ steps variables_step (length l.words) [] l.words

@@ -1,7 +1,0 @@
-use Rattle.std.proofs.Common.{◌≡◌, map}
-use Rattle.ot_cjudge.specs.Start.{cells_of}
-use Rattle.ot_cjudge.proofs.start.cells_of.Given as goal
-
--- those so far are there
-abbrev pub invariant-loop-array : goal.invariant-loop-array
-invariant-loop-array l = map (λ a. a.items) l.cells.items ≡ cells_of l.yielded

@@ -1,0 +1,47 @@
+//! The greeting.
+ghost use Rattle.ot_client_ask.specs.Asking.{GreetsServer};
+ghost use Rattle.ot_client_ask.specs.Streams.{link, outgoing};
+
+use crate::asked::AskFault;
+use crate::hearing::hear;
+use crate::line::{hello_line, is_welcome};
+use crate::stream::LineSource;
+use ot_front::{Sink, write_whole};
+use ot_program::is_name;
+use std::alloc::Global;
+
+/// Says whose session is wanted, and hears whether there is one. The welcome isn't printed.
+pub fn greet<H: LineSource, W: Sink>(
+    alloc: Global,
+    name: &str,
+    heard: &mut H,
+    wire: &mut W,
+) -> Result<(), AskFault>
+    ensures { GreetsServer name.now
+        (link (H.coming heard.old) (outgoing (W.contents wire.old) (W.failures wire.old)))
+        (link (H.coming heard.new) (outgoing (W.contents wire.new) (W.failures wire.new))) result }
+{
+    if !is_name(name) {
+        return Err(AskFault::UnknownTenant);
+    }
+    let Ok(line) = hello_line(alloc, name) else {
+        return Err(AskFault::Memory);
+    };
+    if write_whole(wire, line.as_bytes()).is_err() {
+        return Err(AskFault::Closed);
+    }
+    let mut reply = Vec::new(alloc);
+    if let Err(fault) = hear(heard, &mut reply) {
+        return Err(fault);
+    }
+    if is_welcome(&reply) {
+        return Ok(());
+    }
+    if reply.as_slice() == b"[\"err\",0,409]\n".as_slice() {
+        return Err(AskFault::Busy);
+    }
+    if reply.as_slice() == b"[\"err\",0,404]\n".as_slice() {
+        return Err(AskFault::UnknownTenant);
+    }
+    Err(AskFault::StrangeGreeting)
+}

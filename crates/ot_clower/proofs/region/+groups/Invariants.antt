@@ -1,8 +1,0 @@
-use Rattle.std.proofs.Common.{◌≡◌, drop}
-use Rattle.ot_cstatement.specs.Tree.{body_of, list_of}
-use Rattle.ot_clower.specs.Regions.{has_group}
-use Rattle.ot_clower.proofs.region.+groups.Given as goal
-
--- none stands in those that were passed
-abbrev pub invariant-has_group-loop-stmt : goal.invariant-has_group-loop-stmt
-invariant-has_group-loop-stmt l = has_group (body_of (list_of (drop l.stmt-index l.stmts))) ≡ has_group (body_of (list_of l.stmts))

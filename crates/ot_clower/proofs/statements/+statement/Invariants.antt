@@ -1,9 +1,0 @@
-use Rattle.std.proofs.Common.{◌≡◌, drop}
-use Rattle.ot_cstatement.specs.Tree.{body_of, list_of}
-use Rattle.ot_clower.specs.Lines.{lines_of}
-use Rattle.ot_clower.specs.Statements.{source_of, body_from, body}
-use Rattle.ot_clower.proofs.statements.+statement.Given as goal
-
--- those that are left complete what there is
-abbrev pub invariant-body-loop-stmt : goal.invariant-body-loop-stmt
-invariant-body-loop-stmt l = body_from (source_of l.source) l.scope (lines_of l.lines) (body_of (list_of (drop l.stmt-index l.stmts))) ≡ body (source_of l.source) l.scope (body_of (list_of l.stmts))

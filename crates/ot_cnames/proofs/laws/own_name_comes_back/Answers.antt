@@ -1,5 +1,0 @@
-use Rattle.ot_cnames.proofs.OwnLemmas.{comes_back}
-use Rattle.ot_cnames.proofs.laws.own_name_comes_back.Goals as goal
-
-pub returns : goal.returns
-returns c = comes_back

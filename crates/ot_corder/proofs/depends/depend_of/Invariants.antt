@@ -1,6 +1,0 @@
-use Rattle.std.proofs.Common.{◌≡◌, take}
-use Rattle.ot_corder.specs.Orders.{depend_of}
-use Rattle.ot_corder.proofs.depends.depend_of.Given as goal
-
-abbrev pub invariant-loop-used : goal.invariant-loop-used
-invariant-loop-used l = l.kept.items ≡ depend_of (take l.used-index l.used-items)

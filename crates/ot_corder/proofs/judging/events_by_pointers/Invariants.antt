@@ -1,9 +1,0 @@
-use Rattle.std.proofs.Common.{◌≡◌, ◌++◌, map, take, drop}
-use Rattle.ot_race.specs.View.{events_in}
-use Rattle.ot_corder.specs.Orders.{event_by_pointers}
-use Rattle.ot_corder.proofs.judging.events_by_pointers.Given as goal
-
--- the first so many are as C takes them, and the others as they were
-abbrev pub invariant-loop-number : goal.invariant-loop-number
-invariant-loop-number l =
-    events_in l.events.items ≡ map event_by_pointers (take l.number (events_in l.initial.events.items)) ++ drop l.number (events_in l.initial.events.items)

@@ -1,5 +1,0 @@
-use Rattle.ot_corder.proofs.AlikeLemmas.{no_fold_same}
-use Rattle.ot_corder.proofs.laws.no_fold_is_same.Goals as goal
-
-pub returns : goal.returns
-returns c = no_fold_same

@@ -1,8 +1,0 @@
-use Rattle.std.proofs.Common.{◌≡◌, ◌-◌, [], length}
-use Rattle.ot_cread.specs.Tree.{items_of}
-use Rattle.ot_cread.specs.Clauses.{steps, item_step}
-use Rattle.ot_cread.proofs.clause.items.Given as goal
-
--- what is left to read completes what was read
-abbrev pub invariant-loop-turn : goal.invariant-loop-turn
-invariant-loop-turn l = steps (item_step l.parts) (length l.words - l._turn) (items_of l.found.items) l.rest ≡ steps (item_step l.parts) (length l.words) [] l.words

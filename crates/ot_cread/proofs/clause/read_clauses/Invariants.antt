@@ -1,8 +1,0 @@
-use Rattle.std.proofs.Common.{◌≡◌, ◌-◌, [], length}
-use Rattle.ot_cread.specs.Tree.{clauses_of}
-use Rattle.ot_cread.specs.Clauses.{steps, clause_step}
-use Rattle.ot_cread.proofs.clause.read_clauses.Given as goal
-
--- what is left to read completes what was read
-abbrev pub invariant-loop-turn : goal.invariant-loop-turn
-invariant-loop-turn l = steps clause_step (length l.words - l._turn) (clauses_of l.found.items) l.rest ≡ steps clause_step (length l.words) [] l.words

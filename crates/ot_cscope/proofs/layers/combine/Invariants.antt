@@ -1,8 +1,0 @@
-use Rattle.std.proofs.Common.{◌≡◌, drop}
-use Rattle.ot_cscope.specs.Layers.{opened_in}
-use Rattle.ot_cscope.specs.Scopes.{combines}
-use Rattle.ot_cscope.proofs.layers.combine.Given as goal
-
--- those that are left decide
-abbrev pub invariant-loop-layer : goal.invariant-loop-layer
-invariant-loop-layer l = combines (opened_in (drop l.layer-index l.layers)) ≡ combines (opened_in l.layers)

@@ -1,8 +1,0 @@
-use Rattle.std.proofs.Common.{◌≡◌, ◌-◌, [], length}
-use Rattle.ot_cstatement.specs.Tree.{exprs_of}
-use Rattle.ot_cstatement.specs.Reading.{steps, values_step}
-use Rattle.ot_cstatement.proofs.part.values.Given as goal
-
--- what is left to read completes what was read
-abbrev pub invariant-loop-turn : goal.invariant-loop-turn
-invariant-loop-turn l = steps values_step (length l.words - l._turn) (exprs_of l.found.items) l.rest ≡ steps values_step (length l.words) [] l.words

@@ -1,9 +1,0 @@
-use Rattle.std.proofs.Common.{◌≡◌, ◌++◌, drop, map}
-use Rattle.serde_json.specs.View.{view}
-use Rattle.ot_cdeclare.specs.Arrays.{array_of}
-use Rattle.ot_ctext.specs.Requests as meant
-use Rattle.ot_ctext.proofs.requests.making.Given as goal
-
--- those that are left follow
-abbrev pub invariant-loop-array : goal.invariant-loop-array
-invariant-loop-array l = map view l.requests.items ++ meant.making (map array_of (drop l.array-index l.arrays)) ≡ meant.making (map array_of l.arrays)

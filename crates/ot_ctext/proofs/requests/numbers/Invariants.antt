@@ -1,8 +1,0 @@
-use Rattle.std.proofs.Common.{◌≡◌, ◌++◌, drop, map}
-use Rattle.serde_json.specs.View.{view}
-use Rattle.ot_ctext.specs.Requests as meant
-use Rattle.ot_ctext.proofs.requests.numbers.Given as goal
-
--- those that are left follow
-abbrev pub invariant-loop-cell : goal.invariant-loop-cell
-invariant-loop-cell l = map view l.values.items ++ meant.numbers (drop l.cell-index l.cells) ≡ meant.numbers l.cells

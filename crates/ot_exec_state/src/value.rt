@@ -1,0 +1,40 @@
+ghost use Rattle.std.specs.Prelude.{◌≡◌};
+ghost use Rattle.ot_exec_state.specs.Results.{Gives};
+ghost use Rattle.ot_exec_state.specs.Values.{is_unknown, number};
+
+use crate::fault::{Halt, Reason};
+
+/// What a slot or a cell has.
+#[derive(Clone, Copy, Debug, PartialEq, Eq)]
+pub enum Value {
+    /// A number of some integer type, kept in 64 bits.
+    Number(u64),
+    /// The place of an object at an index, as two's complement has it: it may lie outside, where nothing may be touched.
+    Pointer(u32, u64),
+    /// A place somewhere in an object.
+    Within(u32),
+    /// A function, by its number.
+    Function(u32),
+    Unknown,
+}
+
+pub fn is_unknown(value: Value) -> bool
+    ensures { result ≡ is_unknown value }
+{
+    match value {
+        Value::Unknown => true,
+        Value::Number(_) | Value::Pointer(_, _) | Value::Within(_) | Value::Function(_) => false,
+    }
+}
+
+/// The number that a value is, or else this is the reason.
+pub fn number(reason: Reason, value: Value) -> Result<u64, Halt>
+    ensures { Gives (λ n. n) result (number reason value) }
+{
+    match value {
+        Value::Number(n) => Ok(n),
+        Value::Pointer(_, _) | Value::Within(_) | Value::Function(_) | Value::Unknown => Err(
+            Halt::For(reason),
+        ),
+    }
+}

@@ -1,7 +1,0 @@
--- What is told of faults one after the other.
-use Rattle.std.proofs.Common.{◌≡◌, List, [], ◌∷◌, ◌++◌, Option, refl}
-use Rattle.ot_fault.specs.Whys.{Why, noted, after}
-
-pub after-append : (told : Option Why) (vs ws : List Why) → after told (vs ++ ws) ≡ after (after told vs) ws
-after-append told [] ws = refl
-after-append told (v ∷ vs) ws = after-append (noted told v) vs ws

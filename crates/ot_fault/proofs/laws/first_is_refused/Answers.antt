@@ -1,5 +1,0 @@
-use Rattle.ot_fault.proofs.LawLemmas.{first_is}
-use Rattle.ot_fault.proofs.laws.first_is_refused.Goals as goal
-
-pub returns : goal.returns
-returns c shape run program small = first_is shape run program small

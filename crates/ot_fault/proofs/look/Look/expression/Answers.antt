@@ -1,7 +1,0 @@
-use Rattle.std.proofs.Common.{ap}
-use Rattle.ot_fault.specs.declared.look.Measure.{Measure}
-use Rattle.ot_fault.proofs.AfterLemmas.{after-append}
-use Rattle.ot_fault.proofs.look.Look.expression.Goals as goal
-
-pub returns-clause-first : goal.returns-clause-first
-returns-clause-first c = rw (c.deep.ensures _ (ap (λ (m : Measure). m.depth) c.value-measure.ensures.measure), c.value-measure.ensures.first) (simp after-append)

@@ -1,5 +1,0 @@
-use Rattle.ot_fault.proofs.AfterLemmas.{after-append}
-use Rattle.ot_fault.proofs.look.Look.task.Goals as goal
-
-pub returns-clause-first : goal.returns-clause-first
-returns-clause-first c = rw (c.nested.ensures, c.list.ensures, c.clauses-cells.ensures.first) (simp after-append)

@@ -1,7 +1,0 @@
-use Rattle.ot_file.specs.declared.place.Place.TheVariants.{Outside}
-use Rattle.ot_file.specs.declared.comment.Part.TheVariants.{Json}
-use Rattle.ot_file.proofs.LawLemmas.{length-blanked_in}
-use Rattle.ot_file.proofs.laws.blanked_keeps_its_length.Goals as goal
-
-pub returns : goal.returns
-returns c = length-blanked_in (Json Outside)

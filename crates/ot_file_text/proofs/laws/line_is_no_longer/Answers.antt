@@ -1,0 +1,7 @@
+use Rattle.std.proofs.Common.{false}
+use Rattle.ot_file_text.specs.declared.place.Place.TheVariants.{Outside}
+use Rattle.ot_file_text.proofs.LawLemmas.{line_in-no_longer}
+use Rattle.ot_file_text.proofs.laws.line_is_no_longer.Goals as goal
+
+pub returns : goal.returns
+returns c = line_in-no_longer Outside false

@@ -1,8 +1,0 @@
-use Rattle.ot_check.proofs.Cited.{if_ok}
-use Rattle.ot_graph.specs.Drawn.{Draws, DrawsLast}
-use Rattle.ot_graph.proofs.drawing.draw.Goals as goal
-
-pub returns-in-Ok : goal.returns-in-Ok
-returns-in-Ok g c =
-    if_ok c.drawing_of.result (Draws c.in-Ok.last.spec c.in-Ok.last.arrays.items) (DrawsLast (g.R.Source.ahead c.args.source.now) (g.R.Source.ahead c.last_run_in.new.source))
-    (λ drawing drawn. record { last = c.in-Ok.last; found = c.in-Ok.ensures.finds; drawn = drawn }) c.drawing_of.ensures

@@ -1,4 +1,0 @@
-use Rattle.ot_machine.proofs.faults.+first_fault.Given as goal
-
-abbrev pub decreases-first_fault : goal.decreases-first_fault
-decreases-first_fault l = l.questions

@@ -1,6 +1,0 @@
-use Rattle.std.proofs.Common.{◌≡◌, ◌++◌, ◌-◌}
-use Rattle.ot_machine.specs.Telling.{around}
-use Rattle.ot_machine.proofs.telling.contexts_of.Given as goal
-
-abbrev pub invariant-loop : goal.invariant-loop
-invariant-loop l = l.found.items ++ around l.contexts (l.most - l.counter) l.number ≡ around l.contexts l.most l.context

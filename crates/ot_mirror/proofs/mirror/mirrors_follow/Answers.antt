@@ -1,5 +1,0 @@
-use Rattle.ot_mirror.proofs.FollowsLemmas.{follows}
-use Rattle.ot_mirror.proofs.mirror.mirrors_follow.Goals as goal
-
-pub returns : goal.returns
-returns c = follows

@@ -1,5 +1,0 @@
-use Rattle.ot_print.proofs.SectionLemmas.{cells_law}
-use Rattle.ot_print.proofs.laws.cells_are_determined.Goals as goal
-
-pub returns : goal.returns
-returns c = cells_law

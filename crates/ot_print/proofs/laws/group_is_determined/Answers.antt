@@ -1,5 +1,0 @@
-use Rattle.ot_print.proofs.GroupLemmas.{group_law}
-use Rattle.ot_print.proofs.laws.group_is_determined.Goals as goal
-
-pub returns : goal.returns
-returns c = group_law

@@ -1,5 +1,0 @@
-use Rattle.ot_print.proofs.StatementLemmas.{statement_law}
-use Rattle.ot_print.proofs.laws.statement_is_determined.Goals as goal
-
-pub returns : goal.returns
-returns c = statement_law

@@ -1,5 +1,0 @@
-use Rattle.ot_print.proofs.StatementLemmas.{shown_so_law}
-use Rattle.ot_print.proofs.laws.statement_is_shown_so.Goals as goal
-
-pub returns : goal.returns
-returns c = shown_so_law

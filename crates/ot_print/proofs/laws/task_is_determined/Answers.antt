@@ -1,5 +1,0 @@
-use Rattle.ot_print.proofs.ClauseLemmas.{task_law}
-use Rattle.ot_print.proofs.laws.task_is_determined.Goals as goal
-
-pub returns : goal.returns
-returns c = task_law

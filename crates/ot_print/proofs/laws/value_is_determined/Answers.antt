@@ -1,5 +1,0 @@
-use Rattle.ot_print.proofs.ValueLemmas.{law}
-use Rattle.ot_print.proofs.laws.value_is_determined.Goals as goal
-
-pub returns : goal.returns
-returns c = law

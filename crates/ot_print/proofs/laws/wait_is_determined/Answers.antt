@@ -1,5 +1,0 @@
-use Rattle.ot_print.proofs.WaitLemmas.{wait_law}
-use Rattle.ot_print.proofs.laws.wait_is_determined.Goals as goal
-
-pub returns : goal.returns
-returns c = wait_law

@@ -1,6 +1,0 @@
-use Rattle.std.proofs.Common.{◌≡◌, ◌++◌, flat_map, take}
-use Rattle.ot_racegraph.specs.Pictures.{awaited_text}
-use Rattle.ot_racegraph.proofs.drawing.put_awaited.Given as goal
-
-abbrev pub invariant-loop-task : goal.invariant-loop-task
-invariant-loop-task l = l.out.items ≡ l.fn.out.items ++ flat_map (awaited_text l.wait) (take l.task-index l.awaited)

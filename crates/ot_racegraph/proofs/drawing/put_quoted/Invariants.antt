@@ -1,6 +1,0 @@
-use Rattle.std.proofs.Common.{◌≡◌, ◌++◌, take}
-use Rattle.ot_racegraph.specs.Pictures.{quoted}
-use Rattle.ot_racegraph.proofs.drawing.put_quoted.Given as goal
-
-abbrev pub invariant-loop-byte : goal.invariant-loop-byte
-invariant-loop-byte l = l.out.items ≡ l.fn.out.items ++ quoted (take l.byte-index l.text)

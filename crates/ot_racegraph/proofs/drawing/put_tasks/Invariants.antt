@@ -1,6 +1,0 @@
-use Rattle.std.proofs.Common.{◌≡◌, ◌++◌, flat_map, take}
-use Rattle.ot_racegraph.specs.Pictures.{task_text}
-use Rattle.ot_racegraph.proofs.drawing.put_tasks.Given as goal
-
-abbrev pub invariant-loop-task : goal.invariant-loop-task
-invariant-loop-task l = l.out.items ≡ l.fn.out.items ++ flat_map task_text (take l.task-index l.tasks)

@@ -1,5 +1,0 @@
-use Rattle.ot_reason.proofs.DueLemmas.{due}
-use Rattle.ot_reason.proofs.laws.faults_are_due.Goals as goal
-
-pub returns : goal.returns
-returns c = due

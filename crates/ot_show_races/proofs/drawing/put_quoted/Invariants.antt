@@ -1,0 +1,6 @@
+use Rattle.std.proofs.Common.{◌≡◌, ◌++◌, take}
+use Rattle.ot_show_races.specs.Pictures.{quoted}
+use Rattle.ot_show_races.proofs.drawing.put_quoted.Given as goal
+
+abbrev pub invariant-loop-byte : goal.invariant-loop-byte
+invariant-loop-byte l = l.out.items ≡ l.fn.out.items ++ quoted (take l.byte-index l.text)

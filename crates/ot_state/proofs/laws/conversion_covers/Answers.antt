@@ -1,5 +1,0 @@
-use Rattle.ot_state.proofs.CoverLemmas.{conversion_covers}
-use Rattle.ot_state.proofs.laws.conversion_covers.Goals as goal
-
-pub returns : goal.returns
-returns c = conversion_covers

@@ -1,5 +1,0 @@
-use Rattle.ot_state.proofs.CoverLemmas.{distance_covers}
-use Rattle.ot_state.proofs.laws.distance_covers.Goals as goal
-
-pub returns : goal.returns
-returns c = distance_covers

@@ -1,5 +1,0 @@
-use Rattle.ot_verdict.specs.Findings.{SaysMore}
-use Rattle.ot_verdict.proofs.judging.finding_of.Given as goal
-
-abbrev pub invariant-loop : goal.invariant-loop
-invariant-loop l = SaysMore l.fn.code l.code

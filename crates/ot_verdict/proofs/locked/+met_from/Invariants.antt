@@ -1,4 +1,0 @@
-use Rattle.ot_verdict.proofs.locked.+met_from.Given as goal
-
-abbrev pub decreases-met_from : goal.decreases-met_from
-decreases-met_from l = l.questions

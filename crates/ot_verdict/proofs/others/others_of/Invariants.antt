@@ -1,4 +1,0 @@
-use Rattle.ot_verdict.proofs.others.others_of.Given as goal
-
-abbrev pub invariant-loop : goal.invariant-loop
-invariant-loop l = Unit {0}

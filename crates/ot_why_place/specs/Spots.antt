@@ -1,0 +1,105 @@
+-- Where each statement of a program stands in the request's line, and in which turns of the loops around it.
+use Rattle.std.specs.Prelude.{ℕ, [], zero, suc, ◌+◌, Bool, true, false, if◌then◌else◌, List, ◌∷◌, ◌++◌, filter, slice_get, Option, Some, None, option_map, option_and_then, unwrap_or, map}
+use Rattle.serde_json.specs.Data.{Data, array, no_items, item}
+use Rattle.ot_program.specs.Copies.{Text, ForText, Turn, GroupByText, ProgramText, NoForm, Placed, Copy, At, Copies, Done, Then}
+use Rattle.ot_program.specs.Meanings.{items, Bindings, profile_of}
+use Rattle.ot_program.specs.Programs.{program_copy}
+use Rattle.ot_why_place.specs.declared.trail.Trail.{Trail}
+use Rattle.ot_why_place.specs.declared.trail.Trail.TheVariants as t
+use Rattle.ot_why_place.specs.declared.trail.Turn as turns
+use Rattle.ot_why_place.specs.declared.trail.Place.{Place}
+
+-- Indices into lists, from the outermost on and from 0: 1 ∷ 2 ∷ [] is the third item of the second.
+abbrev pub Path : Type 0
+Path = List ℕ
+
+pub record Spot : Type 0 where
+  pub path : Path
+  pub placed : Placed
+
+abbrev pub spot : Path → Placed → Spot
+spot path placed = record { path = path; placed = placed }
+
+-- which of a statement's items its first body is; a turn has the loop's
+abbrev pub first_body : Text → ℕ
+first_body (GroupByText op sections body) = 3
+first_body Turn = 4
+first_body text = 2
+
+abbrev pub is_loop : Text → Bool
+is_loop (ForText variable first behind body) = true
+is_loop text = false
+
+abbrev mutual
+  -- a statement, then those in its bodies; in the place of a loop's first body are its turns
+  pub spots : Path → Copy → List Spot
+  spots path (At p one two) =
+      spot path p
+      ∷ ((if is_loop p.text then in_turns path one else in_body (path ++ first_body p.text ∷ []) 0 one) ++ in_body (path ++ 3 ∷ []) 0 two)
+
+  -- a turn stands where its loop does
+  pub in_turns : Path → Copies → List Spot
+  in_turns path Done = []
+  in_turns path (Then turn rest) = spots path turn ++ in_turns path rest
+
+  -- the statements of a body from this item on
+  pub in_body : Path → ℕ → Copies → List Spot
+  in_body path index Done = []
+  in_body path index (Then c rest) = spots (path ++ index ∷ []) c ++ in_body path (index + 1) rest
+
+-- a program, of the profile that its first word names, as the second item of a request
+abbrev pub program_spots : Data → Data → Data → List Spot
+program_spots word shows body = unwrap_or (option_map (λ profile. spots (1 ∷ []) (program_copy profile shows body)) (profile_of word)) []
+
+abbrev pub text_spots : Data → List Spot
+text_spots (array (item t (item a (item b no_items)))) = program_spots t a b
+text_spots _ = []
+
+abbrev pub spots_of : Data → List Spot
+spots_of (array (item t (item program no_items))) = text_spots program
+spots_of _ = []
+
+-- what stands at a path
+abbrev pub value_at : Data → Path → Option Data
+value_at d [] = Some d
+value_at d (index ∷ path) = option_and_then (λ item. value_at item path) (slice_get (items d) index)
+
+-- ---- which of them replies count
+
+-- what is a statement of the expanded program
+abbrev pub is_statement : Text → Bool
+is_statement (ForText variable first behind body) = false
+is_statement Turn = false
+is_statement (ProgramText shows body) = false
+is_statement NoForm = false
+is_statement text = true
+
+abbrev pub statements_of : Data → List Spot
+statements_of request = filter (λ s. is_statement s.placed.text) (spots_of request)
+
+-- counted from 1
+abbrev pub numbered : {A : Type 0} → ℕ → List A → Option A
+numbered zero list = None
+numbered (suc n) list = slice_get list n
+
+-- the path, and the variables with their numbers, the innermost first
+abbrev pub place_at : Spot → Path × Bindings
+place_at s = (s.path, s.placed.variables)
+
+-- ---- what the code's values stand for
+
+abbrev pub turn_by : turns.Turn → List ℕ × ℕ
+turn_by turn = (turn.name.now, turn.number)
+
+abbrev pub path_of : Trail → Path
+path_of t.Root = []
+path_of (t.Item' index p outer) = path_of outer ++ index ∷ []
+path_of (t.Turn' turn p outer) = path_of outer
+
+abbrev pub bindings_of : Trail → Bindings
+bindings_of t.Root = []
+bindings_of (t.Item' index p outer) = bindings_of outer
+bindings_of (t.Turn' turn p outer) = turn_by turn ∷ bindings_of outer
+
+abbrev pub place_by : Place → Path × Bindings
+place_by place = (place.path.items, map turn_by place.turns.items)

@@ -1,6 +1,0 @@
-use Rattle.ot_words.specs.Names.{known_of}
-use Rattle.ot_words.proofs.known.known_word.Goals as goal
-
-pub returns : goal.returns
-unfolding known_of
-returns c = c.look_up.ensures

@@ -1,4 +1,0 @@
-use Rattle.pool_tests.proofs.bench.drive.Given as goal
-
-abbrev pub ghosts-drive_on : goal.ghosts-drive_on
-ghosts-drive_on g a = record { name = a.blank.name; parts = a.blank.parts }

@@ -1,4 +1,0 @@
-use Rattle.pool_tests.proofs.play.play.Given as goal
-
-abbrev pub ghosts-on_pool : goal.ghosts-on_pool
-ghosts-on_pool g a = record { name = a.blank.name; parts = a.blank.parts }

@@ -1,4 +1,0 @@
-use Rattle.pool_tests.proofs.turns.claimed_by.Given as goal
-
-abbrev pub ghosts-claimed_of : goal.ghosts-claimed_of
-ghosts-claimed_of a = record { name = a.blank.name; parts = a.blank.parts }

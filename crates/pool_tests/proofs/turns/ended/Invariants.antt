@@ -1,4 +1,0 @@
-use Rattle.pool_tests.proofs.turns.ended.Given as goal
-
-abbrev pub ghosts-told_of : goal.ghosts-told_of
-ghosts-told_of a = record { name = a.blank.name; parts = a.blank.parts }
