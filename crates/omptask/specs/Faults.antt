@@ -10,8 +10,8 @@ use Rattle.ot_c_judge.specs.declared.report.Verdict.{Verdict}
 use Rattle.ot_c_judge.specs.declared.report.Verdict.TheVariants as verdict
 use Rattle.ot_file_diagnosis.specs.declared.summary.Outcome.{Outcome}
 use Rattle.ot_file_diagnosis.specs.declared.summary.Outcome.TheVariants as o
-use Rattle.ot_front.specs.declared.fault.FrontFault.{FrontFault}
-use Rattle.ot_front.specs.declared.fault.FrontFault.TheVariants as front
+use Rattle.ot_session.specs.declared.fault.FrontFault.{FrontFault}
+use Rattle.ot_session.specs.declared.fault.FrontFault.TheVariants as front
 use Rattle.ot_client_keep.specs.declared.fault.KeepFault.{KeepFault}
 use Rattle.ot_client_keep.specs.declared.fault.KeepFault.TheVariants as keep
 use Rattle.ot_show_last.specs.declared.fault.LastFault.{LastFault}

@@ -14,8 +14,8 @@ use crate::judging::{
 };
 use ot_c_text::{Session, session_of};
 use ot_file_diagnosis::{Format, Outcome, Paint, Source, put_diagnosis, put_results};
-use ot_front::Writing;
 use ot_model::ArrayShape;
+use ot_session::Writing;
 use serde_json::Value;
 use std::alloc::{AllocError, Global};
 use std::fs::File;

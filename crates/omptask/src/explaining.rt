@@ -2,7 +2,7 @@
 use crate::fault::Fault;
 use ot_client_ask::{Asked, LineSource, Remarker, Tally, converse, greet, hear};
 use ot_client_mirror::Mirror;
-use ot_front::{Sink, write_whole};
+use ot_session::{Sink, write_whole};
 use std::alloc::{AllocError, Global};
 
 /// Says what is wrong where the server refuses a line, over the arrays that its replies tell.

@@ -5,7 +5,7 @@ ghost use Rattle.omptask.specs.Faults.{fault_of, fault_of_keep, fault_of_last, f
 use crate::reaching::Cause;
 use ot_client_ask::AskFault;
 use ot_client_keep::KeepFault;
-use ot_front::FrontFault;
+use ot_session::FrontFault;
 use ot_show_last::{LastFault, Untaken};
 use std::io::ErrorKind;
 

@@ -8,7 +8,7 @@ use crate::{print_text, tell_bad_line};
 use ot_book::Book;
 use ot_exec_check::{Drawn, draw_run};
 use ot_file_diagnosis::{Format, Paint, Source, put_found};
-use ot_front::{Reading, Writing, write_whole};
+use ot_session::{Reading, Writing, write_whole};
 use ot_show_graph::draw;
 use ot_show_last::{LastFault, begun};
 use ot_show_refusal::{Refused, picture_on};

@@ -22,8 +22,8 @@ use ot_file_diagnosis::{
 };
 use ot_file_judge::{JudgeFault, lines_of};
 use ot_file_report::report_on;
-use ot_front::{Sink, write_whole};
 use ot_model::ArrayShape;
+use ot_session::{Sink, write_whole};
 use serde_json::Value;
 use std::alloc::{AllocError, Global};
 

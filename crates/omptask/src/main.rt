@@ -34,7 +34,7 @@ use ot_client_ask::{Asked, LineSource, LinesOf, Tally, ask};
 use ot_client_keep::{restore, save};
 use ot_commands::hold_standard;
 use ot_file_diagnosis::Paint;
-use ot_front::{Reading, Sink, Writing, write_whole};
+use ot_session::{Reading, Sink, Writing, write_whole};
 use ot_show_last::{Untaken, last_run};
 use ot_why_explain::{Explained, explain, explain_quietly};
 use ot_why_reason::code_page;

@@ -1,7 +1,7 @@
 -- The lines between a client and a server.
 use Rattle.std.specs.Prelude.{◌≡◌, ◌⊎◌, ℕ, false, List, Option, IfSome, Result, Ok, Err, ◌==◌, ◌&&◌, ◌||◌, ◌-◌, nat_le, Bool, true, if◌then◌else◌, [], ◌∷◌, ◌++◌, length, take, slice_get, unwrap_or, codes, bytes_eq}
 use Rattle.std.specs.Io.KnownBytes.{Appends, Consumes, IsAtEnd}
-use Rattle.ot_front.specs.Serving.{AppendsFront, next_count}
+use Rattle.ot_session.specs.Serving.{AppendsFront, next_count}
 use Rattle.ot_client_ask.specs.declared.stream.LineEnd.{LineEnd}
 use Rattle.ot_client_ask.specs.declared.stream.LineEnd.TheVariants.{Whole, Cut}
 use Rattle.ot_client_ask.specs.declared.stream.ReadFault.{ReadFault}

@@ -9,7 +9,7 @@ use crate::exchange::{Step, exchange, leave};
 use crate::greeting::greet;
 use crate::remarker::{Remarker, Silence};
 use crate::stream::LineSource;
-use ot_front::Sink;
+use ot_session::Sink;
 use std::alloc::Global;
 
 /// Greets a server for a tenant, sends each line of `typed`, and prints its reply before the next line is

@@ -10,7 +10,7 @@ use crate::hearing::{hear, read_line};
 use crate::line::{is_last, is_refusal, says_bye};
 use crate::remarker::Remarker;
 use crate::stream::LineSource;
-use ot_front::{Sink, write_whole};
+use ot_session::{Sink, write_whole};
 use std::alloc::Global;
 
 /// What one line came to.

@@ -6,8 +6,8 @@ use crate::asked::AskFault;
 use crate::hearing::hear;
 use crate::line::{hello_line, is_welcome};
 use crate::stream::LineSource;
-use ot_front::{Sink, write_whole};
 use ot_program::is_name;
+use ot_session::{Sink, write_whole};
 use std::alloc::Global;
 
 /// Says whose session is wanted, and hears whether there is one. The welcome isn't printed.

@@ -8,8 +8,8 @@ ghost use Rattle.ot_model.specs.Programs.{arrays_of};
 use crate::fault::KeepFault;
 use crate::question::{ask_arrays, ask_checkpoint, ask_free};
 use ot_client_ask::LineSource;
-use ot_front::Sink;
 use ot_model::ArrayShape;
+use ot_session::Sink;
 use std::alloc::Global;
 
 /// Sees that the tenant has no array, or frees those that it has where they are to be replaced. Its log begins anew.

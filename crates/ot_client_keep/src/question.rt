@@ -10,8 +10,8 @@ ghost use Rattle.ot_model.specs.Programs.{arrays_of};
 use crate::answer::{Answer, read_answer};
 use crate::fault::KeepFault;
 use ot_client_ask::{AskFault, LineSource, hear};
-use ot_front::{Sink, write_whole};
 use ot_model::ArrayShape;
+use ot_session::{Sink, write_whole};
 use std::alloc::{AllocError, Global};
 
 /// A request.

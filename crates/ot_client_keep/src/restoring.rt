@@ -11,7 +11,7 @@ use crate::question::ask_line;
 use crate::tenant::{read_arrays, say_bye};
 use memchr::memchr;
 use ot_client_ask::{AskFault, LineSource, greet};
-use ot_front::Sink;
+use ot_session::Sink;
 use std::alloc::Global;
 
 /// What a file said beside the arrays. The tenant's own numbers have begun anew.

@@ -12,7 +12,7 @@ use crate::file::file_text;
 use crate::question::{ask_checkpoint, ask_units};
 use crate::tenant::{read_arrays, say_bye};
 use ot_client_ask::{AskFault, LineSource, greet};
-use ot_front::{Sink, write_whole};
+use ot_session::{Sink, write_whole};
 use std::alloc::Global;
 
 /// What was saved of a tenant beside its arrays.

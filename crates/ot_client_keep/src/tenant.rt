@@ -11,8 +11,8 @@ use crate::array::Array;
 use crate::fault::KeepFault;
 use crate::question::{ask_arrays, ask_cells};
 use ot_client_ask::{AskFault, LineSource};
-use ot_front::{Sink, write_whole};
 use ot_model::ArrayShape;
+use ot_session::{Sink, write_whole};
 use std::alloc::Global;
 
 /// Asks for the arrays' names, and then for the cells of each.

@@ -13,17 +13,19 @@ use Rattle.ot_job.specs.declared.state.State.{State}
 use Rattle.ot_job.specs.declared.state.State.TheVariants.{Working, Failing, Ended, Failed}
 use Rattle.ot_job.proofs.DealingsLemmas.{starts-fresh, claimed-gives, settles-pays, fails-breaks}
 use Rattle.ot_core.specs.Accounts.{Account, answered, IsUnopened, with_reply}
-use Rattle.ot_core.specs.Floors.{job_of, units_of}
+use Rattle.ot_hall.specs.Floors.{job_of, units_of}
 use Rattle.ot_core.specs.Scenes.{Scene, IsScene, IsHeld, hand_of, out_at, seat_of, moved, handed, OpensFor, RepliesTo, StartsFor, Finishes, CanOpen, CannotReply, Steps}
-use Rattle.ot_core.specs.Toil.{toil, toil_of, toil_by, unopened, one_if, free_hand, opens_of, closed_by, moves_at, full_hand, sum_below, count_of, IsLively, LivelyAt}
-use Rattle.ot_core.specs.Draining.{over_of, over_by, claimable_of, IsMove, MayStart, MayFinish, AllAnswered}
+use Rattle.ot_hall.specs.Lively.{IsLively, LivelyAt}
+use Rattle.ot_core.specs.Toil.{toil, toil_of, toil_by, unopened, one_if, free_hand, opens_of, closed_by, moves_at, full_hand, sum_below, count_of}
+use Rattle.ot_hall.specs.Lively.{over_of, over_by, claimable_of}
+use Rattle.ot_core.specs.Draining.{IsMove, MayStart, MayFinish, AllAnswered}
 use Rattle.ot_core.specs.declared.held.Held.{Held}
 use Rattle.ot_core.specs.declared.event.Event.{Event}
 use Rattle.ot_core.specs.declared.event.Event.TheVariants as event
 use Rattle.ot_core.specs.declared.event.Stepped.{Stepped}
 use Rattle.ot_core.specs.declared.event.Stepped.TheVariants.{Answered, Job, Replied, Started, Finished, FinishedFailed, NotNow}
 use Rattle.ot_core.proofs.AccountLemmas.{answered-≤, answered-replied, none-from, the_some}
-use Rattle.ot_core.proofs.FloorLemmas.{job-within}
+use Rattle.ot_hall.proofs.FloorLemmas.{job-within}
 use Rattle.ot_core.proofs.SceneLemmas.{there, both-none}
 
 -- ---- less to do

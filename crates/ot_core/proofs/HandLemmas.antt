@@ -5,7 +5,7 @@ use Rattle.std.proofs.lemmas.Bool.{cases_eq}
 use Rattle.std.proofs.lemmas.Option.{none-some, same_Some}
 use Rattle.std.proofs.lemmas.List.{get_or-set_same, get_or-set_other}
 use Rattle.ot_job.specs.Dealings.{Live}
-use Rattle.ot_core.specs.Floors.{job_of}
+use Rattle.ot_hall.specs.Floors.{job_of}
 use Rattle.ot_core.specs.Scenes.{AreHeld, IsHeld, hand_of, held_work, out_at}
 use Rattle.ot_core.specs.declared.held.Held.{Held}
 

@@ -13,11 +13,11 @@ use Rattle.ot_job.specs.declared.state.State.{State}
 use Rattle.ot_job.specs.declared.state.State.TheVariants as state
 use Rattle.ot_job.proofs.DealingsLemmas.{claimed-gives, settles-pays, fails-breaks, aborted-aborts, work-out}
 use Rattle.ot_core.specs.Accounts.{Account, IsSound, with_reply}
-use Rattle.ot_core.specs.Floors.{job_of, Floor, ClaimsFor, SettlesFor, FailsIn, AbortsJob, IsWorking, IsStrange, NothingAt, HasJob, with_job, with_settled, units_of, total_of}
+use Rattle.ot_hall.specs.Floors.{job_of, Floor, ClaimsFor, SettlesFor, FailsIn, AbortsJob, IsWorking, IsStrange, NothingAt, HasJob, with_job, with_settled, units_of, total_of}
 use Rattle.ot_core.specs.Scenes.{Scene, IsScene, Pairs, Agrees, hand_of, held_work, out_at, handed, moved, HandTakes, GivesBack, BreaksJob, EndsJob, StopsJob, CannotReply, CannotStart, MayTake}
 use Rattle.ot_core.specs.declared.held.Held.{Held}
 use Rattle.ot_core.proofs.AccountLemmas.{answered-≤, none-from}
-use Rattle.ot_core.proofs.FloorLemmas.{job-within}
+use Rattle.ot_hall.proofs.FloorLemmas.{job-within}
 use Rattle.ot_core.proofs.HandLemmas.{OthersOut, held-taken, held-given}
 use Rattle.ot_core.proofs.SceneLemmas.{SameBut, but-none, but-set, job-set, scene-handed, scene-replied, agrees-same, agrees-job, held-same, out-but}
 

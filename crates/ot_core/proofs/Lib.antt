@@ -1,9 +1,5 @@
-mod MarkLemmas
-mod TurnLemmas
-mod IndexLemmas
 mod AccountLemmas
 mod ToldLemmas
-mod FloorLemmas
 mod SceneLemmas
 mod HandLemmas
 mod HandedLemmas

@@ -8,11 +8,11 @@ use Rattle.ot_store.specs.Arrays.{Named}
 use Rattle.ot_store.specs.declared.limits.Limits.{Limits}
 use Rattle.ot_job.specs.Dealings.{Live}
 use Rattle.ot_core.specs.Accounts.{Account, IsSound}
-use Rattle.ot_core.specs.Floors.{job_of, Floor, new_floor, units_of}
+use Rattle.ot_hall.specs.Floors.{job_of, Floor, new_floor, units_of}
 use Rattle.ot_core.specs.Openings.{opening_of, new_scene}
 use Rattle.ot_core.specs.Scenes.{Scene, IsScene, Agrees, AreHeld, Pairs, out_at, units_in}
 use Rattle.ot_core.specs.declared.held.Held.{Held}
-use Rattle.ot_core.proofs.IndexLemmas.{replicated-at}
+use Rattle.ot_hall.proofs.IndexLemmas.{replicated-at}
 
 none-at : (X : Type 0) (n u : ℕ) → get_or (replicate {A = Option X} n None) u None ≡ None
 none-at X = replicated-at None

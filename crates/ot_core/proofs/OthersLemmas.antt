@@ -7,7 +7,7 @@ use Rattle.std.proofs.lemmas.List.{get_or-set_same, get_or-set_other, get_or_pas
 use Rattle.ot_job.specs.Dealings.{Live, aborted}
 use Rattle.ot_job.specs.Taken.{Came as Done}
 use Rattle.ot_core.specs.Accounts.{Account}
-use Rattle.ot_core.specs.Floors.{job_of, Floor, with_job, with_settled, units_of, SettlesFor}
+use Rattle.ot_hall.specs.Floors.{job_of, Floor, with_job, with_settled, units_of, SettlesFor}
 use Rattle.ot_core.specs.Scenes.{Scene, hand_of, seat_of, moved, handed, AdmitsFor, OpensFor, StartsFor, Finishes, RepliesTo, AbortsFor, GivesBack, BreaksJob, Steps, IsAsItWas, LeavesOthers, of_tenant, holder}
 use Rattle.ot_core.specs.declared.held.Held.{Held}
 use Rattle.ot_core.specs.declared.event.Event.{Event}

@@ -9,7 +9,7 @@ use Rattle.ot_check.proofs.GridLemmas.{slice_get-set_same, slice_get-set_other}
 use Rattle.ot_job.specs.Dealings.{Live, IsFresh, SameSpec, NoneOut, settled_units}
 use Rattle.ot_job.proofs.DealingsLemmas.{starts-fresh}
 use Rattle.ot_core.specs.Accounts.{Account, IsSound, answered, IsAnswered, IsUnopened, Waits, with_reply}
-use Rattle.ot_core.specs.Floors.{job_of, Floor, with_job, units_of, SubmitsFor}
+use Rattle.ot_hall.specs.Floors.{job_of, Floor, with_job, units_of, SubmitsFor}
 use Rattle.ot_core.specs.Scenes.{Scene, Pairs, Agrees, AreHeld, IsScene, out_at, moved, HasTenant, Moves, CanOpen, StartsJob}
 use Rattle.ot_core.specs.declared.held.Held.{Held}
 use Rattle.ot_core.proofs.AccountLemmas.{answered-replied, never-waits}

@@ -1,35 +1,12 @@
--- How much is left to do in a world.
+-- Which events drain may take, and what it does.
 use Rattle.std.specs.Prelude.{◌≡◌, ◌<◌, ℕ, List, length, All, Option, Some, None, IsSome, slice_get}
-use Rattle.ot_job.specs.Dealings.{Live, claimable_in, state_of}
-use Rattle.ot_job.specs.declared.state.State.{State}
-use Rattle.ot_job.specs.declared.state.State.TheVariants.{Working, Failing, Ended, Failed}
+use Rattle.ot_hall.specs.Lively.{claimable_of, over_of}
 use Rattle.ot_core.specs.Accounts.{Account, answered}
-use Rattle.ot_core.specs.Floors.{job_of}
+use Rattle.ot_hall.specs.Floors.{job_of}
 use Rattle.ot_core.specs.Scenes.{Scene, hand_of, seat_of, CanOpen, RunsOut, RunsTo}
 use Rattle.ot_core.specs.declared.held.Held.{Held}
 use Rattle.ot_core.specs.declared.event.Event.{Event}
 use Rattle.ot_core.specs.declared.event.Event.TheVariants as event
-
--- Which events drain may take, and how many there are.
-
--- ---- how many there are
-
--- one where the job is over
-abbrev pub over_by : State → ℕ
-over_by Working = 0
-over_by Failing = 0
-over_by Ended = 1
-over_by Failed = 1
-
-abbrev pub over_of : Option Live → ℕ
-over_of None = 0
-over_of (Some j) = over_by (state_of j)
-
-abbrev pub claimable_of : Option Live → ℕ
-claimable_of None = 0
-claimable_of (Some j) = length (claimable_in j)
-
--- ---- which they are
 
 -- the hand of this worker is free
 abbrev pub IsFreeWorker : List (Option Held) → Option ℕ → Type 0

@@ -1,7 +1,3 @@
-pub mod Marking
-pub mod Floors
-pub mod Lending
-pub mod FloorView
 pub mod Accounts
 pub mod AccountView
 pub mod Scenes
@@ -10,4 +6,3 @@ pub mod Openings
 pub mod Headline
 pub mod Draining
 pub mod Toil
-pub mod Index

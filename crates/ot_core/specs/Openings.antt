@@ -5,7 +5,7 @@ use Rattle.ot_store.specs.Arrays.{Named}
 use Rattle.ot_store.specs.declared.limits.Limits.{Limits}
 use Rattle.ot_book.specs.Books.{new_register}
 use Rattle.ot_core.specs.Accounts.{Account, new_account}
-use Rattle.ot_core.specs.Floors.{new_floor}
+use Rattle.ot_hall.specs.Floors.{new_floor}
 use Rattle.ot_core.specs.Scenes.{Scene}
 
 -- a tenant with this name, these limits and these arrays

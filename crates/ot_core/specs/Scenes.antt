@@ -6,7 +6,7 @@ use Rattle.ot_job.specs.Taken.{Taken as Piece, Came as Done}
 use Rattle.ot_job.specs.declared.state.State.TheVariants as state
 use Rattle.ot_core.specs.Accounts.{Account, IsSound, answered, IsFull, MayAsk, IsUnopened, IsAnswered, Waits, with_reply}
 use Rattle.ot_core.specs.Accounts as asking
-use Rattle.ot_core.specs.Floors.{job_of, Floor, units_of, with_job, SubmitsFor, NothingAt, ClaimsFor, IsWorking, SettlesFor, AbortsJob}
+use Rattle.ot_hall.specs.Floors.{job_of, Floor, units_of, with_job, SubmitsFor, NothingAt, ClaimsFor, IsWorking, SettlesFor, AbortsJob}
 use Rattle.ot_core.specs.declared.held.Held.{Held}
 use Rattle.ot_core.specs.declared.event.Stepped.{Stepped}
 use Rattle.ot_core.specs.declared.event.Event.{Event}

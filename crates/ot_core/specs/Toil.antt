@@ -1,15 +1,15 @@
 -- How much is left to do in a world, and how many events drain may take.
-use Rattle.std.specs.Prelude.{◌≡◌, ◌<◌, ◌+◌, ◌*◌, ℕ, zero, suc, nat_lt, if◌then◌else◌, length, Option, Some, None, slice_get, ◌-◌}
+use Rattle.std.specs.Prelude.{◌+◌, ◌*◌, ℕ, zero, suc, nat_lt, if◌then◌else◌, length, Option, Some, None, slice_get, ◌-◌}
 use Rattle.std.specs.List.{sum_by}
 use Rattle.ot_check.specs.Jobs.{Spec}
-use Rattle.ot_job.specs.Dealings.{Live, claimable_in, NoneOut, state_of, weight_of, out_of}
+use Rattle.ot_job.specs.Dealings.{Live, state_of, weight_of, out_of}
 use Rattle.ot_job.specs.declared.state.State.{State}
 use Rattle.ot_job.specs.declared.state.State.TheVariants.{Working, Failing, Ended, Failed}
 use Rattle.ot_core.specs.Accounts.{Account, answered}
-use Rattle.ot_core.specs.Floors.{job_of}
+use Rattle.ot_hall.specs.Floors.{job_of}
 use Rattle.ot_core.specs.Scenes.{Scene}
 use Rattle.ot_core.specs.declared.held.Held.{Held}
-use Rattle.ot_core.specs.Draining.{claimable_of, over_of}
+use Rattle.ot_hall.specs.Lively.{claimable_of, over_of}
 
 abbrev pub toil_by : State → Live → ℕ
 toil_by Working j = 2 + 2 * weight_of j
@@ -63,12 +63,3 @@ sum_below f (suc n) = sum_below f n + f n
 -- those of all tenants, and each full hand
 abbrev pub count_of : Scene → ℕ
 count_of s = sum_below (moves_at s) (length s.accounts) + sum_by full_hand s.hands
-
--- a job that works with no piece out has a claimable task, and one that fails has a piece out
-pub record IsLively (j : Live) : Type 0 where
-  pub works : state_of j ≡ Working → NoneOut j → 0 < length (claimable_in j)
-  pub fails : state_of j ≡ Failing → NoneOut j → ⊥
-
-abbrev pub LivelyAt : Option Live → Type 0
-LivelyAt None = Unit {0}
-LivelyAt (Some j) = IsLively j

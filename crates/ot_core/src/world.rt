@@ -3,11 +3,11 @@ ghost use Rattle.ot_core.specs.Headline.{AgreeOn, NoneLostIn, LostAlike, ToldAli
 ghost use Rattle.ot_core.specs.Scenes.{seat_of, IsScene, RunsTo, RunsPart, AdmitsFor, OpensFor, StartsFor, Finishes, RepliesTo, AbortsFor, Steps, HasTenant, CanOpen, MayTake, RunsOut, LeavesOthers};
 
 use crate::event::{Event, Stepped};
-use crate::hall::{Collected, Hall};
 use crate::held::Held;
 use crate::replies::Replies;
 use crate::tenant::Tenant;
 use ot_book::Book;
+use ot_hall::{Collected, Hall};
 use ot_job::{Done, State};
 use ot_store::{Limits, Store};
 use std::alloc::{AllocError, Global};
@@ -40,9 +40,10 @@ impl Model for World {
 }
 
 impl World {
-    ghost use Rattle.ot_core.specs.Floors.{units_of, total_of, job_of};
+    ghost use Rattle.ot_hall.specs.Floors.{units_of, total_of, job_of};
     ghost use Rattle.std.specs.List.{sum_by};
-    ghost use Rattle.ot_core.specs.Toil.{free_hand, count_of, moves_at, opens_of, full_hand, LivelyAt};
+    ghost use Rattle.ot_hall.specs.Lively.{LivelyAt};
+    ghost use Rattle.ot_core.specs.Toil.{free_hand, count_of, moves_at, opens_of, full_hand};
     ghost use Rattle.ot_core.specs.Draining.{Drains, DrainsPart, AllAnswered, IsMove, IsFreeWorker, MayFinish};
 
     /// Tenants with these names, limits and arrays, who asked nothing yet.

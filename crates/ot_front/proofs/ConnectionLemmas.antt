@@ -3,7 +3,7 @@ use Rattle.std.proofs.Common.{ℕ, List, Option, inl, inr}
 use Rattle.std.specs.Prelude.{⊤, None, Result, Ok}
 use Rattle.ot_book.specs.Books.{Register}
 use Rattle.ot_front.specs.Greetings.{NeverAsks, AnswersFirstLine, Greets}
-use Rattle.ot_front.specs.declared.fault.FrontFault.{FrontFault}
+use Rattle.ot_session.specs.declared.fault.FrontFault.{FrontFault}
 
 never_asks : (bytes : List ℕ) (left : Option (List ℕ)) (ended : Type 0) (result : Result (Option Register) FrontFault) → NeverAsks bytes left ended result → NeverAsks bytes left ⊤ result
 never_asks bytes left ended (Ok None) never = (never.0, tt)

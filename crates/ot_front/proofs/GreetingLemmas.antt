@@ -9,14 +9,14 @@ use Rattle.serde_json.specs.Written.{outline}
 use Rattle.serde_json.specs.View.{items_view}
 use Rattle.serde_json.specs.declared.value.Value.{Value}
 use Rattle.ot_book.specs.Books.{Register, next_number}
-use Rattle.ot_front.specs.Session.{HasNoEnd}
+use Rattle.ot_session.specs.Session.{HasNoEnd}
 use Rattle.ot_front.specs.FirstLines.{read_with}
 use Rattle.ot_front.specs.Greetings.{hello_of, hello_json, Greeting, greeting_of, Asks, IsFirstLine, IsTooLong, IsCut, IsRefused, IsGiven, refusal_text, hello_text, WritesReply, Answers, Greets}
 use Rattle.ot_lines.specs.declared.source.Failed.{Failed}
 use Rattle.ot_lines.specs.declared.lines.Heard.{Heard}
 use Rattle.ot_lines.specs.declared.lines.Heard.TheVariants.{Line, Long}
-use Rattle.ot_front.specs.declared.fault.FrontFault.{FrontFault}
-use Rattle.ot_front.specs.declared.fault.FrontFault.TheVariants.{WriteFailed, Memory}
+use Rattle.ot_session.specs.declared.fault.FrontFault.{FrontFault}
+use Rattle.ot_session.specs.declared.fault.FrontFault.TheVariants.{WriteFailed, Memory}
 use Rattle.ot_front.specs.declared.refusal.Refusal.{Refusal}
 use Rattle.ot_front.specs.declared.refusal.Refusal.TheVariants.{NotGreeting}
 

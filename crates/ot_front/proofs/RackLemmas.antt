@@ -4,8 +4,8 @@ use Rattle.std.specs.Prelude.{Some, None, Result, Ok, Err, IfOk, OnOk, OnErr}
 use Rattle.ot_book.specs.Books.{Register}
 use Rattle.ot_front.specs.Greetings.{HasSession, Greets}
 use Rattle.ot_front.specs.Racks.{Moves, with_taken, with_laid, Hands, ConnectsOver}
-use Rattle.ot_front.specs.declared.fault.End.{End}
-use Rattle.ot_front.specs.declared.fault.FrontFault.{FrontFault}
+use Rattle.ot_session.specs.declared.fault.End.{End}
+use Rattle.ot_session.specs.declared.fault.FrontFault.{FrontFault}
 use Rattle.ot_front.proofs.ConnectionLemmas.{greets_so}
 
 -- ---- the greeting

@@ -8,14 +8,14 @@ use Rattle.ot_program.specs.Meanings.{is_word}
 use Rattle.ot_book.specs.Answers.{value_of, nat}
 use Rattle.ot_book.specs.Books.{Register, next_number}
 use Rattle.ot_book.specs.Requests.{name_in}
-use Rattle.ot_front.specs.Serving.{AppendsFront}
-use Rattle.ot_front.specs.Session.{HasNoEnd, Serves}
+use Rattle.ot_session.specs.Serving.{AppendsFront}
+use Rattle.ot_session.specs.Session.{HasNoEnd, Serves}
 use Rattle.ot_front.specs.Desks.{IsKnown}
-use Rattle.ot_front.specs.declared.fault.FrontFault.{FrontFault}
-use Rattle.ot_front.specs.declared.fault.FrontFault.TheVariants.{ReadFailed, WriteFailed, Memory}
+use Rattle.ot_session.specs.declared.fault.FrontFault.{FrontFault}
+use Rattle.ot_session.specs.declared.fault.FrontFault.TheVariants.{ReadFailed, WriteFailed, Memory}
 use Rattle.ot_front.specs.declared.refusal.Refusal.{Refusal}
 use Rattle.ot_front.specs.declared.refusal.Refusal.TheVariants.{NotJson, NotGreeting, Unknown, Busy}
-use Rattle.ot_front.specs.declared.fault.End.{End}
+use Rattle.ot_session.specs.declared.fault.End.{End}
 
 -- bytes of a first line, without its LF
 abbrev pub max_first_line : ℕ

@@ -1,8 +1,8 @@
 -- What becomes of books between a rack and a connection.
 use Rattle.std.specs.Prelude.{◌≡◌, [], ◌⊎◌, ℕ, List, ◌∷◌, ◌++◌, Option, Some, None, Result, Ok, Err}
 use Rattle.ot_book.specs.Books.{Register}
-use Rattle.ot_front.specs.declared.fault.End.{End}
-use Rattle.ot_front.specs.declared.fault.FrontFault.{FrontFault}
+use Rattle.ot_session.specs.declared.fault.End.{End}
+use Rattle.ot_session.specs.declared.fault.FrontFault.{FrontFault}
 use Rattle.ot_front.specs.Greetings.{Connects, GoesOn}
 
 -- the books that were taken from a rack, and those that were laid back, one after another

@@ -3,20 +3,18 @@ ghost use Rattle.std.specs.Prelude.{◌≡◌, ◌≢◌, ◌≤◌, ℕ, None, 
 ghost use Rattle.std.specs.Io.KnownBytes.{IsAtEnd};
 ghost use Rattle.ot_front.specs.Greetings.{Connects, HasSession};
 ghost use Rattle.ot_front.specs.Racks.{with_laid, ConnectsOver};
-ghost use Rattle.ot_front.specs.Serving.{next_count, count_after};
-ghost use Rattle.ot_front.specs.declared.fault.End.TheVariants.{EndOfInput};
-ghost use Rattle.ot_front.specs.declared.fault.FrontFault.TheVariants.{ReadFailed, WriteFailed, TooManyTurns};
+ghost use Rattle.ot_session.specs.Serving.{next_count, count_after};
+ghost use Rattle.ot_session.specs.declared.fault.End.TheVariants.{EndOfInput};
+ghost use Rattle.ot_session.specs.declared.fault.FrontFault.TheVariants.{ReadFailed, WriteFailed, TooManyTurns};
 
 use crate::desk::Desk;
-use crate::device::Sink;
-use crate::fault::{End, FrontFault};
 use crate::first_line::first_bounds;
 use crate::greeting::greet_from;
 use crate::rack::{OnDesk, Rack};
-use crate::session::serve_behind;
 use ot_book::{Book, Executor};
 use ot_lines::{Lines, Source};
 use ot_pool::{Client, Pool};
+use ot_session::{End, FrontFault, Sink, serve_behind};
 use std::alloc::Global;
 use std::sync::Wait;
 use std::sync::ledger::Ledger;

@@ -1,13 +1,12 @@
 //! Connections over a Unix socket, in threads.
 ghost use Rattle.std.specs.Prelude.{◌≡◌, ◌≤◌, IfErr};
-ghost use Rattle.ot_front.specs.declared.fault.FrontFault.TheVariants.{SocketFailed};
+ghost use Rattle.ot_session.specs.declared.fault.FrontFault.TheVariants.{SocketFailed};
 
 use crate::connection::serve_connection;
 use crate::desk::Desk;
-use crate::fault::FrontFault;
-use crate::writer::Writing;
 use ot_lines::Reading;
 use ot_pool::Pool;
+use ot_session::{FrontFault, Writing};
 use std::alloc::Global;
 use std::os::unix::net::UnixListener;
 use std::sync::ledger::Ledger;

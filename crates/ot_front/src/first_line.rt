@@ -3,7 +3,7 @@ ghost use Rattle.std.specs.Prelude.{◌≡◌, ◌≢◌, ◌≤◌, ℕ, Ok, le
 ghost use Rattle.std.specs.Io.KnownBytes.{Consumes, IsAtEnd};
 ghost use Rattle.ot_lines.specs.Lines.{HasNoEnd, opened};
 ghost use Rattle.ot_lines.specs.declared.lines.Heard.TheVariants.{Long, End};
-ghost use Rattle.ot_front.specs.Serving.{next_count, count_after};
+ghost use Rattle.ot_session.specs.Serving.{next_count, count_after};
 ghost use Rattle.ot_front.specs.FirstLines.{first_bounds, read_with};
 
 use ot_lines::{Bounds, Failed, Heard, LineFault, Lines, Source};

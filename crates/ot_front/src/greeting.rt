@@ -3,25 +3,23 @@ ghost use Rattle.std.specs.Prelude.{◌≡◌, ◌≢◌, ◌≤◌, ℕ, None, 
 ghost use Rattle.serde_json.specs.Find.{as_array};
 ghost use Rattle.serde_json.specs.View.{view, items_view};
 ghost use Rattle.ot_book.specs.Answers.{value_of};
-ghost use Rattle.ot_front.specs.Serving.{next_count, count_after};
+ghost use Rattle.ot_session.specs.Serving.{next_count, count_after};
 ghost use Rattle.ot_lines.specs.Lines.{opened};
 ghost use Rattle.ot_front.specs.FirstLines.{first_bounds};
 ghost use Rattle.ot_front.specs.Greetings.{hello_of, greeting_of, hello_text, refusal_text, WritesReply, Answers, Greets, IsGiven, IsRefused};
 ghost use Rattle.ot_front.specs.Racks.{with_taken, with_laid, Hands};
-ghost use Rattle.ot_front.specs.declared.fault.FrontFault.TheVariants.{ReadFailed, WriteFailed, Memory};
+ghost use Rattle.ot_session.specs.declared.fault.FrontFault.TheVariants.{ReadFailed, WriteFailed, Memory};
 ghost use Rattle.ot_front.specs.declared.refusal.Refusal.TheVariants.{NotJson, NotGreeting};
 
 use crate::desk::{Desk, DeskFault};
-use crate::device::Sink;
-use crate::fault::FrontFault;
 use crate::first_line::{first_bounds, hear_first};
 use crate::rack::{OnDesk, Rack};
 use crate::refusal::Refusal;
-use crate::whole::write_whole;
 use json::Writer;
 use ot_book::{Book, read_name};
 use ot_lines::{Heard, Lines, Source};
 use ot_program::is_word;
+use ot_session::{FrontFault, Sink, write_whole};
 use serde_json::Value;
 use std::alloc::{AllocError, Global};
 use std::sync::Wait;

@@ -11,7 +11,7 @@ use Rattle.ot_parts.proofs.SendLemmas.{part-send, part-sync}
 use Rattle.ot_check.specs.contracts.job.JobSpec as spec
 use Rattle.ot_job_task.proofs.SendLemmas.{task-send}
 use Rattle.ot_job.specs.contracts.job.Job as job
-use Rattle.ot_core.specs.contracts.hall.Hall as hall
+use Rattle.ot_hall.specs.contracts.hall.Hall as hall
 use Rattle.ot_pool.specs.contracts.hub.Hub as hub
 use Rattle.ot_pool.specs.contracts.pool.Pool as pool
 use Rattle.ot_pool.specs.contracts.hub.Hub.TheInside as inside

@@ -7,8 +7,8 @@ use Rattle.ot_job.specs.Dealings.{Live, IsOf, NoneOut, state_of}
 use Rattle.ot_job.specs.declared.state.State.TheVariants.{Ended, Failed}
 use Rattle.ot_job.specs.Taken.{Came as Done}
 use Rattle.ot_job.specs.declared.piece.Refused.{Refused}
-use Rattle.ot_core.specs.Floors.{job_of, Floor, IsWorking, RefusesIn, FailsIn, RunsShort}
-use Rattle.ot_core.specs.declared.hall.SubmitFault.TheVariants.{Memory}
+use Rattle.ot_hall.specs.Floors.{job_of, Floor, IsWorking, RefusesIn, FailsIn, RunsShort}
+use Rattle.ot_hall.specs.declared.hall.SubmitFault.TheVariants.{Memory}
 use Rattle.ot_book.specs.declared.executor.NotDone.TheVariants as refused
 use Rattle.ot_pool.specs.declared.tickets.Ticket.{Ticket}
 use Rattle.ot_pool.specs.Shared.{Shared, Turns, ReturnsPiece, BreaksItsJob, Collects, Leaves}

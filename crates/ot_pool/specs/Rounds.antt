@@ -2,7 +2,7 @@
 use Rattle.std.specs.Prelude.{◌≡◌, ◌⊎◌, ◌&&◌, ℕ, Bool, true, false, not, Option, Some, None, option_map}
 use Rattle.ot_job.specs.Dealings.{state_of}
 use Rattle.ot_job.specs.Taken.{Came as Done, is_short}
-use Rattle.ot_core.specs.Floors.{job_of, NothingAnywhere}
+use Rattle.ot_hall.specs.Floors.{job_of, NothingAnywhere}
 use Rattle.ot_pool.specs.declared.hub.Claimed.{Claimed}
 use Rattle.ot_pool.specs.declared.hub.Claimed.TheVariants as claimed
 use Rattle.ot_pool.specs.Shared.{ClaimsAny, ReturnsPiece, Shared, is_going}

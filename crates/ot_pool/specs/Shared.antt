@@ -9,9 +9,9 @@ use Rattle.ot_job.specs.Taken.{Came as Done}
 use Rattle.ot_job.specs.declared.piece.Refused.{Refused}
 use Rattle.ot_book.specs.declared.executor.NotDone.{NotDone}
 use Rattle.ot_book.specs.declared.executor.NotDone.TheVariants.{Memory, Closed, Stranger}
-use Rattle.ot_core.specs.Floors.{job_of, Floor, new_floor, total_of, IsFree, IsWorking, NothingAt, RefusesIn, FailsIn, AbortsJob, ClaimsSome}
-use Rattle.ot_core.specs.Floors as floors
-use Rattle.ot_core.specs.declared.hall.Collected.TheVariants as collected
+use Rattle.ot_hall.specs.Floors.{job_of, Floor, new_floor, total_of, IsFree, IsWorking, NothingAt, RefusesIn, FailsIn, AbortsJob, ClaimsSome}
+use Rattle.ot_hall.specs.Floors as floors
+use Rattle.ot_hall.specs.declared.hall.Collected.TheVariants as collected
 use Rattle.ot_pool.specs.Tickets.{one_more, HasTicket, next_ticket, IsNewest}
 use Rattle.ot_pool.specs.declared.tickets.Ticket.{Ticket}
 use Rattle.ot_pool.specs.declared.hub.Claimed.{Claimed}

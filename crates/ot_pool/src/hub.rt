@@ -5,7 +5,7 @@ use crate::tickets::{Numbers, Ticket};
 use crate::usage::Usage;
 use ot_book::NotDone;
 use ot_check::{JobSpec, Outcome};
-use ot_core::{Collected, Hall, NoMemory, SubmitFault};
+use ot_hall::{Collected, Hall, NoMemory, SubmitFault};
 use ot_job::{Done, Job, Piece, State};
 use std::alloc::{AllocError, Global};
 use std::marker::Model;
@@ -75,7 +75,7 @@ impl<L: Ledger> Model for Hub<L> {
 }
 
 impl<L: Ledger> Hub<L> {
-    ghost use Rattle.ot_core.specs.Floors.{NothingAnywhere};
+    ghost use Rattle.ot_hall.specs.Floors.{NothingAnywhere};
 
     /// Nobody has had a job, nothing was settled, and the mark isn't set.
     pub fn new(alloc: Global, tenants: u32, book: Book<L>) -> Result<Hub<L>, AllocError>

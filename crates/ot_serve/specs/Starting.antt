@@ -5,8 +5,8 @@ use Rattle.ot_book.specs.Books.{Register, new_register}
 use Rattle.ot_serve.specs.declared.fault.Fault.{Fault}
 use Rattle.ot_serve.specs.declared.fault.Fault.TheVariants.{Memory, Stranger, SocketFailed, NoThread, BadTenantName, TooManyTenants}
 use Rattle.ot_serve.specs.declared.fault.Fault.TheVariants as of
-use Rattle.ot_front.specs.declared.fault.FrontFault.{FrontFault}
-use Rattle.ot_front.specs.declared.fault.FrontFault.TheVariants as front
+use Rattle.ot_session.specs.declared.fault.FrontFault.{FrontFault}
+use Rattle.ot_session.specs.declared.fault.FrontFault.TheVariants as front
 use Rattle.ot_pool.specs.declared.crew.NotStarted.{NotStarted}
 use Rattle.ot_pool.specs.declared.crew.NotStarted.TheVariants as start
 use Rattle.ot_serve.specs.Serving.{are_tenants}

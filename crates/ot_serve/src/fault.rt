@@ -3,8 +3,8 @@ ghost use Rattle.std.specs.Prelude.{◌≡◌};
 ghost use Rattle.ot_serve.specs.Serving.{stderr_line, status_of};
 ghost use Rattle.ot_serve.specs.Starting.{front_fault, fault_of_start};
 
-use ot_front::FrontFault;
 use ot_pool::NotStarted;
+use ot_session::FrontFault;
 
 /// What went wrong, one variant for each line that the program may print.
 #[derive(Clone, Copy, Debug, PartialEq, Eq)]

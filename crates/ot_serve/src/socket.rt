@@ -1,7 +1,7 @@
 //! The server, from its names to the lines that it prints when it ends.
 ghost use Rattle.std.specs.Prelude.{◌≡◌, ◌≢◌, ◌↔◌, ◌<◌, ◌≤◌, Err, None, IfOk, IfErr, OnOk, true, false, length, map, string_bytes, sum, vec_len};
 ghost use Rattle.std.specs.List.{All};
-ghost use Rattle.ot_front.specs.Serving.{next_count};
+ghost use Rattle.ot_session.specs.Serving.{next_count};
 ghost use Rattle.ot_serve.specs.Serving.{IsInRange, Prints, are_tenants};
 ghost use Rattle.ot_serve.specs.Starting.{IsLate, newcomer};
 
@@ -12,8 +12,9 @@ use crate::names::look_at_names;
 use crate::serve::Serve;
 use crate::usages::write_usage;
 use ot_book::Book;
-use ot_front::{Desk, Sink, write_whole};
+use ot_front::Desk;
 use ot_pool::Usage;
+use ot_session::{Sink, write_whole};
 use ot_store::{Limits, Store};
 use std::alloc::{AllocError, Global};
 use std::fs::Files;

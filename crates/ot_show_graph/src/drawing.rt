@@ -6,7 +6,7 @@ ghost use Rattle.ot_show_graph.specs.Drawn.{Draws, DrawsLast};
 use crate::dot::dot_text;
 use crate::graph::graph_of;
 use ot_book::Book;
-use ot_front::Source;
+use ot_session::Source;
 use ot_show_last::{LastFault, LastRun, last_run_in};
 use std::alloc::{AllocError, Global};
 

@@ -3,9 +3,9 @@ use Rattle.std.proofs.Common.{◌≡◌, ℕ, List, [], ◌∷◌, ◌++◌, ref
 use Rattle.std.specs.Prelude.{Option, Some, None, if◌then◌else◌}
 use Rattle.ot_book.specs.Answers.{Step, Now, Runs}
 use Rattle.ot_book.specs.Books.{Register, next_number, next_step, logged}
-use Rattle.ot_front.specs.Session.{after}
-use Rattle.ot_front.specs.declared.fault.End.{End}
-use Rattle.ot_front.specs.declared.fault.End.TheVariants.{Bye, EndOfInput, Full, LongLine, Closed}
+use Rattle.ot_session.specs.Session.{after}
+use Rattle.ot_session.specs.declared.fault.End.{End}
+use Rattle.ot_session.specs.declared.fault.End.TheVariants.{Bye, EndOfInput, Full, LongLine, Closed}
 use Rattle.ot_show_last.specs.LastRuns.{Run, Found, Taken, BadAt, answer_of, is_refusal, run_over, found_by, found, closed_by}
 use Rattle.ot_show_last.specs.Going.{kept}
 use Rattle.ot_show_last.specs.declared.fault.Untaken.{Untaken}

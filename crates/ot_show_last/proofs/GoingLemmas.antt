@@ -5,11 +5,11 @@ use Rattle.std.proofs.Math.ListN.{length-map}
 use Rattle.std.proofs.lemmas.List.{map-append}
 use Rattle.ot_book.specs.Books.{Register, next_number, logged}
 use Rattle.ot_book.specs.Room.{Room, room_in, takes, room_after}
-use Rattle.ot_front.specs.Session.{Heard, hear, with_line, is_bye, max_line, HasNoEnd, heard_in, texts, after}
-use Rattle.ot_front.specs.declared.fault.End.{End}
-use Rattle.ot_front.specs.declared.fault.End.TheVariants as end
-use Rattle.ot_front.proofs.HeardLemmas.{heard-more, at_line, with_line-bye, with_line-full, with_line-request, heard-append, heard_ended, lines_grow, heard-piece, heard-long}
-use Rattle.ot_front.proofs.ToldLemmas.{after-more, room-after, next-after, pending-after}
+use Rattle.ot_session.specs.Session.{Heard, hear, with_line, is_bye, max_line, HasNoEnd, heard_in, texts, after}
+use Rattle.ot_session.specs.declared.fault.End.{End}
+use Rattle.ot_session.specs.declared.fault.End.TheVariants as end
+use Rattle.ot_session.proofs.HeardLemmas.{heard-more, at_line, with_line-bye, with_line-full, with_line-request, heard-append, heard_ended, lines_grow, heard-piece, heard-long}
+use Rattle.ot_session.proofs.ToldLemmas.{after-more, room-after, next-after, pending-after}
 use Rattle.ot_show_last.specs.LastRuns.{Run, Taken, BadAt, found, found_in, closed_by, beginner, TellsOf, Finds}
 use Rattle.ot_show_last.specs.Going.{run_in, kept, Going, Says, Goes, result_of, told_at_end, SaysAfter, HearsSession}
 use Rattle.ot_show_last.specs.declared.found.LastRun.{LastRun}

@@ -8,9 +8,9 @@ use Rattle.ot_lines.specs.declared.lines.LineFault.TheVariants as lines
 use Rattle.ot_lines.specs.declared.listener.Ended.{Ended}
 use Rattle.ot_lines.specs.declared.listener.Ended.TheVariants as ended_as
 use Rattle.ot_book.specs.Books.{Register, next_number}
-use Rattle.ot_front.specs.Session.{max_line}
-use Rattle.ot_front.specs.Serving.{session_bounds}
-use Rattle.ot_front.proofs.PrefixLemmas.{consumed}
+use Rattle.ot_session.specs.Session.{max_line}
+use Rattle.ot_session.specs.Serving.{session_bounds}
+use Rattle.ot_session.proofs.PrefixLemmas.{consumed}
 use Rattle.ot_show_last.specs.LastRuns.{Run}
 use Rattle.ot_show_last.specs.Going.{Going, Goes, Says, SaysAfter, TakesLine, result_of, HearsSession, run_in}
 use Rattle.ot_show_last.specs.declared.found.LastRun.{LastRun}

@@ -16,9 +16,9 @@ use Rattle.ot_book.specs.declared.book.Opened.{Opened}
 use Rattle.ot_book.specs.declared.book.Opened.TheVariants.{Full, Answered, ToRun}
 use Rattle.ot_book.proofs.BookLemmas.{logged-by, state-cleared}
 use Rattle.ot_book.proofs.RoomLemmas.{free-takes, full-takes}
-use Rattle.ot_front.specs.Session.{is_bye}
-use Rattle.ot_front.proofs.RunLemmas.{run_asked}
-use Rattle.ot_front.proofs.ToldLemmas.{slice_get-seam, some-logged}
+use Rattle.ot_session.specs.Session.{is_bye}
+use Rattle.ot_session.proofs.RunLemmas.{run_asked}
+use Rattle.ot_session.proofs.ToldLemmas.{slice_get-seam, some-logged}
 use Rattle.ot_show_last.specs.LastRuns.{Run, Taken, BadAt, answer_of, is_refusal, run_with, run_over, found_by, found}
 use Rattle.ot_show_last.specs.Going.{Going, Goes, Says, judged}
 use Rattle.ot_show_last.specs.declared.fault.Untaken.TheVariants as answer

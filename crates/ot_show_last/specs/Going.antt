@@ -3,8 +3,8 @@ use Rattle.std.specs.Prelude.{◌≡◌, [], ◌≤◌, ◌++◌, ◌∷◌, ℕ
 use Rattle.std.specs.Io.KnownBytes.{Consumes}
 use Rattle.ot_book.specs.Answers as r
 use Rattle.ot_book.specs.Books.{Register}
-use Rattle.ot_front.specs.Session.{max_line, heard_in, Lines, after}
-use Rattle.ot_front.specs.declared.fault.End.TheVariants as end
+use Rattle.ot_session.specs.Session.{max_line, heard_in, Lines, after}
+use Rattle.ot_session.specs.declared.fault.End.TheVariants as end
 use Rattle.ot_show_last.specs.LastRuns.{Run, Taken, BadAt, found, found_in, beginner, run_of, IsSessionOver}
 use Rattle.ot_show_last.specs.declared.found.LastRun.{LastRun}
 use Rattle.ot_show_last.specs.declared.fault.LastFault.{LastFault}

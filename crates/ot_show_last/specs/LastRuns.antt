@@ -6,14 +6,14 @@ use Rattle.ot_store.specs.Refusals.{usual_limits}
 use Rattle.ot_book.specs.Answers as r
 use Rattle.ot_book.specs.Answers.{Step, Now, Runs}
 use Rattle.ot_book.specs.Books.{Register, new_register, next_number, next_step, logged}
-use Rattle.ot_front.specs.Session.{heard_in}
-use Rattle.ot_front.specs.declared.fault.End.{End}
-use Rattle.ot_front.specs.declared.fault.End.TheVariants.{Full, LongLine}
+use Rattle.ot_session.specs.Session.{heard_in}
+use Rattle.ot_session.specs.declared.fault.End.{End}
+use Rattle.ot_session.specs.declared.fault.End.TheVariants.{Full, LongLine}
 use Rattle.ot_show_last.specs.declared.fault.Untaken.{Untaken}
 use Rattle.ot_show_last.specs.declared.fault.Untaken.TheVariants as answer
 use Rattle.ot_show_last.specs.declared.found.LastRun.{LastRun}
 use Rattle.std.specs.Io.KnownBytes.{Consumes, IsAtEnd}
-use Rattle.ot_front.specs.declared.fault.End.TheVariants as end
+use Rattle.ot_session.specs.declared.fault.End.TheVariants as end
 use Rattle.ot_show_last.specs.declared.fault.LastFault.{LastFault}
 use Rattle.ot_show_last.specs.declared.fault.LastFault.TheVariants.{NoRun, BadLine}
 

@@ -1,7 +1,7 @@
 //! A session that is read to its end.
 ghost use Rattle.std.specs.Prelude.{◌≡◌, ◌≢◌, [], Err, IfOk};
 ghost use Rattle.ot_lines.specs.Lines.{opened};
-ghost use Rattle.ot_front.specs.Serving.{next_count, session_bounds};
+ghost use Rattle.ot_session.specs.Serving.{next_count, session_bounds};
 ghost use Rattle.ot_show_last.specs.LastRuns.{Finds, beginner};
 ghost use Rattle.ot_show_last.specs.Going.{Going, HearsSession, run_in, told_at_end};
 ghost use Rattle.ot_show_last.specs.declared.fault.LastFault.TheVariants.{ReadFailed};
@@ -10,8 +10,8 @@ use crate::fault::{LastFault, Untaken};
 use crate::found::LastRun;
 use crate::request::Runner;
 use ot_book::Book;
-use ot_front::session_bounds;
 use ot_lines::{Ended, LineFault, Lines, Source, listen};
+use ot_session::session_bounds;
 use ot_store::{Limits, Store};
 use std::alloc::Global;
 

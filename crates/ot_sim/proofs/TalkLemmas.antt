@@ -8,7 +8,7 @@ use Rattle.ot_lines.specs.declared.lines.LineFault.{LineFault}
 use Rattle.ot_lines.specs.declared.lines.LineFault.TheVariants as lines
 use Rattle.ot_lines.specs.declared.listener.Ended.{Ended}
 use Rattle.ot_lines.specs.declared.listener.Ended.TheVariants as ended_as
-use Rattle.ot_front.proofs.PrefixLemmas.{consumed}
+use Rattle.ot_session.proofs.PrefixLemmas.{consumed}
 use Rattle.ot_sim.specs.declared.play.Play.{Play}
 use Rattle.ot_sim.specs.declared.fault.Untold.{Untold}
 use Rattle.ot_sim.specs.declared.fault.Untold.TheVariants as untold

@@ -4,7 +4,7 @@ use Rattle.ot_store.specs.Refusals.{usual_limits}
 use Rattle.ot_book.specs.Books.{new_register}
 use Rattle.ot_book.specs.Answers.{Told, text_of as reply_text}
 use Rattle.ot_core.specs.Accounts.{Account, new_account, replies_of}
-use Rattle.ot_core.specs.Floors.{new_floor, units_of, total_of}
+use Rattle.ot_hall.specs.Floors.{new_floor, units_of, total_of}
 use Rattle.ot_core.specs.Scenes.{Scene, Steps}
 use Rattle.ot_core.specs.Draining.{Drains, AllAnswered}
 use Rattle.ot_core.specs.declared.event.Event.{Event}

@@ -2,7 +2,7 @@
 ghost use Rattle.std.specs.Prelude.{◌≡◌, ◌∷◌, ℕ, List, [], Some, OnOk, IfOk, drop, length};
 ghost use Rattle.std.specs.Io.KnownBytes.{Appends};
 ghost use Rattle.ot_core.specs.Scenes.{Scene};
-ghost use Rattle.ot_front.specs.Serving.{count_after};
+ghost use Rattle.ot_session.specs.Serving.{count_after};
 ghost use Rattle.ot_sim.specs.declared.line.Line.TheVariants as line;
 ghost use Rattle.ot_sim.specs.Playing.{place_of, answer_text, event_of, answer_of, saying_of, PlaysIn, Happens, replies_at, count_at, last_reply, reply_lines, news, usage_text, Plays, PlaysLine, PlaysOn, empty_play};
 ghost use Rattle.ot_sim.specs.Running.{untold_writes, WritesText, counts_at, begun};
@@ -13,7 +13,7 @@ use crate::line::{Line, read_line};
 use crate::names::Names;
 use ot_book::reply_text;
 use ot_core::{Event, Replies, Stepped, World};
-use ot_front::{Sink, write_whole};
+use ot_session::{Sink, write_whole};
 use std::alloc::{AllocError, Global};
 
 /// The tenants, and their world from the first line on that isn't a tenant's.

@@ -2,7 +2,7 @@
 ghost use Rattle.std.specs.Prelude.{◌≡◌, ◌≢◌, ◌≤◌, ℕ, Err, OnOk};
 ghost use Rattle.std.specs.Io.KnownBytes.{IsAtEnd};
 ghost use Rattle.ot_lines.specs.Lines.{flow, opened};
-ghost use Rattle.ot_front.specs.Serving.{next_count, count_after};
+ghost use Rattle.ot_session.specs.Serving.{next_count, count_after};
 ghost use Rattle.ot_sim.specs.Playing.{empty_play};
 ghost use Rattle.ot_sim.specs.Talk.{TalksOver};
 ghost use Rattle.ot_sim.specs.Running.{sim_bounds, IsRun, TakesLine};
@@ -10,8 +10,8 @@ ghost use Rattle.ot_sim.specs.declared.fault.SimFault.TheVariants.{ReadFailed, W
 
 use crate::fault::{SimFault, Untold};
 use crate::play::Play;
-use ot_front::Sink;
 use ot_lines::{Bounds, Ended, LineFault, Lines, Listener, Source, listen};
+use ot_session::Sink;
 use std::alloc::Global;
 
 /// How sim reads: a line has as many bytes as one of a session, and the words before it.

@@ -5,7 +5,7 @@ use Rattle.std.proofs.Math.ListN.{take-append-drop}
 use Rattle.std.proofs.lemmas.List.{get_or-take, length-take-le}
 use Rattle.std.proofs.lemmas.Bool.Decides.{nat_tests}
 use Rattle.memchr.specs.Find.{Nowhere, Passes, is_byte}
-use Rattle.ot_front.specs.Session.{HasNoEnd}
+use Rattle.ot_session.specs.Session.{HasNoEnd}
 
 passes_ten : (b : ℕ) → b ≡ 10 → (b == 10) ≡ true
 passes_ten b is = ap (λ x. x == 10) is

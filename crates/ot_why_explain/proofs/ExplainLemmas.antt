@@ -6,16 +6,16 @@ use Rattle.std.proofs.KnownBytes.{Appends-trans, Appends-nil}
 use Rattle.std.proofs.lemmas.List.{get_or_append_left, get_or-append-add}
 use Rattle.std.proofs.lemmas.Bool.Decides.{leb_tells}
 use Rattle.ot_book.specs.Books.{Register}
-use Rattle.ot_front.specs.Serving.{AppendsFront, Going, Serving}
+use Rattle.ot_session.specs.Serving.{AppendsFront, Going, Serving}
 use Rattle.ot_book.specs.Room.{room_in}
-use Rattle.ot_front.specs.Session.{Heard, HasNoEnd, max_line, closing, heard_in, session_text, logged_lines, TellsAll, BreaksOff, SessionTells, Session, Lines, marked, after, told}
-use Rattle.ot_front.specs.declared.fault.End.{End}
-use Rattle.ot_front.specs.declared.fault.End.TheVariants as end
-use Rattle.ot_front.specs.declared.fault.FrontFault.{FrontFault}
-use Rattle.ot_front.specs.declared.fault.FrontFault.TheVariants as fault
-use Rattle.ot_front.proofs.SessionLemmas.{going_piece, stops_long, stops_in_long}
-use Rattle.ot_front.proofs.ServingLemmas.{IsIdle, serves_nothing, serves_idle}
-use Rattle.ot_front.proofs.StopLemmas.{Stops, session_longer}
+use Rattle.ot_session.specs.Session.{Heard, HasNoEnd, max_line, closing, heard_in, session_text, logged_lines, TellsAll, BreaksOff, SessionTells, Session, Lines, marked, after, told}
+use Rattle.ot_session.specs.declared.fault.End.{End}
+use Rattle.ot_session.specs.declared.fault.End.TheVariants as end
+use Rattle.ot_session.specs.declared.fault.FrontFault.{FrontFault}
+use Rattle.ot_session.specs.declared.fault.FrontFault.TheVariants as fault
+use Rattle.ot_session.proofs.SessionLemmas.{going_piece, stops_long, stops_in_long}
+use Rattle.ot_session.proofs.ServingLemmas.{IsIdle, serves_nothing, serves_idle}
+use Rattle.ot_session.proofs.StopLemmas.{Stops, session_longer}
 use Rattle.ot_why_explain.specs.Explaining.{without_remarks, last_code, AreOn, Explains, Remarks}
 use Rattle.ot_why_explain.specs.Listening.{IsWhole, Explaining, IsStop, Stopped, Served, said_at, Noted, Closing}
 use Rattle.ot_why_explain.specs.declared.explaining.Explained.{Explained}

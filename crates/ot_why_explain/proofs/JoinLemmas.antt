@@ -3,15 +3,15 @@ use Rattle.std.proofs.Common.{◌≡◌, ℕ, zero, suc, ◌+◌, ◌-◌, ◌�
 use Rattle.std.specs.Prelude.{Option, Some, None, Result, Ok, Err, fold, is_some, if◌then◌else◌, ◌==◌, nat_le}
 use Rattle.ot_book.specs.Books.{Register, next_number}
 use Rattle.ot_book.specs.Room.{Room, room_in, takes, with_entry, room_after}
-use Rattle.ot_front.specs.Session.{Heard, nothing_heard, hear, with_line, with_byte, is_bye, max_line, closing, heard_in, session_text, logged_lines, TellsAll, LeavesRun, BreaksOff, SessionTells, Session, Lines, texts, marks, marked, after, told, RunsProgram}
-use Rattle.ot_front.specs.Serving.{Going}
-use Rattle.ot_front.specs.declared.fault.End.{End}
-use Rattle.ot_front.specs.declared.fault.End.TheVariants as end
-use Rattle.ot_front.specs.declared.fault.FrontFault.{FrontFault}
-use Rattle.ot_front.specs.declared.fault.FrontFault.TheVariants as fault
-use Rattle.ot_front.proofs.HeardLemmas.{at_line, heard-append}
-use Rattle.ot_front.proofs.ToldLemmas.{length-texts, length-marks, after-append, told-append, told-take, room-after, next-after, length-marked}
-use Rattle.ot_front.proofs.SessionLemmas.{session_of, breaks_between}
+use Rattle.ot_session.specs.Session.{Heard, nothing_heard, hear, with_line, with_byte, is_bye, max_line, closing, heard_in, session_text, logged_lines, TellsAll, LeavesRun, BreaksOff, SessionTells, Session, Lines, texts, marks, marked, after, told, RunsProgram}
+use Rattle.ot_session.specs.Serving.{Going}
+use Rattle.ot_session.specs.declared.fault.End.{End}
+use Rattle.ot_session.specs.declared.fault.End.TheVariants as end
+use Rattle.ot_session.specs.declared.fault.FrontFault.{FrontFault}
+use Rattle.ot_session.specs.declared.fault.FrontFault.TheVariants as fault
+use Rattle.ot_session.proofs.HeardLemmas.{at_line, heard-append}
+use Rattle.ot_session.proofs.ToldLemmas.{length-texts, length-marks, after-append, told-append, told-take, room-after, next-after, length-marked}
+use Rattle.ot_session.proofs.SessionLemmas.{session_of, breaks_between}
 
 -- ---- what is heard behind lines
 

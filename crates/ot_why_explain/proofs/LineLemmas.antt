@@ -4,7 +4,7 @@ use Rattle.std.specs.List.{list_any}
 use Rattle.std.proofs.lemmas.List.{take-append-le}
 use Rattle.std.proofs.lemmas.List.Folds.{list_any-append}
 use Rattle.std.proofs.lemmas.Bool.Decides.{leb_tells, nat_tests}
-use Rattle.ot_front.specs.Session.{HasNoEnd}
+use Rattle.ot_session.specs.Session.{HasNoEnd}
 use Rattle.ot_why_explain.specs.Explaining.{with_first, lines_of, unless_remark, without_remarks, remark_line}
 use Rattle.ot_why_explain.specs.Listening.{IsRemarks, IsWhole}
 

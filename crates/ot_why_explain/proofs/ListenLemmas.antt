@@ -8,18 +8,18 @@ use Rattle.ot_lines.specs.declared.lines.LineFault.TheVariants as lines
 use Rattle.ot_lines.specs.declared.listener.Ended.{Ended}
 use Rattle.ot_lines.specs.declared.listener.Ended.TheVariants as ended_as
 use Rattle.ot_book.specs.Books.{Register, next_number}
-use Rattle.ot_front.specs.Serving.{AppendsFront, Going, session_bounds, result_of}
-use Rattle.ot_front.specs.Session.{Heard, max_line, closing, Session, told, texts}
-use Rattle.ot_front.specs.declared.fault.End.{End}
-use Rattle.ot_front.specs.declared.fault.End.TheVariants as end
-use Rattle.ot_front.specs.declared.fault.FrontFault.{FrontFault}
-use Rattle.ot_front.specs.declared.fault.FrontFault.TheVariants as fault
-use Rattle.ot_front.specs.declared.stop.Stop.{Stop}
-use Rattle.ot_front.specs.declared.stop.Stop.TheVariants as stop
-use Rattle.ot_front.proofs.ToldLemmas.{pending-after}
-use Rattle.ot_front.proofs.SessionLemmas.{going_piece, session_of, tells_all}
-use Rattle.ot_front.proofs.PrefixLemmas.{last_of, clean_take, consumed}
-use Rattle.ot_front.proofs.LineLemmas.{going_nothing, serves_in}
+use Rattle.ot_session.specs.Serving.{AppendsFront, Going, session_bounds, result_of}
+use Rattle.ot_session.specs.Session.{Heard, max_line, closing, Session, told, texts}
+use Rattle.ot_session.specs.declared.fault.End.{End}
+use Rattle.ot_session.specs.declared.fault.End.TheVariants as end
+use Rattle.ot_session.specs.declared.fault.FrontFault.{FrontFault}
+use Rattle.ot_session.specs.declared.fault.FrontFault.TheVariants as fault
+use Rattle.ot_session.specs.declared.stop.Stop.{Stop}
+use Rattle.ot_session.specs.declared.stop.Stop.TheVariants as stop
+use Rattle.ot_session.proofs.ToldLemmas.{pending-after}
+use Rattle.ot_session.proofs.SessionLemmas.{going_piece, session_of, tells_all}
+use Rattle.ot_session.proofs.PrefixLemmas.{last_of, clean_take, consumed}
+use Rattle.ot_session.proofs.LineLemmas.{going_nothing, serves_in}
 use Rattle.ot_why_explain.specs.Explaining.{without_remarks, Explains, Remarks}
 use Rattle.ot_why_explain.specs.Listening.{Explaining, IsStop, Stopped, ExplainsLine, Served, said_at}
 use Rattle.ot_why_explain.specs.declared.explaining.Explained.{Explained}

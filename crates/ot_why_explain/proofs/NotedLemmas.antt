@@ -5,11 +5,11 @@ use Rattle.std.specs.Io.KnownBytes.{Appends, Consumes}
 use Rattle.std.proofs.lemmas.Bool.Decides.{leb_tells}
 use Rattle.ot_book.specs.Books.{Register, logged}
 use Rattle.ot_book.specs.Room.{Room, room_in, takes, room_after}
-use Rattle.ot_front.specs.Session.{Heard, heard, hear, with_line, is_bye, HasNoEnd, max_line, closing, heard_in, logged_lines, TellsAll, LeavesRun, Lines, texts, marked, after, told, reply_line}
-use Rattle.ot_front.specs.declared.fault.End.{End}
-use Rattle.ot_front.specs.declared.fault.End.TheVariants as end
-use Rattle.ot_front.proofs.HeardLemmas.{at_line, heard-append, lines_grow, heard-piece, heard-long}
-use Rattle.ot_front.proofs.ToldLemmas.{texts-more, after-more}
+use Rattle.ot_session.specs.Session.{Heard, heard, hear, with_line, is_bye, HasNoEnd, max_line, closing, heard_in, logged_lines, TellsAll, LeavesRun, Lines, texts, marked, after, told, reply_line}
+use Rattle.ot_session.specs.declared.fault.End.{End}
+use Rattle.ot_session.specs.declared.fault.End.TheVariants as end
+use Rattle.ot_session.proofs.HeardLemmas.{at_line, heard-append, lines_grow, heard-piece, heard-long}
+use Rattle.ot_session.proofs.ToldLemmas.{texts-more, after-more}
 use Rattle.ot_why_explain.specs.Explaining.{last_code, AreOn, Remarked, refuses, is_untaken, says, Remarks}
 use Rattle.ot_why_explain.specs.Listening.{said_at, Noted, Closing}
 use Rattle.ot_why_explain.specs.declared.explaining.Explained.{Explained}

@@ -8,17 +8,17 @@ use Rattle.ot_lines.specs.declared.listener.Ended.{Ended}
 use Rattle.ot_lines.specs.declared.listener.Ended.TheVariants as ended_as
 use Rattle.ot_book.specs.Books.{Register, next_number, logged}
 use Rattle.ot_book.specs.Room.{room_in}
-use Rattle.ot_front.specs.Session.{Heard, max_line, heard_in, Session, Serves, Lines, after, texts}
-use Rattle.ot_front.specs.Serving.{Going, session_bounds, result_of}
-use Rattle.ot_front.specs.declared.fault.End.{End}
-use Rattle.ot_front.specs.declared.fault.End.TheVariants as end
-use Rattle.ot_front.specs.declared.fault.FrontFault.{FrontFault}
-use Rattle.ot_front.specs.declared.stop.Stop.{Stop}
-use Rattle.ot_front.proofs.ToldLemmas.{pending-after, texts-more, after-more}
-use Rattle.ot_front.proofs.SessionLemmas.{going_piece, stops_long}
-use Rattle.ot_front.proofs.ServingLemmas.{serves_idle}
-use Rattle.ot_front.proofs.PrefixLemmas.{last_of, clean_take, consumed}
-use Rattle.ot_front.proofs.LineLemmas.{going_nothing, serves_in}
+use Rattle.ot_session.specs.Session.{Heard, max_line, heard_in, Session, Serves, Lines, after, texts}
+use Rattle.ot_session.specs.Serving.{Going, session_bounds, result_of}
+use Rattle.ot_session.specs.declared.fault.End.{End}
+use Rattle.ot_session.specs.declared.fault.End.TheVariants as end
+use Rattle.ot_session.specs.declared.fault.FrontFault.{FrontFault}
+use Rattle.ot_session.specs.declared.stop.Stop.{Stop}
+use Rattle.ot_session.proofs.ToldLemmas.{pending-after, texts-more, after-more}
+use Rattle.ot_session.proofs.SessionLemmas.{going_piece, stops_long}
+use Rattle.ot_session.proofs.ServingLemmas.{serves_idle}
+use Rattle.ot_session.proofs.PrefixLemmas.{last_of, clean_take, consumed}
+use Rattle.ot_session.proofs.LineLemmas.{going_nothing, serves_in}
 use Rattle.ot_why_explain.specs.Explaining.{last_code, AreOn, RemarksOn, refuses, says, RemarksAlone}
 use Rattle.ot_why_explain.specs.Listening.{said_at, IsStop, Hushed, HushedOn, HushesLine}
 use Rattle.ot_why_explain.specs.declared.explaining.Explained.{Explained}

@@ -5,7 +5,7 @@ use Rattle.std.specs.List.{list_any}
 use Rattle.std.specs.Fmt.{decimal}
 use Rattle.std.proofs.lemmas.List.Elements.{All-append}
 use Rattle.ot_book.specs.Books.{Register, logged}
-use Rattle.ot_front.specs.Session.{HasNoEnd, Lines, after, reply_line}
+use Rattle.ot_session.specs.Session.{HasNoEnd, Lines, after, reply_line}
 use Rattle.ot_why_explain.specs.Explaining.{remark_line, last_code, with_code, OpensWith, AreOn, Remarked, refuses, says}
 use Rattle.ot_why_explain.specs.Listening.{IsRemarks, IsWhole}
 use Rattle.ot_why_explain.specs.declared.explaining.Explained.{Explained}

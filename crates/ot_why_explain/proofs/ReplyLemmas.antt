@@ -9,9 +9,9 @@ use Rattle.serde_json.specs.Data.{Num, unsigned, negative, float, Data, null, bo
 use Rattle.serde_json.specs.Written.{number_text, comma_if, compact_text, items_text, members_text}
 use Rattle.ot_book.specs.Answers.{Told, Accepted, Cells, Arrays, Used, Done, Refused, Offends, Lost, json_of, text_of}
 use Rattle.ot_book.specs.Books.{Register, logged, reply_at}
-use Rattle.ot_front.specs.Session.{Lines, told, reply_line, last_reply, closing}
-use Rattle.ot_front.specs.declared.fault.End.{End}
-use Rattle.ot_front.specs.declared.fault.End.TheVariants as end
+use Rattle.ot_session.specs.Session.{Lines, told, reply_line, last_reply, closing}
+use Rattle.ot_session.specs.declared.fault.End.{End}
+use Rattle.ot_session.specs.declared.fault.End.TheVariants as end
 use Rattle.ot_why_explain.specs.Listening.{IsWhole}
 use Rattle.ot_why_explain.proofs.LineLemmas.{HasNone, or_right, none-append, whole-nil, whole-append, whole-line, IsPlain, plain-nil, plain-append, plain-line}
 

@@ -3,10 +3,10 @@ use Rattle.std.specs.Prelude.{◌≡◌, [], ℕ, List, ◌∷◌, ◌++◌, len
 use Rattle.std.specs.Io.KnownBytes.{Appends, Consumes}
 use Rattle.ot_store.specs.Refusals.{usual_limits}
 use Rattle.ot_book.specs.Books.{Register, new_register, logged, reply_at}
-use Rattle.ot_front.specs.Session.{HasNoEnd, closing, heard_in, Serves, Lines, texts, after, reply_line}
-use Rattle.ot_front.specs.declared.fault.End.{End}
-use Rattle.ot_front.specs.declared.fault.End.TheVariants.{Full, LongLine}
-use Rattle.ot_front.specs.declared.fault.FrontFault.{FrontFault}
+use Rattle.ot_session.specs.Session.{HasNoEnd, closing, heard_in, Serves, Lines, texts, after, reply_line}
+use Rattle.ot_session.specs.declared.fault.End.{End}
+use Rattle.ot_session.specs.declared.fault.End.TheVariants.{Full, LongLine}
+use Rattle.ot_session.specs.declared.fault.FrontFault.{FrontFault}
 use Rattle.ot_why_explain.specs.declared.explaining.Explained.{Explained}
 use Rattle.ot_why_explain.specs.declared.explaining.Explained.TheVariants.{AllTaken, SomeRefused}
 use Rattle.std.specs.Fmt.{decimal}

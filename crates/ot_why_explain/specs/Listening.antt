@@ -2,12 +2,12 @@
 use Rattle.std.specs.Prelude.{◌≡◌, [], ◌≤◌, ℕ, List, ◌∷◌, ◌++◌, length, Option, Some, None, Result, Ok, Err, IfOk, ⊤, All, flat_map}
 use Rattle.std.specs.Io.KnownBytes.{Appends}
 use Rattle.ot_book.specs.Books.{Register, next_number}
-use Rattle.ot_front.specs.Session.{HasNoEnd, max_line, closing, heard_in, Session, Lines, texts, after}
-use Rattle.ot_front.specs.Serving.{Going}
-use Rattle.ot_front.specs.declared.fault.End.{End}
-use Rattle.ot_front.specs.declared.fault.End.TheVariants.{EndOfInput, Full, LongLine}
-use Rattle.ot_front.specs.declared.fault.FrontFault.{FrontFault}
-use Rattle.ot_front.specs.declared.fault.FrontFault.TheVariants.{ReadFailed, TooManyTurns, SocketFailed}
+use Rattle.ot_session.specs.Session.{HasNoEnd, max_line, closing, heard_in, Session, Lines, texts, after}
+use Rattle.ot_session.specs.Serving.{Going}
+use Rattle.ot_session.specs.declared.fault.End.{End}
+use Rattle.ot_session.specs.declared.fault.End.TheVariants.{EndOfInput, Full, LongLine}
+use Rattle.ot_session.specs.declared.fault.FrontFault.{FrontFault}
+use Rattle.ot_session.specs.declared.fault.FrontFault.TheVariants.{ReadFailed, TooManyTurns, SocketFailed}
 use Rattle.ot_why_explain.specs.declared.explaining.Explained.{Explained}
 use Rattle.ot_why_explain.specs.declared.explaining.Explained.TheVariants.{SomeRefused}
 use Rattle.ot_why_explain.specs.Explaining.{Remarked, RemarksOn, refuses, remark_line, says, without_remarks}

@@ -2,17 +2,17 @@
 ghost use Rattle.std.specs.Prelude.{◌≡◌, ◌≤◌, ◌++◌, ◌∷◌, [], ℕ, List, Option, None, Ok, Err, length, IfOk, IfErr};
 ghost use Rattle.ot_lines.specs.Lines.{opened};
 ghost use Rattle.ot_book.specs.Books.{Register, next_number};
-ghost use Rattle.ot_front.specs.Session.{HasNoEnd, max_line};
-ghost use Rattle.ot_front.specs.Serving.{session_bounds};
-ghost use Rattle.ot_front.specs.declared.fault.End.{End};
+ghost use Rattle.ot_session.specs.Session.{HasNoEnd, max_line};
+ghost use Rattle.ot_session.specs.Serving.{session_bounds};
+ghost use Rattle.ot_session.specs.declared.fault.End.{End};
 ghost use Rattle.ot_why_explain.specs.Explaining.{beginner, Explains, Remarks};
 ghost use Rattle.ot_why_explain.specs.Listening.{Explaining, GoesOn, said_at, ExplainsLine};
 ghost use Rattle.ot_why_explain.specs.declared.explaining.Explained.TheVariants.{AllTaken};
 
 use crate::telling::tell_last;
 use ot_book::{Book, Solo};
-use ot_front::{End, FrontFault, Sink, session_bounds, take_line, tell_long};
 use ot_lines::{Ended, LineFault, Lines, Listener, Source, listen};
+use ot_session::{End, FrontFault, Sink, session_bounds, take_line, tell_long};
 use ot_store::{Limits, Store};
 use std::alloc::Global;
 

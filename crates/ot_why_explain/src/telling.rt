@@ -1,14 +1,14 @@
 //! The remarks behind a reply.
 ghost use Rattle.std.specs.Prelude.{◌≡◌, ◌⊎◌, ℕ, List, [], ◌++◌, OnOk, OnErr, IfOk, IfErr, is_some};
 ghost use Rattle.std.specs.Io.KnownBytes.{Appends};
-ghost use Rattle.ot_front.specs.Session.{HasNoEnd};
-ghost use Rattle.ot_front.specs.declared.fault.FrontFault.TheVariants as fault;
+ghost use Rattle.ot_session.specs.Session.{HasNoEnd};
+ghost use Rattle.ot_session.specs.declared.fault.FrontFault.TheVariants as fault;
 ghost use Rattle.ot_why_explain.specs.Explaining.{without_remarks, remark_line, with_code, last_code, OpensWith, AreOn};
 
 use crate::remarks::remarks_on_last;
 use memchr::memchr;
 use ot_book::Book;
-use ot_front::{FrontFault, Sink, write_whole};
+use ot_session::{FrontFault, Sink, write_whole};
 use std::alloc::{AllocError, Global};
 
 /// Writes what is said of the last request of a book, where it was refused, and answers whether it was. A part may be

@@ -2,7 +2,7 @@
 ghost use Rattle.std.specs.Prelude.{◌≡◌, ◌++◌, ◌≤◌, IfOk, take};
 
 use crate::fakes::{Faltering, Narrow};
-use ot_front::{Failed, Reading, Sink, Source, Writing, write_whole};
+use ot_session::{Failed, Reading, Sink, Source, Writing, write_whole};
 use std::alloc::Global;
 
 const REPLY: &str = "[\"ok\",1]\n";

@@ -3,7 +3,7 @@ ghost use Rattle.std.specs.Prelude.{Some};
 
 use ot_book::{Executor, NotDone, Solo};
 use ot_check::{JobSpec, Outcome};
-use ot_front::{Failed, Sink};
+use ot_session::{Failed, Sink};
 use std::alloc::Global;
 use std::io;
 use std::io::{Read, Write};

@@ -1,4 +1,4 @@
-//! Tests of sessions: what no contract of `ot_front` says, or says for every device alike. It has nothing
+//! Tests of sessions: what no contract of `ot_session` says, or says for every device alike. It has nothing
 //! but tests. Sessions that are lines in and replies out are files in `tests/sessions`.
 #![tactic(auto)]
 

@@ -2,7 +2,7 @@
 use crate::books::{USUAL, book_of};
 use crate::fakes::{Counting, Dripping, Narrow, Refusing};
 use ot_book::{NotDone, Solo};
-use ot_front::{End, FrontFault, Reading, Writing, serve};
+use ot_session::{End, FrontFault, Reading, Writing, serve};
 use ot_sim::sim_lines;
 use std::alloc::Global;
 use std::test::Fail;

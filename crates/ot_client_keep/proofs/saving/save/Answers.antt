@@ -1,6 +1,6 @@
 use Rattle.std.proofs.Common.{◌∙◌, ap, map, subst}
 use Rattle.std.specs.Io.KnownBytes.{Appends}
-use Rattle.ot_front.specs.Serving.{AppendsFront}
+use Rattle.ot_session.specs.Serving.{AppendsFront}
 use Rattle.ot_client_ask.specs.Streams.{link, outgoing}
 use Rattle.ot_client_keep.specs.Arrays.{named_by}
 use Rattle.ot_client_keep.specs.Files.{Makes, file_text}

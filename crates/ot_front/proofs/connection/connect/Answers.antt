@@ -1,6 +1,6 @@
 use Rattle.std.proofs.Common.{inl, refl}
 use Rattle.std.specs.Prelude.{⊤}
-use Rattle.ot_front.specs.declared.fault.FrontFault.TheVariants.{Memory}
+use Rattle.ot_session.specs.declared.fault.FrontFault.TheVariants.{Memory}
 use Rattle.ot_front.proofs.GreetingLemmas.{greets_nothing}
 use Rattle.ot_front.proofs.RackLemmas.{over_session, over_nothing, over_fault}
 use Rattle.ot_front.proofs.connection.connect.Goals as goal

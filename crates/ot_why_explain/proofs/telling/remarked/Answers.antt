@@ -1,5 +1,5 @@
 use Rattle.std.proofs.Common.{◌++◌, ◌∷◌, [], sym, subst, ap, ◌∙◌, inl, inr, refl, append_assoc}
-use Rattle.ot_front.specs.Session.{HasNoEnd}
+use Rattle.ot_session.specs.Session.{HasNoEnd}
 use Rattle.ot_why_explain.proofs.ChunkLemmas.{chunk_on, clean_all, clean_front}
 use Rattle.ot_why_explain.specs.Explaining.{remark_line}
 use Rattle.ot_why_explain.proofs.RemarkLemmas.{first_line, opens_first, opens_more}

@@ -2,7 +2,7 @@ use Rattle.std.proofs.Common.{ap, subst}
 use Rattle.std.specs.Prelude.{true}
 use Rattle.ot_core.specs.Accounts.{Account, answered, IsFull, MayAsk}
 use Rattle.ot_core.specs.Accounts as asking
-use Rattle.ot_core.proofs.FloorLemmas.{seen}
+use Rattle.ot_hall.proofs.FloorLemmas.{seen}
 use Rattle.ot_core.proofs.SceneLemmas.{scene-account, moves-at, has-tenant}
 use Rattle.ot_job.proofs.ViewLemmas.{on_err_always}
 use Rattle.ot_core.proofs.HandedLemmas.{written-again}

@@ -1,7 +1,8 @@
 use Rattle.std.proofs.Common.{◌≡◌, ◌<◌, ℕ, ap, ◌∙◌, sym, subst, arith, length}
-use Rattle.ot_core.specs.Floors.{job_of}
+use Rattle.ot_hall.specs.Floors.{job_of}
 use Rattle.ot_core.specs.Scenes.{Scene}
-use Rattle.ot_core.specs.Toil.{count_of, LivelyAt}
+use Rattle.ot_hall.specs.Lively.{LivelyAt}
+use Rattle.ot_core.specs.Toil.{count_of}
 use Rattle.ot_core.specs.Draining.{AllAnswered}
 use Rattle.ot_core.specs.SceneView.{scene_of}
 use Rattle.ot_core.proofs.DrainLemmas.{count-is, all-answered}

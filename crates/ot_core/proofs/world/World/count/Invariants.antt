@@ -1,6 +1,7 @@
 use Rattle.std.proofs.Common.{◌≡◌, ◌≤◌, ◌<◌, ◌*◌, ℕ}
-use Rattle.ot_core.specs.Floors.{job_of}
-use Rattle.ot_core.specs.Toil.{sum_below, moves_at, LivelyAt}
+use Rattle.ot_hall.specs.Floors.{job_of}
+use Rattle.ot_hall.specs.Lively.{LivelyAt}
+use Rattle.ot_core.specs.Toil.{sum_below, moves_at}
 use Rattle.ot_core.proofs.world.World.count.Given as goal
 
 abbrev pub invariant-loop-tenant : goal.invariant-loop-tenant

@@ -1,5 +1,5 @@
 use Rattle.std.proofs.Common.{◌≡◌, ◌≤◌, ◌∙◌, ap, arith, length}
-use Rattle.ot_core.specs.Floors.{new_floor}
+use Rattle.ot_hall.specs.Floors.{new_floor}
 use Rattle.ot_core.proofs.OpeningLemmas.{scene-new, new-is}
 use Rattle.ot_core.proofs.world.World.new.Goals as goal
 

@@ -3,7 +3,7 @@ use Rattle.ot_core.specs.Accounts as asking
 use Rattle.ot_core.specs.Accounts.{IsUnopened, IsAnswered, Waits}
 use Rattle.ot_core.specs.Scenes.{IsScene, Moves, moved}
 use Rattle.ot_core.specs.SceneView.{scene_of}
-use Rattle.ot_core.proofs.FloorLemmas.{seen}
+use Rattle.ot_hall.proofs.FloorLemmas.{seen}
 use Rattle.ot_core.proofs.SceneLemmas.{scene-answered, scene-opened, answered-lost, moves-at, can-open, cannot-open, starts-job}
 use Rattle.ot_job.proofs.ViewLemmas.{on_err_always}
 use Rattle.ot_core.proofs.HandedLemmas.{read-again, written-again}

@@ -1,5 +1,5 @@
 use Rattle.std.proofs.Common.{sym, refl, inl, inr, None, true, false}
-use Rattle.ot_core.proofs.FloorLemmas.{seen}
+use Rattle.ot_hall.proofs.FloorLemmas.{seen}
 use Rattle.ot_core.proofs.SceneLemmas.{jobless}
 use Rattle.ot_core.proofs.HandedLemmas.{read-again, never-strange, cannot-reply, ended}
 use Rattle.ot_core.proofs.world.World.reply.Goals as goal

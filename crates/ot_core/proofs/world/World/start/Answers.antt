@@ -1,5 +1,5 @@
 use Rattle.std.proofs.Common.{◌+◌, sym, ◌∙◌, subst}
-use Rattle.ot_core.specs.Floors.{ClaimsOf}
+use Rattle.ot_hall.specs.Floors.{ClaimsOf}
 use Rattle.ot_core.specs.SceneView.{scene_of}
 use Rattle.ot_job.proofs.ViewLemmas.{on_err_always}
 use Rattle.ot_core.proofs.HandedLemmas.{hand-read, hand-free, as-before, taken, cannot-start, may-take}

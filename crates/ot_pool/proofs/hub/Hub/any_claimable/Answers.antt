@@ -1,5 +1,5 @@
 use Rattle.std.proofs.Common.{subst}
-use Rattle.ot_core.specs.Floors.{NothingAnywhere}
+use Rattle.ot_hall.specs.Floors.{NothingAnywhere}
 use Rattle.ot_pool.specs.Shared.{Shared}
 use Rattle.ot_pool.proofs.hub.Hub.any_claimable.Goals as goal
 

@@ -1,0 +1,4 @@
+mod MarkLemmas
+mod TurnLemmas
+pub mod IndexLemmas
+pub mod FloorLemmas

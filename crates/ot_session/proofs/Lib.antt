@@ -1,0 +1,9 @@
+pub mod Appending
+pub mod HeardLemmas
+pub mod ToldLemmas
+pub mod RunLemmas
+pub mod SessionLemmas
+pub mod ServingLemmas
+pub mod StopLemmas
+pub mod PrefixLemmas
+pub mod LineLemmas

@@ -1,0 +1,4 @@
+pub mod Serving
+pub mod Writing
+pub mod Session
+pub mod Turns

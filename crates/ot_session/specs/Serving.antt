@@ -1,0 +1,59 @@
+-- What reads and writes do to the counts that a device keeps and to the bytes that a sink holds.
+use Rattle.std.specs.Prelude.{◌≡◌, ◌≤◌, ℕ, List, length, Option, None, Result, Ok, Err, ⊤, ◌<◌, take}
+use Rattle.std.specs.Io.KnownBytes.{Appends, Consumes}
+use Rattle.ot_book.specs.Books.{Register}
+use Rattle.ot_lines.specs.declared.lines.Bounds.{Bounds}
+use Rattle.ot_session.specs.Session.{max_line, heard_in, Session, Lines, texts, after, told}
+use Rattle.ot_session.specs.declared.fault.End.{End}
+use Rattle.ot_session.specs.declared.fault.End.TheVariants as end
+use Rattle.ot_session.specs.declared.fault.FrontFault.{FrontFault}
+use Rattle.ot_session.specs.declared.fault.FrontFault.TheVariants as fault
+use Rattle.ot_session.specs.declared.stop.Stop.{Stop}
+use Rattle.ot_session.specs.declared.stop.Stop.TheVariants.{Bye, Full, LongLine, Closed, Stranger, WriteFailed, Memory}
+pub use Rattle.ot_lines.specs.Lines.{next_count, count_after}
+
+-- known bytes grow by the first bytes of bs, and not by all of them
+abbrev pub AppendsFront : Option (List ℕ) → Option (List ℕ) → List ℕ → Type 0
+AppendsFront old new bs = (n : ℕ) × (n < length bs) × Appends old new (take n bs)
+
+-- A session in the middle: between two bytes, and between two reads.
+
+-- what a session answers that stops so
+abbrev pub result_of : Stop → Result End FrontFault
+result_of Bye = Ok end.Bye
+result_of Full = Ok end.Full
+result_of LongLine = Ok end.LongLine
+result_of Closed = Ok end.Closed
+result_of Stranger = Err fault.Stranger
+result_of WriteFailed = Err fault.WriteFailed
+result_of Memory = Err fault.Memory
+
+-- how many writes failed
+abbrev pub failed_writes : Result ⊤ Stop → ℕ
+failed_writes (Err WriteFailed) = 1
+failed_writes result = 0
+
+-- The session goes on: the lines that were heard are logged and their replies written.
+pub record Going (first : Register) (start : Option (List ℕ)) (bytes partial : List ℕ) (book : Register) (held : Option (List ℕ)) : Type 0 where
+  pub lines : Lines
+  pub hears : heard_in first bytes ≡ record { lines = texts lines; partial = partial; end = None }
+  pub short : length partial ≤ max_line
+  pub logs : book ≡ after first lines
+  pub writes : Appends start held (told first lines)
+
+-- it goes on, or it has stopped in these bytes
+abbrev pub Goes : Register → Option (List ℕ) → List ℕ → List ℕ → Register → Option (List ℕ) → Result ⊤ Stop → Type 0
+Goes first start bytes partial book held (Ok done) = Going first start bytes partial book held
+Goes first start bytes partial book held (Err stop) = Session first book bytes start held (result_of stop)
+
+-- the bytes that were read, and the session that goes on over them
+pub record Serving (first : Register) (ahead left start : Option (List ℕ)) (partial : List ℕ) (book : Register) (held : Option (List ℕ)) : Type 0 where
+  pub bytes : List ℕ
+  pub reads : Consumes ahead left bytes
+  pub going : Going first start bytes partial book held
+
+-- ---- a whole session
+
+-- lines of at most 65,536 bytes, as many bytes a read, and 1,000,000 reads
+abbrev pub session_bounds : Bounds
+session_bounds = record { line = 65536; read = 65536; reads = 1000000 }

@@ -1,0 +1,51 @@
+//! A sink over a writer of std. It tells of the bytes what the writer tells: over a `Vec` each of
+//! them, over a file or a socket none.
+ghost use Rattle.std.specs.Prelude.{◌≡◌};
+
+use crate::device::Sink;
+use ot_lines::Failed;
+use std::io::Write;
+
+/// A sink over a writer. Each error of the writer is a failure, and so is a write of no byte.
+#[derive(Drop)]
+pub struct Writing<W: Write> {
+    writer: W,
+    failures: u64,
+}
+
+impl<W: Write> Writing<W> {
+    ghost use Rattle.ot_session.specs.Writing.{writer_of};
+
+    pub fn new(writer: W) -> Writing<W>
+        ensures writer { writer_of result ≡ writer }
+        ensures contents { ⟦<Writing<W> as Sink>⟧.contents result ≡ W.contents writer }
+        ensures failures { ⟦<Writing<W> as Sink>⟧.failures result ≡ 0 }
+    {
+        Writing {
+            writer,
+            failures: 0,
+        }
+    }
+
+    pub fn into_inner(self) -> W
+        ensures { result ≡ writer_of self }
+    {
+        self.writer
+    }
+}
+
+impl<W: Write> Sink for Writing<W> {
+    ghost contents = { λ s. W.contents s.writer };
+
+    ghost failures = { λ s. s.failures };
+
+    fn write(&mut self, bytes: &[u8]) -> Result<usize, Failed> {
+        match self.writer.write(bytes) {
+            Ok(count) if count > 0 => Ok(count),
+            _ => {
+                self.failures = self.failures.wrapping_add(1);
+                Err(Failed)
+            }
+        }
+    }
+}
