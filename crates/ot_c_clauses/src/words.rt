@@ -4,6 +4,7 @@ ghost use Rattle.ot_c_clauses.specs.Operations as meant;
 
 use ot_c_expressions::{Call, Operation, Sign};
 
+/// How the language writes an operation of folds.
 pub fn operation_word(operation: Operation) -> &'static str
     ensures { result.now ≡ meant.operation_word operation }
 {
@@ -34,12 +35,14 @@ pub fn fold_of(sign: Sign) -> Option<Operation>
     }
 }
 
+/// Whether the sign is that of a difference.
 pub fn is_minus(sign: Sign) -> bool
     ensures { result ≡ meant.is_minus sign }
 {
     matches!(sign, Sign::Minus)
 }
 
+/// The operation of folds that a call of `min` or `max` is.
 pub fn call_fold(call: Call) -> Operation
     ensures { result ≡ meant.call_fold call }
 {
@@ -70,6 +73,7 @@ fn rank(operation: Operation) -> u32
     }
 }
 
+/// Whether both are one operation.
 pub fn is_same(one: Operation, two: Operation) -> bool
     ensures { result ≡ meant.is_same one two }
 {

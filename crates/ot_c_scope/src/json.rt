@@ -7,12 +7,14 @@ ghost use Rattle.ot_c_scope.specs.Forms.{form};
 use serde_json::Value;
 use std::alloc::{AllocError, Global};
 
+/// A text of JSON. It is refused only where memory is.
 pub fn text(alloc: Global, text: &str) -> Result<Value, AllocError>
     ensures { IfOk result (λ v. view v ≡ string text.now) }
 {
     Ok(Value::String(String::from_str(alloc, text)?))
 }
 
+/// A list of JSON, of these values in their order.
 pub fn list(values: Vec<Value>) -> Value
     ensures { view result ≡ array (items_view values.items) }
 {

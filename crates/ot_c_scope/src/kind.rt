@@ -35,6 +35,7 @@ pub fn holds(kind: IntegerType, number: u64) -> bool
     }
 }
 
+/// Whether the type is `uint64_t`, whose numbers are those of cells.
 pub fn is_word(kind: IntegerType) -> bool
     ensures { result ≡ kinds.is_word kind }
 {

@@ -136,6 +136,7 @@ impl<'a> Scope<'a> {
         }
     }
 
+    /// Whether the place is in a parallel region.
     pub fn inside(&self) -> bool
         ensures { result ≡ self.now.inside }
     {

@@ -6,6 +6,7 @@ ghost use Rattle.ot_c_statements.specs.Reading as read;
 use crate::fault::{Fault, ReadError};
 use ot_c_words::{Mark, Name, Word};
 
+/// What stands behind a `(` that comes next.
 #[tactic(auto, unfolding(crate::specs::Reading::open_at))]
 pub fn open_bracket(words: &[Word]) -> Result<&[Word], ReadError>
     ensures { Gives (λ x. x.now) result (read.open_at words.now) }
@@ -16,6 +17,7 @@ pub fn open_bracket(words: &[Word]) -> Result<&[Word], ReadError>
     }
 }
 
+/// What stands behind a `)` that comes next.
 #[tactic(auto, unfolding(crate::specs::Reading::close_at))]
 pub fn close(words: &[Word]) -> Result<&[Word], ReadError>
     ensures { Gives (λ x. x.now) result (read.close_at words.now) }
@@ -26,6 +28,7 @@ pub fn close(words: &[Word]) -> Result<&[Word], ReadError>
     }
 }
 
+/// What stands behind a `[` that comes next.
 #[tactic(auto, unfolding(crate::specs::Reading::open_index_at))]
 pub fn open_index(words: &[Word]) -> Result<&[Word], ReadError>
     ensures { Gives (λ x. x.now) result (read.open_index_at words.now) }
@@ -36,6 +39,7 @@ pub fn open_index(words: &[Word]) -> Result<&[Word], ReadError>
     }
 }
 
+/// What stands behind a `]` that comes next.
 #[tactic(auto, unfolding(crate::specs::Reading::close_index_at))]
 pub fn close_index(words: &[Word]) -> Result<&[Word], ReadError>
     ensures { Gives (λ x. x.now) result (read.close_index_at words.now) }
@@ -46,6 +50,7 @@ pub fn close_index(words: &[Word]) -> Result<&[Word], ReadError>
     }
 }
 
+/// What stands behind a `;` that comes next.
 #[tactic(auto, unfolding(crate::specs::Reading::semicolon_at))]
 pub fn semicolon(words: &[Word]) -> Result<&[Word], ReadError>
     ensures { Gives (λ x. x.now) result (read.semicolon_at words.now) }
@@ -56,6 +61,7 @@ pub fn semicolon(words: &[Word]) -> Result<&[Word], ReadError>
     }
 }
 
+/// What stands behind a `,` that comes next.
 #[tactic(auto, unfolding(crate::specs::Reading::comma_at))]
 pub fn comma(words: &[Word]) -> Result<&[Word], ReadError>
     ensures { Gives (λ x. x.now) result (read.comma_at words.now) }
@@ -66,6 +72,7 @@ pub fn comma(words: &[Word]) -> Result<&[Word], ReadError>
     }
 }
 
+/// What stands behind a `=` that comes next.
 #[tactic(auto, unfolding(crate::specs::Reading::assign_at))]
 pub fn assign(words: &[Word]) -> Result<&[Word], ReadError>
     ensures { Gives (λ x. x.now) result (read.assign_at words.now) }
@@ -76,6 +83,7 @@ pub fn assign(words: &[Word]) -> Result<&[Word], ReadError>
     }
 }
 
+/// What stands behind a `{` that comes next.
 #[tactic(auto, unfolding(crate::specs::Reading::open_block_at))]
 pub fn open_block(words: &[Word]) -> Result<&[Word], ReadError>
     ensures { Gives (λ x. x.now) result (read.open_block_at words.now) }
@@ -86,6 +94,7 @@ pub fn open_block(words: &[Word]) -> Result<&[Word], ReadError>
     }
 }
 
+/// What stands behind a `}` that comes next.
 #[tactic(auto, unfolding(crate::specs::Reading::close_block_at))]
 pub fn close_block(words: &[Word]) -> Result<&[Word], ReadError>
     ensures { Gives (λ x. x.now) result (read.close_block_at words.now) }
@@ -107,6 +116,7 @@ pub fn address(words: &[Word]) -> Result<&[Word], ReadError>
     }
 }
 
+/// What stands behind the end of a directive's line, which comes next.
 #[tactic(auto, unfolding(crate::specs::Reading::end_at))]
 pub fn directive_end(words: &[Word]) -> Result<&[Word], ReadError>
     ensures { Gives (λ x. x.now) result (read.end_at words.now) }
@@ -117,6 +127,7 @@ pub fn directive_end(words: &[Word]) -> Result<&[Word], ReadError>
     }
 }
 
+/// What stands behind a string that comes next.
 #[tactic(auto, unfolding(crate::specs::Reading::text_at))]
 pub fn text(words: &[Word]) -> Result<&[Word], ReadError>
     ensures { Gives (λ x. x.now) result (read.text_at words.now) }
@@ -127,6 +138,7 @@ pub fn text(words: &[Word]) -> Result<&[Word], ReadError>
     }
 }
 
+/// A name that comes next, and what stands behind it.
 #[tactic(auto, unfolding(crate::specs::Reading::name_at))]
 pub fn name(words: &[Word]) -> Result<(Name, &[Word]), ReadError>
     ensures { Gives (λ x. (x.0, x.1.now)) result (read.name_at words.now) }

@@ -11,6 +11,7 @@ use ot_c_expressions::{Clause, Expr, read_clauses, read_value};
 use ot_c_words::{Mark, Word};
 use std::alloc::Global;
 
+/// A value that comes next, and what stands behind it.
 pub fn value(alloc: Global, words: &[Word]) -> Result<(Expr, &[Word]), ReadError>
     ensures { Gives (λ x. (expr_of x.0, x.1.now)) result (read.value words.now) }
 {

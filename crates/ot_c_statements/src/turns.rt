@@ -66,6 +66,7 @@ fn type_behind(kind: IntegerType, words: &[Word]) -> (IntegerType, &[Word])
     }
 }
 
+/// A type of integers that comes next, and what stands behind it.
 #[tactic(auto, unfolding(crate::specs::Loops::type_at))]
 pub fn integer_type(words: &[Word]) -> Result<(IntegerType, &[Word]), ReadError>
     ensures { Gives (λ x. (x.0, x.1.now)) result (read.type_at words.now) }

@@ -16,6 +16,7 @@ pub struct Slots {
 }
 
 impl Slots {
+    /// What a slot of the function that runs has, or the fault that there is no such slot.
     #[tactic(auto, unfolding(crate::specs::Slots::read))]
     pub fn read(&self, slot: u32) -> Result<Value, Halt>
         ensures { Gives (λ v. v) result (read (slots_of self.now) slot) }
@@ -37,6 +38,7 @@ impl Slots {
         }
     }
 
+    /// Has a slot of the function that runs have this, or tells that there is no such slot.
     #[tactic(auto, unfolding(crate::specs::Slots::put))]
     pub fn put(&mut self, slot: u32, value: Value) -> Result<(), Halt>
         ensures { Gives (λ _. slots_of self.new) result (put (slots_of self.old) slot value) }

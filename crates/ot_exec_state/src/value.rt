@@ -18,6 +18,7 @@ pub enum Value {
     Unknown,
 }
 
+/// Whether nothing is known of the value.
 pub fn is_unknown(value: Value) -> bool
     ensures { result ≡ is_unknown value }
 {

@@ -18,6 +18,7 @@ pub struct Reading<R: Read> {
 impl<R: Read> Reading<R> {
     ghost use Rattle.ot_lines.specs.Reading.{reader_of};
 
+    /// A reader of std as a source, of which nothing was read.
     pub fn new(reader: R) -> Reading<R>
         ensures reader { reader_of result ≡ reader }
         ensures ahead { ⟦<Reading<R> as Source>⟧.ahead result ≡ R.remaining reader }
@@ -34,6 +35,7 @@ impl<R: Read> Reading<R> {
         }
     }
 
+    /// The reader again.
     pub fn into_inner(self) -> R
         ensures { result ≡ reader_of self }
     {

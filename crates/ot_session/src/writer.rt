@@ -16,6 +16,7 @@ pub struct Writing<W: Write> {
 impl<W: Write> Writing<W> {
     ghost use Rattle.ot_session.specs.Writing.{writer_of};
 
+    /// A writer of std as a sink, to which nothing was written.
     pub fn new(writer: W) -> Writing<W>
         ensures writer { writer_of result ≡ writer }
         ensures contents { ⟦<Writing<W> as Sink>⟧.contents result ≡ W.contents writer }
@@ -27,6 +28,7 @@ impl<W: Write> Writing<W> {
         }
     }
 
+    /// The writer again.
     pub fn into_inner(self) -> W
         ensures { result ≡ writer_of self }
     {
