@@ -3,7 +3,7 @@
 //! A stream tells, for proofs alone, which bytes it has ahead, or nothing of them, and how often it told its end
 //! and failed. It counts in 64 bits, so a count begins again at 0 after 2^64.
 ghost use Rattle.std.specs.Prelude.{◌≡◌, ◌+◌, ◌++◌, ◌≤◌, [], vec_len, vec_capacity, IfOk};
-ghost use Rattle.ot_lines.specs.Lines.{flow, heard_by, Hears};
+ghost use Rattle.ot_lines.specs.Lines.{heard_by, Hears};
 ghost use Rattle.ot_client_ask.specs.Streams.{Incoming, IsStreamOver, ReadsLine, incoming};
 
 use ot_lines::{Bounds, Heard, LineFault, Lines, Source};
@@ -61,7 +61,7 @@ pub struct LinesOf<R: Source> {
 impl<R: Source + Drop> LinesOf<R> {
     /// Nothing is read yet.
     pub fn new(alloc: Global, source: R) -> Result<LinesOf<R>, AllocError>
-        ensures { IfOk result (λ lines. ⟦<LinesOf<R> as LineSource>⟧.coming lines ≡ incoming (R.ahead source) 0 0) }
+        ensures { IfOk result (λ lines. ⟦<LinesOf<R> as LineSource>⟧.coming lines ≡ incoming (R.flow source).ahead 0 0) }
     {
         let bounds = Bounds {
             line: PIECE,
@@ -81,7 +81,7 @@ impl<R: Source + Drop> LinesOf<R> {
 impl<R: Source> LineSource for LinesOf<R> {
     ghost use Rattle.std.specs.Io.KnownBytes.{prepend_known};
 
-    ghost coming = { λ s. incoming (prepend_known s.lines.ahead (R.ahead s.source)) s.ends s.failures };
+    ghost coming = { λ s. incoming (prepend_known s.lines.ahead (R.flow s.source).ahead) s.ends s.failures };
 
     fn read_line(&mut self, line: &mut Vec<u8>) -> Result<LineEnd, ReadFault> {
         for _ in 0..u64::MAX {
@@ -128,8 +128,8 @@ fn hear_piece<R: Source>(
 ) -> Result<Heard, LineFault>
     requires piece { lines.old.longest ≡ 4096 }
     requires room { vec_len line.old + 4098 ≤ vec_capacity line.old }
-    ensures hears { Hears lines.old (flow (R.ahead source.old) (R.latest source.old) (R.reads source.old) (R.failures source.old) (R.ends source.old))
-        lines.new (flow (R.ahead source.new) (R.latest source.new) (R.reads source.new) (R.failures source.new) (R.ends source.new)) result }
+    ensures hears { Hears lines.old (R.flow source.old)
+        lines.new (R.flow source.new) result }
     ensures put { line.new.items ≡ line.old.items ++ heard_by result lines.new.line }
 {
     let heard = lines.next(source);

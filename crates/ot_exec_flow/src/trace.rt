@@ -577,17 +577,7 @@ impl<'a> Trace<'a> {
 
     fn touch(&mut self, at: usize, form: &Form) -> Result<(), AllocError> {
         match form {
-            Form::Load(_, to, place) | Form::LoadOwn(_, to, place) => {
-                let place = self.reads(*place)?;
-                let value = self.graph.value(self.task)?;
-                let variable = self.cells.get(&place).copied().unwrap_or(NONE);
-                self.loads.push(Load {
-                    place,
-                    value,
-                    variable,
-                })?;
-                self.gives(*to, value)
-            }
+            Form::Load(_, to, place) | Form::LoadOwn(_, to, place) => self.loaded(*to, *place),
             Form::StoreOwn(_, place, from) if self.function == NONE => {
                 let place = self.reads(*place)?;
                 let value = self.reads(*from)?;
@@ -623,6 +613,19 @@ impl<'a> Trace<'a> {
             Form::Joins(_, _, slot) => self.is_reduced(*slot),
             other => self.goes(at, other),
         }
+    }
+
+    /// A slot has what lies at another one's place.
+    fn loaded(&mut self, to: u32, place: u32) -> Result<(), AllocError> {
+        let place = self.reads(place)?;
+        let value = self.graph.value(self.task)?;
+        let variable = self.cells.get(&place).copied().unwrap_or(NONE);
+        self.loads.push(Load {
+            place,
+            value,
+            variable,
+        })?;
+        self.gives(to, value)
     }
 
     /// The end of a region writes what lies at a slot's place.

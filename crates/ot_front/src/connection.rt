@@ -29,13 +29,13 @@ pub fn serve_connection<R: Source, W: Sink, L: Ledger, T: Wait>(
     source: &mut R,
     sink: &mut W,
 ) -> Option<Result<End, FrontFault>>
-    ensures connects { Connects desk.now (R.ahead source.old) (R.ahead source.new) (W.contents sink.old) (W.contents sink.new) result }
+    ensures connects { Connects desk.now (R.flow source.old).ahead (R.flow source.new).ahead (W.contents sink.old) (W.contents sink.new) result }
     ensures turns { result ≡ Some (Err TooManyTurns) → (k : ℕ) × (k ≤ 65)
-        × (R.reads source.new ≡ count_after 1000000 (count_after k (R.reads source.old))) }
-    ensures at_end { result ≡ Some (Ok EndOfInput) → IsAtEnd (R.ahead source.new) }
-    ensures end_told { result ≡ Some (Ok EndOfInput) → R.ends source.new ≡ next_count (R.ends source.old) }
-    ensures read_failed { result ≡ Some (Err ReadFailed) → R.failures source.new ≡ next_count (R.failures source.old) }
-    ensures read_worked { IfSome result (λ end. end ≢ Err ReadFailed → R.failures source.new ≡ R.failures source.old) }
+        × ((R.flow source.new).reads ≡ count_after 1000000 (count_after k (R.flow source.old).reads)) }
+    ensures at_end { result ≡ Some (Ok EndOfInput) → IsAtEnd (R.flow source.new).ahead }
+    ensures end_told { result ≡ Some (Ok EndOfInput) → (R.flow source.new).ends ≡ next_count (R.flow source.old).ends }
+    ensures read_failed { result ≡ Some (Err ReadFailed) → (R.flow source.new).failures ≡ next_count (R.flow source.old).failures }
+    ensures read_worked { IfSome result (λ end. end ≢ Err ReadFailed → (R.flow source.new).failures ≡ (R.flow source.old).failures) }
     ensures write_failed { result ≡ Some (Err WriteFailed) → W.failures sink.new ≡ next_count (W.failures sink.old) }
     ensures write_worked { IfSome result (λ end. end ≢ Err WriteFailed → W.failures sink.new ≡ W.failures sink.old) }
 {
@@ -51,14 +51,14 @@ fn connect<B: Rack, R: Source, W: Sink, L: Ledger, T: Wait>(
     source: &mut R,
     sink: &mut W,
 ) -> Option<Result<End, FrontFault>>
-    ensures connects { ConnectsOver (B.names rack.old) (R.ahead source.old) (R.ahead source.new) (W.contents sink.old) (W.contents sink.new)
+    ensures connects { ConnectsOver (B.names rack.old) (R.flow source.old).ahead (R.flow source.new).ahead (W.contents sink.old) (W.contents sink.new)
         result (B.moves rack.old) (B.moves rack.new) }
     ensures turns { result ≡ Some (Err TooManyTurns) → (k : ℕ) × (k ≤ 65)
-        × (R.reads source.new ≡ count_after 1000000 (count_after k (R.reads source.old))) }
-    ensures at_end { result ≡ Some (Ok EndOfInput) → IsAtEnd (R.ahead source.new) }
-    ensures end_told { result ≡ Some (Ok EndOfInput) → R.ends source.new ≡ next_count (R.ends source.old) }
-    ensures read_failed { result ≡ Some (Err ReadFailed) → R.failures source.new ≡ next_count (R.failures source.old) }
-    ensures read_worked { IfSome result (λ end. end ≢ Err ReadFailed → R.failures source.new ≡ R.failures source.old) }
+        × ((R.flow source.new).reads ≡ count_after 1000000 (count_after k (R.flow source.old).reads)) }
+    ensures at_end { result ≡ Some (Ok EndOfInput) → IsAtEnd (R.flow source.new).ahead }
+    ensures end_told { result ≡ Some (Ok EndOfInput) → (R.flow source.new).ends ≡ next_count (R.flow source.old).ends }
+    ensures read_failed { result ≡ Some (Err ReadFailed) → (R.flow source.new).failures ≡ next_count (R.flow source.old).failures }
+    ensures read_worked { IfSome result (λ end. end ≢ Err ReadFailed → (R.flow source.new).failures ≡ (R.flow source.old).failures) }
     ensures write_failed { result ≡ Some (Err WriteFailed) → W.failures sink.new ≡ next_count (W.failures sink.old) }
     ensures write_worked { IfSome result (λ end. end ≢ Err WriteFailed → W.failures sink.new ≡ W.failures sink.old) }
 {
@@ -89,13 +89,13 @@ fn hold_session<B: Rack, E: Executor, R: Source, W: Sink>(
     sink: &mut W,
 ) -> Result<End, FrontFault>
     requires { book.pending ≡ None }
-    ensures session { (session : HasSession book (R.ahead source.old) (R.ahead source.new) (W.contents sink.old) (W.contents sink.new) result)
+    ensures session { (session : HasSession book (R.flow source.old).ahead (R.flow source.new).ahead (W.contents sink.old) (W.contents sink.new) result)
         × (B.moves rack.new ≡ with_laid session.after (B.moves rack.old)) }
-    ensures turns { result ≡ Err TooManyTurns → R.reads source.new ≡ count_after 1000000 (R.reads source.old) }
-    ensures at_end { result ≡ Ok EndOfInput → IsAtEnd (R.ahead source.new) }
-    ensures end_told { result ≡ Ok EndOfInput → R.ends source.new ≡ next_count (R.ends source.old) }
-    ensures read_failed { result ≡ Err ReadFailed → R.failures source.new ≡ next_count (R.failures source.old) }
-    ensures read_worked { result ≢ Err ReadFailed → R.failures source.new ≡ R.failures source.old }
+    ensures turns { result ≡ Err TooManyTurns → (R.flow source.new).reads ≡ count_after 1000000 (R.flow source.old).reads }
+    ensures at_end { result ≡ Ok EndOfInput → IsAtEnd (R.flow source.new).ahead }
+    ensures end_told { result ≡ Ok EndOfInput → (R.flow source.new).ends ≡ next_count (R.flow source.old).ends }
+    ensures read_failed { result ≡ Err ReadFailed → (R.flow source.new).failures ≡ next_count (R.flow source.old).failures }
+    ensures read_worked { result ≢ Err ReadFailed → (R.flow source.new).failures ≡ (R.flow source.old).failures }
     ensures write_failed { result ≡ Err WriteFailed → W.failures sink.new ≡ next_count (W.failures sink.old) }
     ensures write_worked { result ≢ Err WriteFailed → W.failures sink.new ≡ W.failures sink.old }
 {

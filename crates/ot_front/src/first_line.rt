@@ -22,16 +22,16 @@ pub(crate) fn first_bounds() -> Bounds
 /// Hears a first line, and reads nothing behind its LF.
 pub(crate) fn hear_first<R: Source>(lines: &mut Lines, source: &mut R) -> Result<Heard, Failed>
     requires { lines.old ≡ opened first_bounds }
-    ensures bytes { Consumes (R.ahead source.old) (R.ahead source.new) (read_with result lines.new.line) }
+    ensures bytes { Consumes (R.flow source.old).ahead (R.flow source.new).ahead (read_with result lines.new.line) }
     ensures one { HasNoEnd lines.new.line }
     ensures long { result ≡ Ok Long → length lines.new.line ≡ 65 }
     ensures short { result ≢ Ok Long → length lines.new.line ≤ 64 }
-    ensures at_end { result ≡ Ok End → IsAtEnd (R.ahead source.new) }
-    ensures end_told { result ≡ Ok End → R.ends source.new ≡ next_count (R.ends source.old) }
-    ensures end_untold { result ≢ Ok End → R.ends source.new ≡ R.ends source.old }
-    ensures reads { (k : ℕ) × (k ≤ 65) × (R.reads source.new ≡ count_after k (R.reads source.old)) }
-    ensures worked { OnOk result (R.failures source.new ≡ R.failures source.old) }
-    ensures failed { OnErr result (R.failures source.new ≡ next_count (R.failures source.old)) }
+    ensures at_end { result ≡ Ok End → IsAtEnd (R.flow source.new).ahead }
+    ensures end_told { result ≡ Ok End → (R.flow source.new).ends ≡ next_count (R.flow source.old).ends }
+    ensures end_untold { result ≢ Ok End → (R.flow source.new).ends ≡ (R.flow source.old).ends }
+    ensures reads { (k : ℕ) × (k ≤ 65) × ((R.flow source.new).reads ≡ count_after k (R.flow source.old).reads) }
+    ensures worked { OnOk result ((R.flow source.new).failures ≡ (R.flow source.old).failures) }
+    ensures failed { OnErr result ((R.flow source.new).failures ≡ next_count (R.flow source.old).failures) }
 {
     match lines.next(source) {
         Ok(heard) => Ok(heard),

@@ -35,12 +35,12 @@ pub fn greet<R: Source, W: Sink, T: Wait>(
     source: &mut R,
     sink: &mut W,
 ) -> Result<Option<Book>, FrontFault>
-    ensures greets { Greets desk.now (R.ahead source.old) (R.ahead source.new) (R.ends source.new ≡ next_count (R.ends source.old))
+    ensures greets { Greets desk.now (R.flow source.old).ahead (R.flow source.new).ahead ((R.flow source.new).ends ≡ next_count (R.flow source.old).ends)
         (W.contents sink.old) (W.contents sink.new) result }
     ensures closed { IfOk result (λ given. IfSome given (λ book. book.pending ≡ None)) }
-    ensures reads { (k : ℕ) × (k ≤ 65) × (R.reads source.new ≡ count_after k (R.reads source.old)) }
-    ensures read_failed { result ≡ Err ReadFailed → R.failures source.new ≡ next_count (R.failures source.old) }
-    ensures read_worked { result ≢ Err ReadFailed → R.failures source.new ≡ R.failures source.old }
+    ensures reads { (k : ℕ) × (k ≤ 65) × ((R.flow source.new).reads ≡ count_after k (R.flow source.old).reads) }
+    ensures read_failed { result ≡ Err ReadFailed → (R.flow source.new).failures ≡ next_count (R.flow source.old).failures }
+    ensures read_worked { result ≢ Err ReadFailed → (R.flow source.new).failures ≡ (R.flow source.old).failures }
     ensures write_failed { result ≡ Err WriteFailed → W.failures sink.new ≡ next_count (W.failures sink.old) }
     ensures write_worked { result ≢ Err WriteFailed → W.failures sink.new ≡ W.failures sink.old }
 {
@@ -59,15 +59,15 @@ pub(crate) fn greet_from<B: Rack, R: Source, W: Sink>(
     sink: &mut W,
 ) -> Result<Option<Book>, FrontFault>
     requires { lines.old ≡ opened first_bounds }
-    ensures greets { Greets (B.names rack.old) (R.ahead source.old) (R.ahead source.new) (R.ends source.new ≡ next_count (R.ends source.old))
+    ensures greets { Greets (B.names rack.old) (R.flow source.old).ahead (R.flow source.new).ahead ((R.flow source.new).ends ≡ next_count (R.flow source.old).ends)
         (W.contents sink.old) (W.contents sink.new) result }
     ensures names { B.names rack.new ≡ B.names rack.old }
     ensures hands { Hands (B.moves rack.old) (B.moves rack.new) result }
     ensures closed { IfOk result (λ given. IfSome given (λ book. book.pending ≡ None)) }
-    ensures end_untold { IfOk result (λ given. IfSome given (λ book. R.ends source.new ≡ R.ends source.old)) }
-    ensures reads { (k : ℕ) × (k ≤ 65) × (R.reads source.new ≡ count_after k (R.reads source.old)) }
-    ensures read_failed { result ≡ Err ReadFailed → R.failures source.new ≡ next_count (R.failures source.old) }
-    ensures read_worked { result ≢ Err ReadFailed → R.failures source.new ≡ R.failures source.old }
+    ensures end_untold { IfOk result (λ given. IfSome given (λ book. (R.flow source.new).ends ≡ (R.flow source.old).ends)) }
+    ensures reads { (k : ℕ) × (k ≤ 65) × ((R.flow source.new).reads ≡ count_after k (R.flow source.old).reads) }
+    ensures read_failed { result ≡ Err ReadFailed → (R.flow source.new).failures ≡ next_count (R.flow source.old).failures }
+    ensures read_worked { result ≢ Err ReadFailed → (R.flow source.new).failures ≡ (R.flow source.old).failures }
     ensures write_failed { result ≡ Err WriteFailed → W.failures sink.new ≡ next_count (W.failures sink.old) }
     ensures write_worked { result ≢ Err WriteFailed → W.failures sink.new ≡ W.failures sink.old }
 {

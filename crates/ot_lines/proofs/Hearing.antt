@@ -1,5 +1,5 @@
 -- What is heard, bytes after bytes.
-use Rattle.std.proofs.Common.{◌≡◌, ℕ, zero, suc, ◌+◌, ◌<◌, ◌≤◌, List, [], ◌∷◌, ◌++◌, length, append_assoc, append-nil, refl, sym, ap, subst, ◌∙◌, arith}
+use Rattle.std.proofs.Common.{◌≡◌, ℕ, zero, suc, ◌+◌, ◌<◌, ◌≤◌, List, [], ◌∷◌, ◌++◌, length, append_assoc, append-nil, sym, ap, subst, ◌∙◌, arith}
 use Rattle.std.specs.Prelude.{true, false, Option, Some, None, Ok, Err}
 use Rattle.std.specs.Io.KnownBytes.{Consumes, Keeps, prepend_known}
 use Rattle.ot_lines.specs.declared.lines.Heard.{Heard}
@@ -8,7 +8,7 @@ use Rattle.ot_lines.specs.declared.lines.LineFault.{LineFault}
 use Rattle.ot_lines.specs.declared.lines.LineFault.TheVariants.{ReadFailed, TooManyReads}
 use Rattle.ot_lines.specs.Lines.{Flow, next_count, count_after, HasNoEnd, Hearing, Passes, IsIdle, Hears}
 use Rattle.ot_lines.specs.Cutting.{Cuts, Fills}
-use Rattle.ot_lines.proofs.Passing.{passes_on, passes_front}
+use Rattle.ot_lines.proofs.Passing.{passes_on}
 
 reads_behind : (old new : List ℕ) (before after : Option (List ℕ)) → old ≡ [] → Consumes before after new → Consumes (prepend_known old before) (prepend_known new after) []
 reads_behind old new None after none more = tt

@@ -1,5 +1,5 @@
 -- What stands in a line while it is heard.
-use Rattle.std.specs.Prelude.{◌≡◌, [], ◌≤◌, ◌+◌, ◌++◌, ◌∷◌, ℕ, suc, List, length, take, drop, Bool, true, false, Option, Some, None, Result, Ok, Err}
+use Rattle.std.specs.Prelude.{◌≡◌, [], ◌≤◌, ◌++◌, ◌∷◌, ℕ, suc, List, length, take, drop, Bool, true, false, Option, Some, None, Result, Ok, Err}
 use Rattle.std.specs.Io.KnownBytes.{IsAtEnd}
 use Rattle.ot_lines.specs.declared.lines.Heard.{Heard}
 use Rattle.ot_lines.specs.declared.lines.Heard.TheVariants.{Line, End, Long}

@@ -1,6 +1,6 @@
 //! Lines, one by one.
 ghost use Rattle.std.specs.Prelude.{◌≡◌, ◌<◌, ◌≤◌, ◌++◌, ◌+◌, suc, length, take, drop, vec_len, IfOk, OnErr, OnOk, []};
-ghost use Rattle.ot_lines.specs.Lines.{flow, opened, Hears};
+ghost use Rattle.ot_lines.specs.Lines.{opened, Hears};
 ghost use Rattle.ot_lines.specs.Cutting.{Cuts, Fills, taken, passed};
 
 use crate::source::Source;
@@ -107,8 +107,8 @@ impl Lines {
 
     /// Hears the next line.
     pub fn next<R: Source>(&mut self, source: &mut R) -> Result<Heard, LineFault>
-        ensures { Hears self.old (flow (R.ahead source.old) (R.latest source.old) (R.reads source.old) (R.failures source.old) (R.ends source.old))
-            self.new (flow (R.ahead source.new) (R.latest source.new) (R.reads source.new) (R.failures source.new) (R.ends source.new)) result }
+        ensures { Hears self.old (R.flow source.old)
+            self.new (R.flow source.new) result }
     {
         self.line.clear();
         loop {
@@ -183,8 +183,8 @@ impl Lines {
     /// Reads more, where all was heard and may be read still. Whether something came.
     fn fill<R: Source>(&mut self, source: &mut R) -> Result<bool, LineFault>
         requires { self.old.ahead ≡ [] }
-        ensures { Fills self.old (flow (R.ahead source.old) (R.latest source.old) (R.reads source.old) (R.failures source.old) (R.ends source.old))
-            self.new (flow (R.ahead source.new) (R.latest source.new) (R.reads source.new) (R.failures source.new) (R.ends source.new)) result }
+        ensures { Fills self.old (R.flow source.old)
+            self.new (R.flow source.new) result }
     {
         if self.left == 0 {
             return Err(LineFault::TooManyReads);

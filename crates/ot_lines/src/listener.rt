@@ -1,5 +1,5 @@
 //! Lines, one after another, for who takes them.
-ghost use Rattle.ot_lines.specs.Lines.{flow, Listens};
+ghost use Rattle.ot_lines.specs.Lines.{Listens};
 
 use crate::lines::{Heard, LineFault, Lines};
 use crate::source::Source;
@@ -35,8 +35,8 @@ pub fn listen<R: Source, S, A, X, L: Listener<S, A, X>>(
     state: &mut S,
     answers: &mut A,
 ) -> Result<Ended<X>, LineFault>
-    ensures { Listens L.took lines.old (flow (R.ahead source.old) (R.latest source.old) (R.reads source.old) (R.failures source.old) (R.ends source.old)) state.old answers.old
-        lines.new (flow (R.ahead source.new) (R.latest source.new) (R.reads source.new) (R.failures source.new) (R.ends source.new)) state.new answers.new result }
+    ensures { Listens L.took lines.old (R.flow source.old) state.old answers.old
+        lines.new (R.flow source.new) state.new answers.new result }
 {
     loop {
         match lines.next(source) {

@@ -1,6 +1,7 @@
 //! A source over a reader of std. It tells of the bytes what the reader tells: over a slice of bytes
 //! each of them, over a file or a socket none.
 ghost use Rattle.std.specs.Prelude.{◌≡◌};
+ghost use Rattle.ot_lines.specs.Lines.{flow};
 
 use crate::source::{Failed, Source};
 use std::io::Read;
@@ -21,10 +22,7 @@ impl<R: Read> Reading<R> {
     /// A reader of std as a source, of which nothing was read.
     pub fn new(reader: R) -> Reading<R>
         ensures reader { reader_of result ≡ reader }
-        ensures ahead { ⟦<Reading<R> as Source>⟧.ahead result ≡ R.remaining reader }
-        ensures reads { ⟦<Reading<R> as Source>⟧.reads result ≡ 0 }
-        ensures failures { ⟦<Reading<R> as Source>⟧.failures result ≡ 0 }
-        ensures ends { ⟦<Reading<R> as Source>⟧.ends result ≡ 0 }
+        ensures flow { ⟦<Reading<R> as Source>⟧.flow result ≡ flow (R.remaining reader) 0 0 0 0 }
     {
         Reading {
             reader,
@@ -44,15 +42,7 @@ impl<R: Read> Reading<R> {
 }
 
 impl<R: Read> Source for Reading<R> {
-    ghost ahead = { λ s. R.remaining s.reader };
-
-    ghost latest = { λ s. s.latest };
-
-    ghost reads = { λ s. s.reads };
-
-    ghost failures = { λ s. s.failures };
-
-    ghost ends = { λ s. s.ends };
+    ghost flow = { λ s. flow (R.remaining s.reader) s.latest s.reads s.failures s.ends };
 
     fn read(&mut self, buffer: &mut [u8]) -> Result<usize, Failed> {
         self.reads = self.reads.wrapping_add(1);

@@ -9,8 +9,8 @@ use Rattle.ot_lines.specs.declared.lines.LineFault.TheVariants as lines
 use Rattle.ot_lines.specs.declared.listener.Ended.{Ended}
 use Rattle.ot_lines.specs.declared.listener.Ended.TheVariants as ended_as
 use Rattle.ot_book.specs.Books.{Register, next_number}
-use Rattle.ot_session.specs.Serving.{AppendsFront, Going, result_of, failed_writes, session_bounds}
-use Rattle.ot_session.specs.Turns.{TakesLine, IsServed}
+use Rattle.ot_session.specs.Serving.{AppendsFront, Going, result_of, failed_writes, session_bounds, IsServed}
+use Rattle.ot_session.specs.Turns.{TakesLine}
 use Rattle.ot_session.specs.Session.{Heard, max_line, heard_in, closing, Session, Serves}
 use Rattle.ot_session.specs.declared.fault.End.{End}
 use Rattle.ot_session.specs.declared.fault.End.TheVariants as end

@@ -1,15 +1,16 @@
 -- What reads and writes do to the counts that a device keeps and to the bytes that a sink holds.
-use Rattle.std.specs.Prelude.{◌≡◌, ◌≤◌, ℕ, List, length, Option, None, Result, Ok, Err, ⊤, ◌<◌, take}
-use Rattle.std.specs.Io.KnownBytes.{Appends, Consumes}
+use Rattle.std.specs.Prelude.{◌≡◌, ◌≢◌, ◌≤◌, ℕ, List, length, Option, None, Result, Ok, Err, ⊤, ◌<◌, take}
+use Rattle.std.specs.Io.KnownBytes.{Appends, Consumes, IsAtEnd}
 use Rattle.ot_book.specs.Books.{Register}
 use Rattle.ot_lines.specs.declared.lines.Bounds.{Bounds}
-use Rattle.ot_session.specs.Session.{max_line, heard_in, Session, Lines, texts, after, told}
+use Rattle.ot_session.specs.Session.{max_line, heard_in, Session, Serves, Lines, texts, after, told}
 use Rattle.ot_session.specs.declared.fault.End.{End}
 use Rattle.ot_session.specs.declared.fault.End.TheVariants as end
 use Rattle.ot_session.specs.declared.fault.FrontFault.{FrontFault}
 use Rattle.ot_session.specs.declared.fault.FrontFault.TheVariants as fault
 use Rattle.ot_session.specs.declared.stop.Stop.{Stop}
 use Rattle.ot_session.specs.declared.stop.Stop.TheVariants.{Bye, Full, LongLine, Closed, Stranger, WriteFailed, Memory}
+use Rattle.ot_lines.specs.Lines.{Flow}
 pub use Rattle.ot_lines.specs.Lines.{next_count, count_after}
 
 -- known bytes grow by the first bytes of bs, and not by all of them
@@ -57,3 +58,17 @@ pub record Serving (first : Register) (ahead left start : Option (List ℕ)) (pa
 -- lines of at most 65,536 bytes, as many bytes a read, and 1,000,000 reads
 abbrev pub session_bounds : Bounds
 session_bounds = record { line = 65536; read = 65536; reads = 1000000 }
+
+-- A session over what a source tells of itself before it and after it, and what a sink does: the bytes that it holds, and how
+-- often it failed. What is told of reads and writes happened, and nothing else did.
+pub record IsServed (old new : Register) (before after : Flow) (start held : Option (List ℕ)) (failures later : ℕ) (result : Result End FrontFault) : Type 0 where
+  pub serves : Serves old new before.ahead after.ahead after.latest start held result
+  pub closed : new.pending ≡ None
+  pub reads : (k : ℕ) × (k ≤ 1000000) × (after.reads ≡ count_after k before.reads)
+  pub turns : result ≡ Err fault.TooManyTurns → after.reads ≡ count_after 1000000 before.reads
+  pub at_end : result ≡ Ok end.EndOfInput → IsAtEnd after.ahead
+  pub end_told : result ≡ Ok end.EndOfInput → after.ends ≡ next_count before.ends
+  pub read_failed : result ≡ Err fault.ReadFailed → after.failures ≡ next_count before.failures
+  pub read_worked : result ≢ Err fault.ReadFailed → after.failures ≡ before.failures
+  pub write_failed : result ≡ Err fault.WriteFailed → later ≡ next_count failures
+  pub write_worked : result ≢ Err fault.WriteFailed → later ≡ failures

@@ -1,12 +1,7 @@
 //! A session from bytes to bytes: lines come in, one reply goes out for each.
-ghost use Rattle.std.specs.Prelude.{◌≡◌, ◌≢◌, ◌≤◌, ℕ, None, Ok, Err};
-ghost use Rattle.std.specs.Io.KnownBytes.{IsAtEnd};
-ghost use Rattle.ot_lines.specs.Lines.{flow, opened};
-ghost use Rattle.ot_session.specs.Serving.{next_count, count_after, session_bounds};
-ghost use Rattle.ot_session.specs.Turns.{IsServed};
-ghost use Rattle.ot_session.specs.Session.{Serves};
-ghost use Rattle.ot_session.specs.declared.fault.End.TheVariants.{EndOfInput};
-ghost use Rattle.ot_session.specs.declared.fault.FrontFault.TheVariants.{ReadFailed, WriteFailed, TooManyTurns};
+ghost use Rattle.std.specs.Prelude.{◌≡◌, None};
+ghost use Rattle.ot_lines.specs.Lines.{opened};
+ghost use Rattle.ot_session.specs.Serving.{session_bounds, IsServed};
 
 use crate::device::Sink;
 use crate::fault::{End, FrontFault};
@@ -37,17 +32,8 @@ pub fn serve<E: Executor, R: Source, W: Sink>(
     sink: &mut W,
 ) -> Result<End, FrontFault>
     requires { book.old.pending ≡ None }
-    ensures serves { Serves book.old book.new (R.ahead source.old) (R.ahead source.new) (R.latest source.new)
-        (W.contents sink.old) (W.contents sink.new) result }
-    ensures closed { book.new.pending ≡ None }
-    ensures reads { (k : ℕ) × (k ≤ 1000000) × (R.reads source.new ≡ count_after k (R.reads source.old)) }
-    ensures turns { result ≡ Err TooManyTurns → R.reads source.new ≡ count_after 1000000 (R.reads source.old) }
-    ensures at_end { result ≡ Ok EndOfInput → IsAtEnd (R.ahead source.new) }
-    ensures end_told { result ≡ Ok EndOfInput → R.ends source.new ≡ next_count (R.ends source.old) }
-    ensures read_failed { result ≡ Err ReadFailed → R.failures source.new ≡ next_count (R.failures source.old) }
-    ensures read_worked { result ≢ Err ReadFailed → R.failures source.new ≡ R.failures source.old }
-    ensures write_failed { result ≡ Err WriteFailed → W.failures sink.new ≡ next_count (W.failures sink.old) }
-    ensures write_worked { result ≢ Err WriteFailed → W.failures sink.new ≡ W.failures sink.old }
+    ensures { IsServed book.old book.new (R.flow source.old) (R.flow source.new)
+        (W.contents sink.old) (W.contents sink.new) (W.failures sink.old) (W.failures sink.new) result }
 {
     let Ok(mut lines) = Lines::new(alloc, session_bounds()) else {
         return Err(FrontFault::Memory);
@@ -66,8 +52,7 @@ pub(crate) fn serve_lines<E: Executor, R: Source, W: Sink>(
 ) -> Result<End, FrontFault>
     requires begun { lines.old ≡ opened session_bounds }
     requires closed { book.old.pending ≡ None }
-    ensures { IsServed book.old book.new (flow (R.ahead source.old) (R.latest source.old) (R.reads source.old) (R.failures source.old) (R.ends source.old))
-        (flow (R.ahead source.new) (R.latest source.new) (R.reads source.new) (R.failures source.new) (R.ends source.new))
+    ensures { IsServed book.old book.new (R.flow source.old) (R.flow source.new)
         (W.contents sink.old) (W.contents sink.new) (W.failures sink.old) (W.failures sink.new) result }
 {
     let mut turn = Turn { alloc, executor };
@@ -90,8 +75,7 @@ pub fn serve_behind<E: Executor, R: Source, W: Sink>(
     sink: &mut W,
 ) -> Result<End, FrontFault>
     requires { book.old.pending ≡ None }
-    ensures { IsServed book.old book.new (flow (R.ahead source.old) (R.latest source.old) (R.reads source.old) (R.failures source.old) (R.ends source.old))
-        (flow (R.ahead source.new) (R.latest source.new) (R.reads source.new) (R.failures source.new) (R.ends source.new))
+    ensures { IsServed book.old book.new (R.flow source.old) (R.flow source.new)
         (W.contents sink.old) (W.contents sink.new) (W.failures sink.old) (W.failures sink.new) result }
 {
     if lines.begin(session_bounds()).is_err() {

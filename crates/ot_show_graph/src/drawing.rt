@@ -22,7 +22,7 @@ pub struct Drawing {
 /// The task graph of the last program that a session runs, which the book of a tenant that begins takes.
 pub fn draw<R: Source>(alloc: Global, book: &mut Book, source: &mut R) -> Result<Drawing, LastFault>
     requires { book.old ≡ beginner }
-    ensures { IfOk result (λ drawing. DrawsLast (R.ahead source.old) (R.ahead source.new) drawing) }
+    ensures { IfOk result (λ drawing. DrawsLast (R.flow source.old).ahead (R.flow source.new).ahead drawing) }
 {
     match last_run_in(alloc, book, source) {
         Ok(last) => drawing_of(alloc, &last),

@@ -28,9 +28,9 @@ pub fn begun(alloc: Global) -> Result<Book, LastFault>
 /// Reads a session as `solo` does, to its goodbye or the end of input, and answers the last program that it ran,
 /// or the first line that isn't taken.
 pub fn last_run<R: Source>(alloc: Global, source: &mut R) -> Result<LastRun, LastFault>
-    ensures finds { Finds (R.ahead source.old) (R.ahead source.new) result }
-    ensures read_failed { result ≡ Err ReadFailed → R.failures source.new ≡ next_count (R.failures source.old) }
-    ensures read_worked { result ≢ Err ReadFailed → R.failures source.new ≡ R.failures source.old }
+    ensures finds { Finds (R.flow source.old).ahead (R.flow source.new).ahead result }
+    ensures read_failed { result ≡ Err ReadFailed → (R.flow source.new).failures ≡ next_count (R.flow source.old).failures }
+    ensures read_worked { result ≢ Err ReadFailed → (R.flow source.new).failures ≡ (R.flow source.old).failures }
 {
     let Ok(mut book) = begun(alloc) else {
         return Err(LastFault::Memory);
@@ -46,9 +46,9 @@ pub fn last_run_in<R: Source>(
     source: &mut R,
 ) -> Result<LastRun, LastFault>
     requires { book.old ≡ beginner }
-    ensures finds { Finds (R.ahead source.old) (R.ahead source.new) result }
-    ensures read_failed { result ≡ Err ReadFailed → R.failures source.new ≡ next_count (R.failures source.old) }
-    ensures read_worked { result ≢ Err ReadFailed → R.failures source.new ≡ R.failures source.old }
+    ensures finds { Finds (R.flow source.old).ahead (R.flow source.new).ahead result }
+    ensures read_failed { result ≡ Err ReadFailed → (R.flow source.new).failures ≡ next_count (R.flow source.old).failures }
+    ensures read_worked { result ≢ Err ReadFailed → (R.flow source.new).failures ≡ (R.flow source.old).failures }
 {
     let Ok(mut lines) = Lines::new(alloc, session_bounds()) else {
         return Err(LastFault::Memory);
@@ -81,9 +81,9 @@ fn hear_all<R: Source>(
 ) -> Result<(), LastFault>
     requires begins { Going [] [] book.old (run_in last.old) }
     requires begun { lines.old ≡ opened session_bounds }
-    ensures hears { HearsSession (R.ahead source.old) (R.ahead source.new) (run_in last.new) result }
-    ensures read_failed { result ≡ Err ReadFailed → R.failures source.new ≡ next_count (R.failures source.old) }
-    ensures read_worked { result ≢ Err ReadFailed → R.failures source.new ≡ R.failures source.old }
+    ensures hears { HearsSession (R.flow source.old).ahead (R.flow source.new).ahead (run_in last.new) result }
+    ensures read_failed { result ≡ Err ReadFailed → (R.flow source.new).failures ≡ next_count (R.flow source.old).failures }
+    ensures read_worked { result ≢ Err ReadFailed → (R.flow source.new).failures ≡ (R.flow source.old).failures }
 {
     match listen(lines, source, &mut Runner { alloc }, book, last) {
         Ok(Ended::Stopped(stop)) => stop.result(),

@@ -1,7 +1,7 @@
 //! Sim from bytes to bytes: lines come in, and each is answered before the next is taken.
 ghost use Rattle.std.specs.Prelude.{◌≡◌, ◌≢◌, ◌≤◌, ℕ, Err, OnOk};
 ghost use Rattle.std.specs.Io.KnownBytes.{IsAtEnd};
-ghost use Rattle.ot_lines.specs.Lines.{flow, opened};
+ghost use Rattle.ot_lines.specs.Lines.{opened};
 ghost use Rattle.ot_session.specs.Serving.{next_count, count_after};
 ghost use Rattle.ot_sim.specs.Playing.{empty_play};
 ghost use Rattle.ot_sim.specs.Talk.{TalksOver};
@@ -32,13 +32,13 @@ pub fn sim_lines<R: Source, W: Sink>(
     source: &mut R,
     sink: &mut W,
 ) -> Result<(), SimFault>
-    ensures talks { TalksOver (R.ahead source.old) (R.ahead source.new) (W.contents sink.old) (W.contents sink.new) result }
-    ensures reads { (k : ℕ) × (k ≤ 1000000) × (R.reads source.new ≡ count_after k (R.reads source.old)) }
-    ensures turns { result ≡ Err TooManyTurns → R.reads source.new ≡ count_after 1000000 (R.reads source.old) }
-    ensures at_end { OnOk result (IsAtEnd (R.ahead source.new)) }
-    ensures end_told { OnOk result (R.ends source.new ≡ next_count (R.ends source.old)) }
-    ensures read_failed { result ≡ Err ReadFailed → R.failures source.new ≡ next_count (R.failures source.old) }
-    ensures read_worked { result ≢ Err ReadFailed → R.failures source.new ≡ R.failures source.old }
+    ensures talks { TalksOver (R.flow source.old).ahead (R.flow source.new).ahead (W.contents sink.old) (W.contents sink.new) result }
+    ensures reads { (k : ℕ) × (k ≤ 1000000) × ((R.flow source.new).reads ≡ count_after k (R.flow source.old).reads) }
+    ensures turns { result ≡ Err TooManyTurns → (R.flow source.new).reads ≡ count_after 1000000 (R.flow source.old).reads }
+    ensures at_end { OnOk result (IsAtEnd (R.flow source.new).ahead) }
+    ensures end_told { OnOk result ((R.flow source.new).ends ≡ next_count (R.flow source.old).ends) }
+    ensures read_failed { result ≡ Err ReadFailed → (R.flow source.new).failures ≡ next_count (R.flow source.old).failures }
+    ensures read_worked { result ≢ Err ReadFailed → (R.flow source.new).failures ≡ (R.flow source.old).failures }
     ensures write_failed { result ≡ Err WriteFailed → W.failures sink.new ≡ next_count (W.failures sink.old) }
     ensures write_worked { result ≢ Err WriteFailed → W.failures sink.new ≡ W.failures sink.old }
 {
@@ -61,8 +61,8 @@ fn play_lines<R: Source, W: Sink>(
 ) -> Result<(), SimFault>
     requires begun { lines.old ≡ opened sim_bounds }
     requires nobody { play.old ≡ empty_play }
-    ensures { IsRun (flow (R.ahead source.old) (R.latest source.old) (R.reads source.old) (R.failures source.old) (R.ends source.old))
-        (flow (R.ahead source.new) (R.latest source.new) (R.reads source.new) (R.failures source.new) (R.ends source.new))
+    ensures { IsRun (R.flow source.old)
+        (R.flow source.new)
         (W.contents sink.old) (W.contents sink.new) (W.failures sink.old) (W.failures sink.new) result }
 {
     match listen(lines, source, &mut Player { alloc }, play, sink) {

@@ -40,10 +40,10 @@ pub fn explain<R: Source, W: Sink>(
     sink: &mut W,
 ) -> Result<Explained, FrontFault>
     ensures ended { IfOk result (λ said. (new : Register) × (end : End) × Explains beginner new
-        (R.ahead source.old) (R.ahead source.new) (R.latest source.new) (W.contents sink.old) (W.contents sink.new) (Ok end)
-        × Remarks beginner new (R.ahead source.old) (R.ahead source.new) (W.contents sink.old) (W.contents sink.new) end said) }
+        (R.flow source.old).ahead (R.flow source.new).ahead (R.flow source.new).latest (W.contents sink.old) (W.contents sink.new) (Ok end)
+        × Remarks beginner new (R.flow source.old).ahead (R.flow source.new).ahead (W.contents sink.old) (W.contents sink.new) end said) }
     ensures failed { IfErr result (λ fault. (new : Register) × Explains beginner new
-        (R.ahead source.old) (R.ahead source.new) (R.latest source.new) (W.contents sink.old) (W.contents sink.new) (Err fault)) }
+        (R.flow source.old).ahead (R.flow source.new).ahead (R.flow source.new).latest (W.contents sink.old) (W.contents sink.new) (Err fault)) }
 {
     let Ok(book) = Book::new(alloc, "t1", Limits::usual(), Store::empty(alloc)) else {
         return Err(FrontFault::Memory);
@@ -82,9 +82,9 @@ fn explain_lines<R: Source, W: Sink>(
     requires begun { lines.old ≡ opened session_bounds }
     requires closed { talk.old.book.pending ≡ None }
     requires says { talk.old.said ≡ AllTaken }
-    ensures explains { Explains talk.old.book talk.new.book (R.ahead source.old) (R.ahead source.new) (R.latest source.new)
+    ensures explains { Explains talk.old.book talk.new.book (R.flow source.old).ahead (R.flow source.new).ahead (R.flow source.new).latest
         (W.contents sink.old) (W.contents sink.new) result }
-    ensures remarks { IfOk result (λ end. Remarks talk.old.book talk.new.book (R.ahead source.old) (R.ahead source.new)
+    ensures remarks { IfOk result (λ end. Remarks talk.old.book talk.new.book (R.flow source.old).ahead (R.flow source.new).ahead
         (W.contents sink.old) (W.contents sink.new) end (said_at end talk.new.said)) }
 {
     match listen(lines, source, &mut Explainer { alloc }, talk, sink) {

@@ -25,7 +25,7 @@ pub fn explain_quietly<R: Source, W: Sink>(
     sink: &mut W,
 ) -> Result<Explained, FrontFault>
     ensures { IfOk result (λ said. (new : Register) × (end : End) × RemarksAlone beginner new
-        (R.ahead source.old) (R.ahead source.new) (R.latest source.new) (W.contents sink.old) (W.contents sink.new) end said) }
+        (R.flow source.old).ahead (R.flow source.new).ahead (R.flow source.new).latest (W.contents sink.old) (W.contents sink.new) end said) }
 {
     let Ok(book) = Book::new(alloc, "t1", Limits::usual(), Store::empty(alloc)) else {
         return Err(FrontFault::Memory);
@@ -54,7 +54,7 @@ fn remark_lines<R: Source, W: Sink>(
     requires begun { lines.old ≡ opened session_bounds }
     requires closed { talk.old.book.pending ≡ None }
     requires says { talk.old.said ≡ AllTaken }
-    ensures { IfOk result (λ end. RemarksAlone talk.old.book talk.new.book (R.ahead source.old) (R.ahead source.new) (R.latest source.new)
+    ensures { IfOk result (λ end. RemarksAlone talk.old.book talk.new.book (R.flow source.old).ahead (R.flow source.new).ahead (R.flow source.new).latest
         (W.contents sink.old) (W.contents sink.new) end (said_at end talk.new.said)) }
 {
     match listen(lines, source, &mut Remarker { alloc }, talk, sink) {

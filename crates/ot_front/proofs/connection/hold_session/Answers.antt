@@ -4,7 +4,7 @@ pub returns-clause-session : goal.returns-clause-session
 returns-clause-session g c = (
   record {
     after = c.serve_behind-end.new.book;
-    latest = g.R.Source.latest c.serve_behind-end.new.source;
+    latest = (g.R.Source.flow c.serve_behind-end.new.source).latest;
     serves = c.serve_behind-end.ensures.serves;
   },
   c.lay_back.ensures.laid,

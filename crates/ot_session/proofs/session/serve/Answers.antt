@@ -1,5 +1,5 @@
-use Rattle.ot_session.proofs.ServingLemmas.{serves_nothing}
+use Rattle.ot_session.proofs.LineLemmas.{served_nothing}
 use Rattle.ot_session.proofs.session.serve.Goals as goal
 
-pub returns-in_default-clause-serves : goal.returns-in_default-clause-serves
-returns-in_default-clause-serves g c = serves_nothing c.args.book.now _ _ _
+pub returns-in_default : goal.returns-in_default
+returns-in_default g c = served_nothing c.args.book.now _ _ _ c.requires

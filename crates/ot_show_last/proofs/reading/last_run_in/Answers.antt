@@ -5,7 +5,7 @@ use Rattle.ot_show_last.proofs.reading.last_run_in.Goals as goal
 
 pub returns-clause-finds : goal.returns-clause-finds
 returns-clause-finds g c =
-    subst (Finds (g.R.Source.ahead c.args.source.now) (g.R.Source.ahead c.hear_all-read.new.source)) (sym c.told.ensures)
+    subst (Finds (g.R.Source.flow c.args.source.now).ahead (g.R.Source.flow c.hear_all-read.new.source).ahead) (sym c.told.ensures)
     (finds _ _ c.hear_all-read.result c.hear_all-read.new.last c.hear_all-read.ensures.hears)
 
 pub returns-clause-read_failed : goal.returns-clause-read_failed

@@ -49,9 +49,9 @@ returns g c =
     omega (arith, ap length is, c.read.auto.buffer, c.as_mut_slice.ensures.len, s.room.ok.0, ap (λ (h : Hearing). h.most) c.self.view_is) in
     let all : c.in-Ok.count - 0 ≡ c.in-Ok.count = omega arith in
     let count = length-take-le (c.in-Ok.count - 0) bytes (omega (arith, c.in-Ok.ensures.bound, ap length is)) in
-    let came : Consumes (g.R.Source.ahead c.args.source.now) (g.R.Source.ahead c.read.new.self) (take (c.in-Ok.count - 0) bytes) =
-    subst (λ n. Consumes (g.R.Source.ahead c.args.source.now) (g.R.Source.ahead c.read.new.self) (take n bytes)) (sym all)
-    (subst (λ (bs : List ℕ). Consumes (g.R.Source.ahead c.args.source.now) (g.R.Source.ahead c.read.new.self) (take c.in-Ok.count bs)) (sym is) c.in-Ok.ensures.bytes.0) in
+    let came : Consumes (g.R.Source.flow c.args.source.now).ahead (g.R.Source.flow c.read.new.self).ahead (take (c.in-Ok.count - 0) bytes) =
+    subst (λ n. Consumes (g.R.Source.flow c.args.source.now).ahead (g.R.Source.flow c.read.new.self).ahead (take n bytes)) (sym all)
+    (subst (λ (bs : List ℕ). Consumes (g.R.Source.flow c.args.source.now).ahead (g.R.Source.flow c.read.new.self).ahead (take c.in-Ok.count bs)) (sym is) c.in-Ok.ensures.bytes.0) in
     let left : suc (s.left - 1) ≡ c.args.self.now.left = omega (arith, c.if-self-eq0.false, ap (λ (h : Hearing). h.left) c.self.view_is) in record {
       line = ap (λ (h : Hearing). h.line) c.self.view_is;
       passes = passes_read c.args.self.now _ _ _ 0 0 c.requires came refl (ap (λ (h : Hearing). h.longest) c.self.view_is) most
