@@ -1,5 +1,5 @@
 -- The first line of a connection, and what is answered to it.
-use Rattle.std.specs.Prelude.{◌≡◌, [], ◌⊎◌, ◌≤◌, ℕ, ◌+◌, List, ◌∷◌, ◌++◌, length, codes, if◌then◌else◌, ⊤, Option, Some, None, option_and_then, Result, Ok, Err}
+use Rattle.std.specs.Prelude.{◌≡◌, ◌≢◌, [], ◌⊎◌, ◌≤◌, ℕ, ◌+◌, List, ◌∷◌, ◌++◌, length, codes, if◌then◌else◌, ⊤, Option, Some, None, option_and_then, Result, Ok, Err}
 use Rattle.std.specs.Io.KnownBytes.{Appends, Consumes, IsAtEnd}
 use Rattle.serde_json.specs.Data.{Data, string, array, Items, no_items, item}
 use Rattle.serde_json.specs.Find.{as_array}
@@ -8,14 +8,16 @@ use Rattle.ot_program.specs.Meanings.{is_word}
 use Rattle.ot_book.specs.Answers.{value_of, nat}
 use Rattle.ot_book.specs.Books.{Register, next_number}
 use Rattle.ot_book.specs.Requests.{name_in}
+use Rattle.ot_lines.specs.Lines.{Flow, next_count, count_after}
 use Rattle.ot_session.specs.Serving.{AppendsFront}
 use Rattle.ot_session.specs.Session.{HasNoEnd, Serves}
 use Rattle.ot_front.specs.Desks.{IsKnown}
 use Rattle.ot_session.specs.declared.fault.FrontFault.{FrontFault}
-use Rattle.ot_session.specs.declared.fault.FrontFault.TheVariants.{ReadFailed, WriteFailed, Memory}
+use Rattle.ot_session.specs.declared.fault.FrontFault.TheVariants.{ReadFailed, WriteFailed, TooManyTurns, Memory}
 use Rattle.ot_front.specs.declared.refusal.Refusal.{Refusal}
 use Rattle.ot_front.specs.declared.refusal.Refusal.TheVariants.{NotJson, NotGreeting, Unknown, Busy}
 use Rattle.ot_session.specs.declared.fault.End.{End}
+use Rattle.ot_session.specs.declared.fault.End.TheVariants.{EndOfInput}
 
 -- bytes of a first line, without its LF
 abbrev pub max_first_line : ℕ
@@ -159,3 +161,14 @@ pub record Connects (names : List (List ℕ)) (ahead left start held : Option (L
   pub told : Option (List ℕ)
   pub greets : Greets names ahead next ⊤ start told given
   pub goes_on : GoesOn given next left told held result
+
+-- What the devices tell of how a session behind a greeting ended: what is told of reads and writes happened, and nothing else did. A
+-- greeting takes at most 65 reads, and a session 1,000,000.
+pub record TellsEnd (before after : Flow) (failures later : ℕ) (result : Result End FrontFault) : Type 0 where
+  pub turns : result ≡ Err TooManyTurns → (k : ℕ) × (k ≤ 65) × (after.reads ≡ count_after 1000000 (count_after k before.reads))
+  pub at_end : result ≡ Ok EndOfInput → IsAtEnd after.ahead
+  pub end_told : result ≡ Ok EndOfInput → after.ends ≡ next_count before.ends
+  pub read_failed : result ≡ Err ReadFailed → after.failures ≡ next_count before.failures
+  pub read_worked : result ≢ Err ReadFailed → after.failures ≡ before.failures
+  pub write_failed : result ≡ Err WriteFailed → later ≡ next_count failures
+  pub write_worked : result ≢ Err WriteFailed → later ≡ failures

@@ -1,11 +1,9 @@
 //! One connection: its greeting, and behind it the session of the book that was given.
-ghost use Rattle.std.specs.Prelude.{◌≡◌, ◌≢◌, ◌≤◌, ℕ, None, Some, Ok, Err, IfSome};
-ghost use Rattle.std.specs.Io.KnownBytes.{IsAtEnd};
-ghost use Rattle.ot_front.specs.Greetings.{Connects, HasSession};
+ghost use Rattle.std.specs.Prelude.{◌≡◌, None, IfSome};
+ghost use Rattle.ot_book.specs.Books.{Register};
+ghost use Rattle.ot_front.specs.Greetings.{Connects, TellsEnd};
 ghost use Rattle.ot_front.specs.Racks.{with_laid, ConnectsOver};
-ghost use Rattle.ot_session.specs.Serving.{next_count, count_after};
-ghost use Rattle.ot_session.specs.declared.fault.End.TheVariants.{EndOfInput};
-ghost use Rattle.ot_session.specs.declared.fault.FrontFault.TheVariants.{ReadFailed, WriteFailed, TooManyTurns};
+ghost use Rattle.ot_session.specs.Serving.{IsServed};
 
 use crate::desk::Desk;
 use crate::first_line::first_bounds;
@@ -30,14 +28,7 @@ pub fn serve_connection<R: Source, W: Sink, L: Ledger, T: Wait>(
     sink: &mut W,
 ) -> Option<Result<End, FrontFault>>
     ensures connects { Connects desk.now (R.flow source.old).ahead (R.flow source.new).ahead (W.contents sink.old) (W.contents sink.new) result }
-    ensures turns { result ≡ Some (Err TooManyTurns) → (k : ℕ) × (k ≤ 65)
-        × ((R.flow source.new).reads ≡ count_after 1000000 (count_after k (R.flow source.old).reads)) }
-    ensures at_end { result ≡ Some (Ok EndOfInput) → IsAtEnd (R.flow source.new).ahead }
-    ensures end_told { result ≡ Some (Ok EndOfInput) → (R.flow source.new).ends ≡ next_count (R.flow source.old).ends }
-    ensures read_failed { result ≡ Some (Err ReadFailed) → (R.flow source.new).failures ≡ next_count (R.flow source.old).failures }
-    ensures read_worked { IfSome result (λ end. end ≢ Err ReadFailed → (R.flow source.new).failures ≡ (R.flow source.old).failures) }
-    ensures write_failed { result ≡ Some (Err WriteFailed) → W.failures sink.new ≡ next_count (W.failures sink.old) }
-    ensures write_worked { IfSome result (λ end. end ≢ Err WriteFailed → W.failures sink.new ≡ W.failures sink.old) }
+    ensures tells { IfSome result (TellsEnd (R.flow source.old) (R.flow source.new) (W.failures sink.old) (W.failures sink.new)) }
 {
     connect(rt, alloc, pool, &mut OnDesk { rt, desk }, source, sink)
 }
@@ -53,14 +44,7 @@ fn connect<B: Rack, R: Source, W: Sink, L: Ledger, T: Wait>(
 ) -> Option<Result<End, FrontFault>>
     ensures connects { ConnectsOver (B.names rack.old) (R.flow source.old).ahead (R.flow source.new).ahead (W.contents sink.old) (W.contents sink.new)
         result (B.moves rack.old) (B.moves rack.new) }
-    ensures turns { result ≡ Some (Err TooManyTurns) → (k : ℕ) × (k ≤ 65)
-        × ((R.flow source.new).reads ≡ count_after 1000000 (count_after k (R.flow source.old).reads)) }
-    ensures at_end { result ≡ Some (Ok EndOfInput) → IsAtEnd (R.flow source.new).ahead }
-    ensures end_told { result ≡ Some (Ok EndOfInput) → (R.flow source.new).ends ≡ next_count (R.flow source.old).ends }
-    ensures read_failed { result ≡ Some (Err ReadFailed) → (R.flow source.new).failures ≡ next_count (R.flow source.old).failures }
-    ensures read_worked { IfSome result (λ end. end ≢ Err ReadFailed → (R.flow source.new).failures ≡ (R.flow source.old).failures) }
-    ensures write_failed { result ≡ Some (Err WriteFailed) → W.failures sink.new ≡ next_count (W.failures sink.old) }
-    ensures write_worked { IfSome result (λ end. end ≢ Err WriteFailed → W.failures sink.new ≡ W.failures sink.old) }
+    ensures tells { IfSome result (TellsEnd (R.flow source.old) (R.flow source.new) (W.failures sink.old) (W.failures sink.new)) }
 {
     let Ok(mut lines) = Lines::new(alloc, first_bounds()) else {
         return None;
@@ -89,15 +73,9 @@ fn hold_session<B: Rack, E: Executor, R: Source, W: Sink>(
     sink: &mut W,
 ) -> Result<End, FrontFault>
     requires { book.pending ≡ None }
-    ensures session { (session : HasSession book (R.flow source.old).ahead (R.flow source.new).ahead (W.contents sink.old) (W.contents sink.new) result)
-        × (B.moves rack.new ≡ with_laid session.after (B.moves rack.old)) }
-    ensures turns { result ≡ Err TooManyTurns → (R.flow source.new).reads ≡ count_after 1000000 (R.flow source.old).reads }
-    ensures at_end { result ≡ Ok EndOfInput → IsAtEnd (R.flow source.new).ahead }
-    ensures end_told { result ≡ Ok EndOfInput → (R.flow source.new).ends ≡ next_count (R.flow source.old).ends }
-    ensures read_failed { result ≡ Err ReadFailed → (R.flow source.new).failures ≡ next_count (R.flow source.old).failures }
-    ensures read_worked { result ≢ Err ReadFailed → (R.flow source.new).failures ≡ (R.flow source.old).failures }
-    ensures write_failed { result ≡ Err WriteFailed → W.failures sink.new ≡ next_count (W.failures sink.old) }
-    ensures write_worked { result ≢ Err WriteFailed → W.failures sink.new ≡ W.failures sink.old }
+    ensures { (after : Register) × IsServed book after (R.flow source.old) (R.flow source.new)
+        (W.contents sink.old) (W.contents sink.new) (W.failures sink.old) (W.failures sink.new) result
+        × (B.moves rack.new ≡ with_laid after (B.moves rack.old)) }
 {
     let end = serve_behind(alloc, lines, &mut book, executor, source, sink);
     rack.lay_back(book);
