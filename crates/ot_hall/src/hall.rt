@@ -290,9 +290,9 @@ impl Hall {
         }
     }
 
-    // How many tasks of the tenant are claimable, and one where its job is over. A job that works with no
-    // piece out has a claimable task, and one that fails has a piece out.
-    pub(crate) fn outlook(&self, tenant: u32) -> (u64, u64)
+    /// How many tasks of the tenant are claimable, at most 20,001, and 1 where its job is over, else 0. A job that works with no
+    /// piece out has a claimable task, and one that fails has a piece out.
+    pub fn outlook(&self, tenant: u32) -> (u64, u64)
         ensures claimable { result.0 ≡ claimable_of (job_of self.now.jobs tenant) }
         ensures few { result.0 ≤ 20001 }
         ensures over { result.1 ≡ over_of (job_of self.now.jobs tenant) }
