@@ -8,11 +8,12 @@ use ot_exec_code::Form;
 use ot_exec_machine::{Fault, Limits, Reason, Run, run_code};
 use ot_exec_tokens::Whole;
 use ot_exec_verdict::{Bounds, Finding, finding_of};
-use ot_file_diagnosis::{Code, Diagnosis};
+use ot_file_diagnosis::{Code, Diagnosis, Severity};
 use ot_race::Race;
 use ot_race_all::{More, Races};
 use std::alloc::{AllocError, Global};
 use std::collections::BTreeSet;
+use std::mem;
 
 /// What is told of a text.
 #[derive(Clone, Copy, Debug, PartialEq, Eq)]
@@ -206,12 +207,74 @@ fn one_found(alloc: Global, verdict: Verdict, one: Diagnosis) -> Result<Judged, 
     })
 }
 
+/// Judges code. Where its run can't go on, what happens before is judged alone: a race there is one whatever stands behind.
 fn judge(alloc: Global, of: Of<'_>, placed: Placed) -> Result<Judged, AllocError> {
     let mut placed = placed;
     let parameters = of.reading.parameters(alloc)?;
     let closed = of.reading.closed(alloc)?;
     let found = finding_of(alloc, &mut placed.code, bounds(), &parameters, &closed)?;
-    told(alloc, of, &placed, found)
+    let Some(at) = stop_of(of, &found) else {
+        return told(alloc, of, &placed, found);
+    };
+    let Some(form) = placed.code.forms.get_mut(at) else {
+        return told(alloc, of, &placed, found);
+    };
+    let form = mem::replace(form, Form::Stop);
+    let before = finding_of(alloc, &mut placed.code, bounds(), &parameters, &closed)?;
+    let before = races_in(alloc, of, &placed, before)?;
+    if let Some(place) = placed.code.forms.get_mut(at) {
+        *place = form;
+    }
+    let stop = told(alloc, of, &placed, found)?;
+    match before {
+        Some(judged) => with_stop(alloc, judged, stop),
+        None => Ok(stop),
+    }
+}
+
+/// The form at which a run can't go on, where what was made of the text up to there is what the text does.
+fn stop_of(of: Of<'_>, found: &Finding) -> Option<usize> {
+    match found {
+        Finding::Ended(fault) => {
+            let is_made = !is_among(of.reading.apart.as_slice(), fault.at)
+                && !is_among(of.reading.orphans.as_slice(), fault.at);
+            if is_made && fault.reason != Reason::Ended {
+                Some(fault.at)
+            } else {
+                None
+            }
+        }
+        Finding::TooManyWays(at) => Some(*at),
+        _ => None,
+    }
+}
+
+/// What is told of races, where some are found.
+fn races_in(
+    alloc: Global,
+    of: Of<'_>,
+    placed: &Placed,
+    found: Finding,
+) -> Result<Option<Judged>, AllocError> {
+    let judged = told(alloc, of, placed, found)?;
+    if judged.verdict == Verdict::Races {
+        Ok(Some(judged))
+    } else {
+        Ok(None)
+    }
+}
+
+/// What is told of races before a place behind which nothing is judged, and of that.
+fn with_stop(alloc: Global, judged: Judged, stop: Judged) -> Result<Judged, AllocError> {
+    let mut judged = judged;
+    for one in stop.found {
+        let mut one = one;
+        one.severity = Severity::Note;
+        let message = one.told.message.as_str();
+        one.told.message = format!(in alloc; "{message}: what happens behind it isn't judged")?;
+        judged.found.push(one)?;
+    }
+    Ok(judged)
 }
 
 /// What is told of a finding.

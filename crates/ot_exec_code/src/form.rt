@@ -46,8 +46,9 @@ pub enum Form {
     Operate(u32, Operation, Kind, u32, u32),
     /// A value, converted to this type.
     Convert(u32, Kind, u32),
-    /// A place, moved on by a number of elements, each of so many cells.
-    Advance(u32, u32, u32, u32),
+    /// A place, moved on by a number of elements, each of so many cells. The last number is how many cells the array has that begins at
+    /// the place, where that is known, and else 0: where the number of elements isn't known, it leads somewhere there.
+    Advance(u32, u32, u32, u32, u32),
     /// How many elements of so many cells lie from the second place to the first one.
     Distance(u32, u32, u32, u32),
     /// A new object of so many cells, with a number by which it is named; its cells are 0, or unknown where the last is false. It gives

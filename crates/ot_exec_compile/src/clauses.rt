@@ -123,7 +123,7 @@ impl<'a> Maker<'a> {
                 let base = self.item_place(depth - 1, one)?;
                 let pointer = self.load(base)?;
                 let index = self.expression(DEEPEST, index)?;
-                self.element(base.site, pointer, index)
+                self.element(base.site, pointer, index, 0)
             }
             other => self.aim(DEEPEST, other),
         }

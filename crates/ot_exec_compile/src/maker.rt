@@ -389,8 +389,19 @@ impl<'a> Maker<'a> {
 
     /// A place moved on by so many elements of so many cells.
     pub(crate) fn advance(&mut self, place: u32, count: u32, cells: u32) -> Result<u32, Fault> {
+        self.advance_in(place, count, cells, 0)
+    }
+
+    /// The same where an array of so many cells begins, or 0 where it isn't known how many.
+    pub(crate) fn advance_in(
+        &mut self,
+        place: u32,
+        count: u32,
+        cells: u32,
+        among: u32,
+    ) -> Result<u32, Fault> {
         let slot = self.fresh()?;
-        self.emit(Form::Advance(slot, place, count, cells))?;
+        self.emit(Form::Advance(slot, place, count, cells, among))?;
         Ok(slot)
     }
 

@@ -31,12 +31,29 @@ impl<'a> Maker<'a> {
 
     /// A pointer moved on by a number of elements.
     pub(crate) fn stepped(&mut self, at: u32, pointer: Val, count: u32) -> Result<Val, Fault> {
+        self.stepped_in(at, pointer, count, 0)
+    }
+
+    /// A pointer moved on by an index, where an array of so many cells begins, or 0 where it isn't known how many.
+    pub(crate) fn indexed(
+        &mut self,
+        at: u32,
+        pointer: Val,
+        index: (Val, Integer),
+        among: u32,
+    ) -> Result<Val, Fault> {
+        let long = Sort::integer(Integer::Long);
+        let count = self.between(index.0, index.1, Integer::Long, long)?;
+        self.stepped_in(at, pointer, count.slot, among)
+    }
+
+    fn stepped_in(&mut self, at: u32, pointer: Val, count: u32, among: u32) -> Result<Val, Fault> {
         let (cells, slot) = self.stride(at, pointer.sort)?;
         let count = match slot {
             Some(slot) => self.operate(Operation::Multiply, LONG, count, slot)?,
             None => count,
         };
-        let slot = self.advance(pointer.slot, count, cells)?;
+        let slot = self.advance_in(pointer.slot, count, cells, among)?;
         Ok(Val {
             slot,
             sort: pointer.sort,

@@ -92,10 +92,36 @@ impl<'a> Maker<'a> {
         })
     }
 
-    /// An element: one of the two is a pointer.
-    pub(crate) fn element(&mut self, site: u32, one: Val, other: Val) -> Result<Aim, Fault> {
-        let place = self.operated(site, Binary::Add, one, other)?;
+    /// An element: one of the two is a pointer, to an array of so many cells, or 0 where it isn't known how many.
+    pub(crate) fn element(
+        &mut self,
+        site: u32,
+        one: Val,
+        other: Val,
+        among: u32,
+    ) -> Result<Aim, Fault> {
+        let place = match (self.class(one.sort), self.class(other.sort)) {
+            (Class::Pointer, Class::Integer(integer)) => {
+                self.indexed(site, one, (other, integer), among)?
+            }
+            _ => self.operated(site, Binary::Add, one, other)?,
+        };
         self.followed(site, place)
+    }
+
+    /// How many cells an array has, where that is known. Of one with a single element more may lie behind it, and it isn't known.
+    fn cells_among(&self, array: &Expr) -> u32 {
+        let Some(sort) = type_of(&self.layouts, self.unit, DEEPEST, array) else {
+            return 0;
+        };
+        let Class::Array(element) = self.class(sort) else {
+            return 0;
+        };
+        let each = self.layouts.extent(self.unit, Sort::of(self.unit, element));
+        match (self.layouts.extent(self.unit, sort), each) {
+            (Some(all), Some(each)) if all.cells > each.cells => all.cells,
+            _ => 0,
+        }
     }
 
     /// A struct that is a value lies in an object of its own.
@@ -364,9 +390,11 @@ impl<'a> Maker<'a> {
                 self.followed(site, pointer)
             }
             Expr::Index(_, one, other) => {
+                let among = self.cells_among(one);
                 let one = self.expression(depth, one)?;
                 let other = self.expression(depth, other)?;
-                let aim = self.element(site, one, other)?;
+                let among = if one.within.is_some() { 0 } else { among };
+                let aim = self.element(site, one, other, among)?;
                 Ok(self.by_number(aim, expr))
             }
             Expr::Member(at, one, name) => {

@@ -56,7 +56,7 @@ pub fn marks_of(
 /// Marks the indexes that come from memory, or all else that does.
 fn mark(code: &Code, graph: &Graph, asked: &[Asked], of_indexes: bool, marks: &mut [bool]) {
     for it in asked {
-        let is_index = matches!(code.forms.get(it.at), Some(Form::Advance(_, _, _, _)));
+        let is_index = matches!(code.forms.get(it.at), Some(Form::Advance(_, _, _, _, _)));
         if is_index == of_indexes {
             if let Some(mark) = marks.get_mut(it.at) {
                 *mark = graph.is_memory(it.value);

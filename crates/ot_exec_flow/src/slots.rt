@@ -16,7 +16,7 @@ pub fn given_by(form: &Form) -> Option<u32>
         | Form::Function(to, _)
         | Form::Operate(to, _, _, _, _)
         | Form::Convert(to, _, _)
-        | Form::Advance(to, _, _, _)
+        | Form::Advance(to, _, _, _, _)
         | Form::Distance(to, _, _, _)
         | Form::Begin(to, _, _, _)
         | Form::Allocate(to, _, _, _, _)

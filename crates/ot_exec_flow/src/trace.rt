@@ -458,7 +458,7 @@ impl<'a> Trace<'a> {
             Form::Operate(to, _, _, one, other) | Form::Distance(to, one, other, _) => {
                 self.counts(*to, *one, *other)
             }
-            Form::Advance(to, place, number, _) => self.advances(at, *to, *place, *number),
+            Form::Advance(to, place, number, _, _) => self.advances(at, *to, *place, *number),
             Form::Address(to, object, index) => self.address(*to, *object, *index),
             Form::Begin(to, _, name, _) => self.begins_object(*to, *name),
             Form::Allocate(to, name, count, _, _) => {

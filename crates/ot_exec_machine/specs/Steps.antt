@@ -77,11 +77,11 @@ converting to kind r s = do
   x ← read s.slots r
   putting to (converted kind x) s
 
-unfoldable pub advancing : ℕ → ℕ → ℕ → ℕ → State → Step
-advancing to place r stride s = do
+unfoldable pub advancing : ℕ → ℕ → ℕ → ℕ → ℕ → State → Step
+advancing to place r stride cells s = do
   x ← read s.slots place
   n ← read s.slots r
-  putting to (advanced x n stride) s
+  putting to (advanced x n stride cells) s
 
 unfoldable pub measuring : ℕ → ℕ → ℕ → ℕ → State → Step
 measuring to one other stride s = do
@@ -404,7 +404,7 @@ step code l (f.Address to o k) answer s = putting to (Pointer o k) s
 step code l (f.Function to k) answer s = putting to (Function k) s
 step code l (f.Operate to op kind one other) answer s = operating to op kind one other s
 step code l (f.Convert to kind r) answer s = converting to kind r s
-step code l (f.Advance to place r stride) answer s = advancing to place r stride s
+step code l (f.Advance to place r stride cells) answer s = advancing to place r stride cells s
 step code l (f.Distance to one other stride) answer s = measuring to one other stride s
 step code l (f.Begin to count name zero) answer s = beginning l to count name zero s
 step code l (f.Allocate to name r cells zero) answer s = allocating l to name r cells zero s

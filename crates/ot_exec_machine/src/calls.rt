@@ -20,7 +20,7 @@ fn function(value: Value) -> Result<u32, Halt>
         } else {
             Reason::NoFunction
         })),
-        Value::Pointer(_, _) | Value::Within(_) | Value::Unknown => Err(Halt::For(
+        Value::Pointer(_, _) | Value::Within(_, _, _) | Value::Unknown => Err(Halt::For(
             Reason::NoFunction,
         )),
     }
@@ -31,7 +31,7 @@ fn turn_of(value: Value) -> Entered
 {
     match value {
         Value::Number(n) => Entered::Turn(n),
-        Value::Pointer(_, _) | Value::Within(_) | Value::Function(_) | Value::Unknown =>
+        Value::Pointer(_, _) | Value::Within(_, _, _) | Value::Function(_) | Value::Unknown =>
             Entered::SomeTurn,
     }
 }

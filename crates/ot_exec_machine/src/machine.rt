@@ -75,12 +75,13 @@ impl Machine {
         place: u32,
         slot: u32,
         stride: u32,
+        cells: u32,
     ) -> Result<(), Halt>
-        ensures { Gives (λ _. state_of self.new) result (advancing to place slot stride (state_of self.old)) }
+        ensures { Gives (λ _. state_of self.new) result (advancing to place slot stride cells (state_of self.old)) }
     {
         let place = self.slots.read(place)?;
         let count = self.slots.read(slot)?;
-        self.put(to, advanced(place, count, stride))
+        self.put(to, advanced(place, count, stride, cells))
     }
 
     #[tactic(auto, unfolding(crate::specs::Steps::measuring))]

@@ -52,7 +52,9 @@ impl Machine {
                 *to, *operation, *kind, *one, *other,
             ),
             Form::Convert(to, kind, slot) => self.convert(*to, *kind, *slot),
-            Form::Advance(to, place, slot, stride) => self.advance(*to, *place, *slot, *stride),
+            Form::Advance(to, place, slot, stride, cells) => self.advance(
+                *to, *place, *slot, *stride, *cells,
+            ),
             Form::Distance(to, one, other, stride) => self.measure(*to, *one, *other, *stride),
             Form::Begin(to, cells, name, zero) => self.begin(
                 limits,

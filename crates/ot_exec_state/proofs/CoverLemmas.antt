@@ -22,48 +22,48 @@ covers_same (Number n) c e = e
 covers_same (Pointer p k) c e = e
 covers_same (Function f) c e = e
 covers_same Unknown c e = tt
-covers_same (Within p) c e = subst (Covers (Within p)) e refl
+covers_same (Within p p1 p2) c e = subst (Covers (Within p p1 p2)) e refl
 
 abbrev pub is_exact : Value → Bool
 is_exact (Number n) = true
 is_exact (Pointer p k) = true
 is_exact (Function f) = true
-is_exact (Within p) = false
+is_exact (Within p p1 p2) = false
 is_exact Unknown = false
 
 same_if_exact : (a c : Value) → is_exact a ≡ true → Covers a c → a ≡ c
 same_if_exact (Number n) c exact covers = covers
 same_if_exact (Pointer p k) c exact covers = covers
 same_if_exact (Function f) c exact covers = covers
-same_if_exact (Within p) c exact covers = absurd (true≢false (sym exact))
+same_if_exact (Within p p1 p2) c exact covers = absurd (true≢false (sym exact))
 same_if_exact Unknown c exact covers = absurd (true≢false (sym exact))
 
 zero_covers : (a c : Value) → Covers a c → is_zero a ≡ true → is_zero c ≡ true
 zero_covers (Number n) c covers zero = subst (λ (v : Value). is_zero v ≡ true) covers zero
 zero_covers (Pointer p k) c covers zero = absurd (true≢false (sym zero))
 zero_covers (Function f) c covers zero = absurd (true≢false (sym zero))
-zero_covers (Within p) c covers zero = absurd (true≢false (sym zero))
+zero_covers (Within p p1 p2) c covers zero = absurd (true≢false (sym zero))
 zero_covers Unknown c covers zero = absurd (true≢false (sym zero))
 
-within_number : (p n : ℕ) → Within p ≡ Number n → ⊥
-within_number p n h = cc
+within_number : (p p1 p2 n : ℕ) → Within p p1 p2 ≡ Number n → ⊥
+within_number p p1 p2 n h = cc
 
-within_function : (p f : ℕ) → Within p ≡ Function f → ⊥
-within_function p f h = cc
+within_function : (p p1 p2 f : ℕ) → Within p p1 p2 ≡ Function f → ⊥
+within_function p p1 p2 f h = cc
 
-within_unknown : (p : ℕ) → Within p ≡ Unknown → ⊥
-within_unknown p h = cc
+within_unknown : (p p1 p2 : ℕ) → Within p p1 p2 ≡ Unknown → ⊥
+within_unknown p p1 p2 h = cc
 
 somewhere_covers : (a c : Value) → Covers a c → is_somewhere a ≡ true → is_somewhere c ≡ true
 somewhere_covers (Number n) c covers there = absurd (true≢false (sym there))
 somewhere_covers Unknown c covers there = absurd (true≢false (sym there))
 somewhere_covers (Pointer p k) c covers there = subst (λ (v : Value). is_somewhere v ≡ true) covers there
 somewhere_covers (Function f) c covers there = subst (λ (v : Value). is_somewhere v ≡ true) covers there
-somewhere_covers (Within p) (Pointer q k) covers there = refl
-somewhere_covers (Within p) (Within q) covers there = refl
-somewhere_covers (Within p) (Number n) covers there = absurd (within_number p n covers)
-somewhere_covers (Within p) (Function f) covers there = absurd (within_function p f covers)
-somewhere_covers (Within p) Unknown covers there = absurd (within_unknown p covers)
+somewhere_covers (Within p p1 p2) (Pointer q k) covers there = refl
+somewhere_covers (Within p p1 p2) (Within q q1 q2) covers there = refl
+somewhere_covers (Within p p1 p2) (Number n) covers there = absurd (within_number p p1 p2 n covers)
+somewhere_covers (Within p p1 p2) (Function f) covers there = absurd (within_function p p1 p2 f covers)
+somewhere_covers (Within p p1 p2) Unknown covers there = absurd (within_unknown p p1 p2 covers)
 
 or_covers : (a b c d : Bool) → (a ≡ true → c ≡ true) → (b ≡ true → d ≡ true) → (a || b) ≡ true → (c || d) ≡ true
 or_covers true b c d f g h = rw (f refl) refl
@@ -137,11 +137,11 @@ zero_op : (op : Operation) (kind : Kind) (c d : Value) → vanishes op ≡ true 
 unfolding combined
 zero_op op kind (Number m) (Number n) v z = zero_numbers op kind m n v z
 zero_op op kind (Number m) (Pointer p k) v z = rw (v, z) refl
-zero_op op kind (Number m) (Within p) v z = rw (v, z) refl
+zero_op op kind (Number m) (Within p p1 p2) v z = rw (v, z) refl
 zero_op op kind (Number m) (Function f) v z = rw (v, z) refl
 zero_op op kind (Number m) Unknown v z = rw (v, z) refl
 zero_op op kind (Pointer p k) d v z = rw (v, z) refl
-zero_op op kind (Within p) d v z = rw (v, z) refl
+zero_op op kind (Within p p1 p2) d v z = rw (v, z) refl
 zero_op op kind (Function f) d v z = rw (v, z) refl
 zero_op op kind Unknown d v z = rw (v, z) refl
 
@@ -157,27 +157,27 @@ combined_inexact : (op : Operation) (kind : Kind) (a b : Value) → (is_exact a 
 unfolding combined
 combined_inexact op kind (Number m) (Number n) h = absurd (true≢false h)
 combined_inexact op kind (Number m) (Pointer p k) h = refl
-combined_inexact op kind (Number m) (Within p) h = refl
+combined_inexact op kind (Number m) (Within p p1 p2) h = refl
 combined_inexact op kind (Number m) (Function f) h = refl
 combined_inexact op kind (Number m) Unknown h = refl
 combined_inexact op kind (Pointer p k) b h = refl
-combined_inexact op kind (Within p) b h = refl
+combined_inexact op kind (Within p p1 p2) b h = refl
 combined_inexact op kind (Function f) b h = refl
 combined_inexact op kind Unknown b h = refl
 
 compared_inexact : (op : Operation) (a b : Value) → (is_exact a && is_exact b) ≡ false → compared op a b ≡ by_null op a b
 unfolding compared
 compared_inexact op (Number m) b h = refl
-compared_inexact op (Within p) b h = refl
+compared_inexact op (Within p p1 p2) b h = refl
 compared_inexact op Unknown b h = refl
 compared_inexact op (Pointer p k) (Pointer q l) h = absurd (true≢false h)
 compared_inexact op (Pointer p k) (Number n) h = refl
-compared_inexact op (Pointer p k) (Within q) h = refl
+compared_inexact op (Pointer p k) (Within q q1 q2) h = refl
 compared_inexact op (Pointer p k) (Function f) h = refl
 compared_inexact op (Pointer p k) Unknown h = refl
 compared_inexact op (Function f) (Function g) h = absurd (true≢false h)
 compared_inexact op (Function f) (Number n) h = refl
-compared_inexact op (Function f) (Within q) h = refl
+compared_inexact op (Function f) (Within q q1 q2) h = refl
 compared_inexact op (Function f) (Pointer q l) h = refl
 compared_inexact op (Function f) Unknown h = refl
 
@@ -186,16 +186,16 @@ compared_inexact op (Function f) Unknown h = refl
 compared_null : (c d : Value) → one_is_null c d ≡ true → compared o.Equal c d ≡ Number 0
 unfolding compared
 compared_null (Number m) d h = rw h refl
-compared_null (Within p) d h = rw h refl
+compared_null (Within p p1 p2) d h = rw h refl
 compared_null Unknown d h = rw h refl
 compared_null (Pointer p k) (Pointer q l) h = absurd (true≢false (sym h))
 compared_null (Pointer p k) (Number n) h = rw h refl
-compared_null (Pointer p k) (Within q) h = absurd (true≢false (sym h))
+compared_null (Pointer p k) (Within q q1 q2) h = absurd (true≢false (sym h))
 compared_null (Pointer p k) (Function f) h = absurd (true≢false (sym h))
 compared_null (Pointer p k) Unknown h = absurd (true≢false (sym h))
 compared_null (Function f) (Function g) h = absurd (true≢false (sym h))
 compared_null (Function f) (Number n) h = rw h refl
-compared_null (Function f) (Within q) h = absurd (true≢false (sym h))
+compared_null (Function f) (Within q q1 q2) h = absurd (true≢false (sym h))
 compared_null (Function f) (Pointer q l) h = absurd (true≢false (sym h))
 compared_null (Function f) Unknown h = absurd (true≢false (sym h))
 
@@ -209,11 +209,11 @@ combined_null : (kind : Kind) (c d : Value) → one_is_null c d ≡ true → com
 unfolding combined
 combined_null kind (Number m) (Number n) h = absurd (never (m == 0) (n == 0) h)
 combined_null kind (Number m) (Pointer p k) h = refl
-combined_null kind (Number m) (Within p) h = refl
+combined_null kind (Number m) (Within p p1 p2) h = refl
 combined_null kind (Number m) (Function f) h = refl
 combined_null kind (Number m) Unknown h = refl
 combined_null kind (Pointer p k) d h = refl
-combined_null kind (Within p) d h = refl
+combined_null kind (Within p p1 p2) d h = refl
 combined_null kind (Function f) d h = refl
 combined_null kind Unknown d h = refl
 
@@ -276,11 +276,11 @@ branch_covers Unknown c answer p = refl
 branch_covers (Number n) c answer p = ap (λ (v : Value). is_so v answer) p
 branch_covers (Pointer q k) c answer p = ap (λ (v : Value). is_so v answer) p
 branch_covers (Function f) c answer p = ap (λ (v : Value). is_so v answer) p
-branch_covers (Within q) (Pointer r k) answer p = refl
-branch_covers (Within q) (Within r) answer p = refl
-branch_covers (Within q) (Number n) answer p = absurd (within_number q n p)
-branch_covers (Within q) (Function f) answer p = absurd (within_function q f p)
-branch_covers (Within q) Unknown answer p = absurd (within_unknown q p)
+branch_covers (Within q q1 q2) (Pointer r k) answer p = refl
+branch_covers (Within q q1 q2) (Within r r1 r2) answer p = refl
+branch_covers (Within q q1 q2) (Number n) answer p = absurd (within_number q q1 q2 n p)
+branch_covers (Within q q1 q2) (Function f) answer p = absurd (within_function q q1 q2 f p)
+branch_covers (Within q q1 q2) Unknown answer p = absurd (within_unknown q q1 q2 p)
 
 either : (b : Bool) (a c : Value) → Covers a c → Covers (if b then a else Unknown) (if b then c else Unknown)
 either true a c p = p
@@ -296,46 +296,46 @@ conversion_covers kind (Number n) c p = covers_same (converted kind (Number n)) 
 conversion_covers kind (Pointer q k) c p = covers_same (converted kind (Pointer q k)) (converted kind c) (ap (converted kind) p)
 conversion_covers kind (Function f) c p = covers_same (converted kind (Function f)) (converted kind c) (ap (converted kind) p)
 conversion_covers kind Unknown c p = unknown_either (fits_pointer kind.width) (converted kind c)
-conversion_covers kind (Within q) (Pointer r k) p = either (fits_pointer kind.width) (Within q) (Pointer r k) p
-conversion_covers kind (Within q) (Within r) p = either (fits_pointer kind.width) (Within q) (Within r) p
-conversion_covers kind (Within q) (Number n) p = absurd (within_number q n p)
-conversion_covers kind (Within q) (Function f) p = absurd (within_function q f p)
-conversion_covers kind (Within q) Unknown p = absurd (within_unknown q p)
+conversion_covers kind (Within q q1 q2) (Pointer r k) p = either (fits_pointer kind.width) (Within q q1 q2) (Pointer r k) p
+conversion_covers kind (Within q q1 q2) (Within r r1 r2) p = either (fits_pointer kind.width) (Within q q1 q2) (Within r r1 r2) p
+conversion_covers kind (Within q q1 q2) (Number n) p = absurd (within_number q q1 q2 n p)
+conversion_covers kind (Within q q1 q2) (Function f) p = absurd (within_function q q1 q2 f p)
+conversion_covers kind (Within q q1 q2) Unknown p = absurd (within_unknown q q1 q2 p)
 
-moved : (q k : ℕ) (d : Value) (stride : ℕ) → Covers (Within q) (advanced (Pointer q k) d stride)
+moved : (q q1 q2 k : ℕ) (d : Value) (stride cells : ℕ) → Covers (Within q q1 q2) (advanced (Pointer q k) d stride cells)
 unfolding advanced
-moved q k (Number n) stride = refl
-moved q k (Pointer r l) stride = refl
-moved q k (Within r) stride = refl
-moved q k (Function f) stride = refl
-moved q k Unknown stride = refl
+moved q q1 q2 k (Number n) stride cells = refl
+moved q q1 q2 k (Pointer r l) stride cells = refl
+moved q q1 q2 k (Within r r1 r2) stride cells = refl
+moved q q1 q2 k (Function f) stride cells = refl
+moved q q1 q2 k Unknown stride cells = refl
 
-moved_from : (q k : ℕ) (c d : Value) (stride : ℕ) → Pointer q k ≡ c → Covers (Within q) (advanced c d stride)
-moved_from q k c d stride is = subst (λ (c : Value). Covers (Within q) (advanced c d stride)) is (moved q k d stride)
+moved_from : (q q1 q2 k : ℕ) (c d : Value) (stride cells : ℕ) → Pointer q k ≡ c → Covers (Within q q1 q2) (advanced c d stride cells)
+moved_from q q1 q2 k c d stride cells is = subst (λ (c : Value). Covers (Within q q1 q2) (advanced c d stride cells)) is (moved q q1 q2 k d stride cells)
 
-exact_move : (a b c d : Value) (stride : ℕ) → a ≡ c → b ≡ d → Covers (advanced a b stride) (advanced c d stride)
-exact_move a b c d stride p q =
-    covers_same (advanced a b stride) (advanced c d stride) (ap (λ (v : Value). advanced v b stride) p ∙ ap (λ (v : Value). advanced c v stride) q)
+exact_move : (a b c d : Value) (stride cells : ℕ) → a ≡ c → b ≡ d → Covers (advanced a b stride cells) (advanced c d stride cells)
+exact_move a b c d stride cells p q =
+    covers_same (advanced a b stride cells) (advanced c d stride cells) (ap (λ (v : Value). advanced v b stride cells) p ∙ ap (λ (v : Value). advanced c v stride cells) q)
 
-pub advance_covers : (a b c d : Value) (stride : ℕ) → Covers a c → Covers b d → Covers (advanced a b stride) (advanced c d stride)
+pub advance_covers : (a b c d : Value) (stride cells : ℕ) → Covers a c → Covers b d → Covers (advanced a b stride cells) (advanced c d stride cells)
 unfolding advanced
-advance_covers Unknown b c d stride p q = tt
-advance_covers (Function f) b c d stride p q = tt
-advance_covers (Number m) (Number n) c d stride p q = exact_move (Number m) (Number n) c d stride p q
-advance_covers (Number m) (Pointer r l) c d stride p q = tt
-advance_covers (Number m) (Within r) c d stride p q = tt
-advance_covers (Number m) (Function f) c d stride p q = tt
-advance_covers (Number m) Unknown c d stride p q = tt
-advance_covers (Pointer o k) (Number n) c d stride p q = exact_move (Pointer o k) (Number n) c d stride p q
-advance_covers (Pointer o k) (Pointer r l) c d stride p q = moved_from o k c d stride p
-advance_covers (Pointer o k) (Within r) c d stride p q = moved_from o k c d stride p
-advance_covers (Pointer o k) (Function f) c d stride p q = moved_from o k c d stride p
-advance_covers (Pointer o k) Unknown c d stride p q = moved_from o k c d stride p
-advance_covers (Within o) b (Pointer r k) d stride p q = subst (λ (x : ℕ). Covers (Within x) (advanced (Pointer r k) d stride)) (sym p) (moved r k d stride)
-advance_covers (Within o) b (Within r) d stride p q = p
-advance_covers (Within o) b (Number n) d stride p q = absurd (within_number o n p)
-advance_covers (Within o) b (Function f) d stride p q = absurd (within_function o f p)
-advance_covers (Within o) b Unknown d stride p q = absurd (within_unknown o p)
+advance_covers Unknown b c d stride cells p q = tt
+advance_covers (Function f) b c d stride cells p q = tt
+advance_covers (Number m) (Number n) c d stride cells p q = exact_move (Number m) (Number n) c d stride cells p q
+advance_covers (Number m) (Pointer r l) c d stride cells p q = tt
+advance_covers (Number m) (Within r r1 r2) c d stride cells p q = tt
+advance_covers (Number m) (Function f) c d stride cells p q = tt
+advance_covers (Number m) Unknown c d stride cells p q = tt
+advance_covers (Pointer o k) (Number n) c d stride cells p q = exact_move (Pointer o k) (Number n) c d stride cells p q
+advance_covers (Pointer o k) (Pointer r l) c d stride cells p q = moved_from o k cells k c d stride cells p
+advance_covers (Pointer o k) (Within r r1 r2) c d stride cells p q = moved_from o k cells k c d stride cells p
+advance_covers (Pointer o k) (Function f) c d stride cells p q = moved_from o k cells k c d stride cells p
+advance_covers (Pointer o k) Unknown c d stride cells p q = moved_from o k cells k c d stride cells p
+advance_covers (Within o o1 o2) b (Pointer r k) d stride cells p q = subst (λ (x : ℕ). Covers (Within x o1 o2) (advanced (Pointer r k) d stride cells)) (sym p) (moved r o1 o2 k d stride cells)
+advance_covers (Within o o1 o2) b (Within r r1 r2) d stride cells p q = p
+advance_covers (Within o o1 o2) b (Number n) d stride cells p q = absurd (within_number o o1 o2 n p)
+advance_covers (Within o o1 o2) b (Function f) d stride cells p q = absurd (within_function o o1 o2 f p)
+advance_covers (Within o o1 o2) b Unknown d stride cells p q = absurd (within_unknown o o1 o2 p)
 
 exact_distance : (a b c d : Value) (stride : ℕ) → a ≡ c → b ≡ d → Covers (distance a b stride) (distance c d stride)
 exact_distance a b c d stride p q =
@@ -344,11 +344,11 @@ exact_distance a b c d stride p q =
 pub distance_covers : (a b c d : Value) (stride : ℕ) → Covers a c → Covers b d → Covers (distance a b stride) (distance c d stride)
 unfolding distance
 distance_covers (Number m) b c d stride p q = tt
-distance_covers (Within r) b c d stride p q = tt
+distance_covers (Within r r1 r2) b c d stride p q = tt
 distance_covers (Function f) b c d stride p q = tt
 distance_covers Unknown b c d stride p q = tt
 distance_covers (Pointer r k) (Pointer s l) c d stride p q = exact_distance (Pointer r k) (Pointer s l) c d stride p q
 distance_covers (Pointer r k) (Number n) c d stride p q = tt
-distance_covers (Pointer r k) (Within s) c d stride p q = tt
+distance_covers (Pointer r k) (Within s s1 s2) c d stride p q = tt
 distance_covers (Pointer r k) (Function f) c d stride p q = tt
 distance_covers (Pointer r k) Unknown c d stride p q = tt

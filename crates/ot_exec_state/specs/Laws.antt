@@ -9,8 +9,8 @@ use Rattle.ot_exec_state.specs.declared.value.Value.TheVariants.{Number, Pointer
 -- the first may stand for the second, of which no less is known
 abbrev pub Covers : Value → Value → Type 0
 Covers Unknown b = Unit {0}
-Covers (Within o) (Pointer p k) = o ≡ p
-Covers (Within o) (Within p) = o ≡ p
+Covers (Within o f n) (Pointer p k) = o ≡ p
+Covers (Within o f n) (Within p g m) = o ≡ p
 Covers a b = a ≡ b
 
 -- what an operation gives of values stands for what it gives of those for which they stand
@@ -23,7 +23,7 @@ abbrev pub ConversionCovers : Type 0
 ConversionCovers = (kind : Kind) (a c : Value) → Covers a c → Covers (converted kind a) (converted kind c)
 
 abbrev pub AdvanceCovers : Type 0
-AdvanceCovers = (a b c d : Value) (stride : ℕ) → Covers a c → Covers b d → Covers (advanced a b stride) (advanced c d stride)
+AdvanceCovers = (a b c d : Value) (stride cells : ℕ) → Covers a c → Covers b d → Covers (advanced a b stride cells) (advanced c d stride cells)
 
 abbrev pub DistanceCovers : Type 0
 DistanceCovers = (a b c d : Value) (stride : ℕ) → Covers a c → Covers b d → Covers (distance a b stride) (distance c d stride)

@@ -44,7 +44,7 @@ uses_of mode s = map (λ k. use_as mode (cell s.object k)) (range_with_len s.ind
 -- the object at which it lies
 unfoldable pub object_of : Value → Result ℕ Reason
 object_of (Pointer o k) = Ok o
-object_of (Within o) = Ok o
+object_of (Within o f n) = Ok o
 object_of (Number n) = Err (if n == 0 then Null else NoPlace)
 object_of (Function f) = Err NoPlace
 object_of Unknown = Err NoPlace
@@ -66,14 +66,21 @@ whole m v = do
   x ← alive m o
   Ok (span o x.start 0 x.length)
 
--- so many cells from there on; where the index isn't known they are all cells of the object
+-- so many cells from one on, where the object has them, and else all of its cells
+unfoldable pub among : Memory → ℕ → ℕ → ℕ → Result Span Reason
+among m o f n = do
+  x ← alive m o
+  if nat_lt 0 n && nat_le (f + n) x.length then Ok (span o x.start f (f + n)) else Ok (span o x.start 0 x.length)
+
+-- so many cells from there on; where the index isn't known they are all cells among which it is
 unfoldable pub span_of : Memory → Value → ℕ → Result Span Reason
 span_of m (Pointer o k) count = inside m o k count
+span_of m (Within o f n) count = among m o f n
 span_of m v count = whole m v
 
 -- the same of a place that is known
 unfoldable pub span_at : Memory → Value → ℕ → Result Span Reason
-span_at m (Within o) count = Err NoPlace
+span_at m (Within o f n) count = Err NoPlace
 span_at m v count = span_of m v count
 
 -- ---- what happens to it

@@ -25,7 +25,7 @@ abbrev pub is_so : Value → Bool → Bool
 is_so (Number n) answer = not (n == 0)
 is_so Unknown answer = answer
 is_so (Pointer o k) answer = true
-is_so (Within o) answer = true
+is_so (Within o f n) answer = true
 is_so (Function f) answer = true
 
 -- the type of a pointer's index
@@ -39,7 +39,7 @@ is_zero _ = false
 -- what isn't null
 abbrev pub is_somewhere : Value → Bool
 is_somewhere (Pointer o k) = true
-is_somewhere (Within o) = true
+is_somewhere (Within o f n) = true
 is_somewhere (Function f) = true
 is_somewhere _ = false
 
@@ -96,13 +96,13 @@ unfoldable pub converted : Kind → Value → Value
 converted kind (Number n) = Number (narrow kind n)
 converted kind a = if fits_pointer kind.width then a else Unknown
 
--- so many elements of this many cells from there
-unfoldable pub advanced : Value → Value → ℕ → Value
-advanced (Pointer o k) (Number n) stride = Pointer o ((k + (n * stride) % 2 ^ 64) % 2 ^ 64)
-advanced (Pointer o k) n stride = Within o
-advanced (Within o) n stride = Within o
-advanced (Number p) (Number n) stride = if p == 0 && n == 0 then Number 0 else Unknown
-advanced place n stride = Unknown
+-- so many elements of this many cells from there, where an array of so many cells begins; 0 where it isn't known how many
+unfoldable pub advanced : Value → Value → (stride cells : ℕ) → Value
+advanced (Pointer o k) (Number n) stride cells = Pointer o ((k + (n * stride) % 2 ^ 64) % 2 ^ 64)
+advanced (Pointer o k) n stride cells = Within o k cells
+advanced (Within o f m) n stride cells = Within o f m
+advanced (Number p) (Number n) stride cells = if p == 0 && n == 0 then Number 0 else Unknown
+advanced place n stride cells = Unknown
 
 -- and how many lie between
 unfoldable pub distance : Value → Value → ℕ → Value

@@ -43,7 +43,9 @@ fn named(value: Value) -> Result<Lock, Halt>
             }
         }
         Value::Pointer(object, index) => Ok(Lock::ByPlace(object, index)),
-        Value::Within(_) | Value::Function(_) | Value::Unknown => Err(Halt::For(Reason::NoPlace)),
+        Value::Within(_, _, _) | Value::Function(_) | Value::Unknown => Err(Halt::For(
+            Reason::NoPlace,
+        )),
     }
 }
 

@@ -3,7 +3,7 @@ ghost use Rattle.std.specs.Prelude.{◌≡◌, ◌<◌, slice_get, length, IfOk}
 ghost use Rattle.ot_exec_state.specs.declared.fault.Reason.TheVariants.{Broken};
 ghost use Rattle.ot_exec_state.specs.Results.{Gives, found};
 ghost use Rattle.ot_exec_state.specs.View.{memory_of};
-ghost use Rattle.ot_exec_state.specs.Memory.{count_of, object_of, alive, inside, whole, span_of, span_at, taken, kept, filled, begun, finished};
+ghost use Rattle.ot_exec_state.specs.Memory.{count_of, object_of, alive, inside, among, whole, span_of, span_at, taken, kept, filled, begun, finished};
 
 use crate::fault::{Halt, Reason};
 use crate::limits::Limits;
@@ -51,7 +51,7 @@ impl Value {
     {
         match self {
             Value::Pointer(o, _) => Ok(o),
-            Value::Within(o) => Ok(o),
+            Value::Within(o, _, _) => Ok(o),
             Value::Number(n) => Err(Halt::For(if n == 0 {
                 Reason::Null
             } else {
@@ -67,7 +67,7 @@ impl Value {
     {
         match self {
             Value::Pointer(_, _) => value,
-            Value::Number(_) | Value::Within(_) | Value::Function(_) | Value::Unknown =>
+            Value::Number(_) | Value::Within(_, _, _) | Value::Function(_) | Value::Unknown =>
                 Value::Unknown,
         }
     }
@@ -107,17 +107,40 @@ impl Memory {
         })
     }
 
-    /// So many cells from there on. Where the index isn't known they are all cells of the object.
+    /// So many cells from there on. Where the index isn't known they are all cells among which it is.
     #[tactic(auto, unfolding(crate::specs::Memory::span_of))]
     pub fn span(&self, place: Value, count: u64) -> Result<Span, Halt>
         ensures { Gives (λ s. s) result (span_of (memory_of self.now) place count) }
     {
         match place {
             Value::Pointer(object, index) => self.inside(object, index, count),
-            Value::Number(_) | Value::Within(_) | Value::Function(_) | Value::Unknown => self.whole(
-                place,
-            ),
+            Value::Within(object, first, cells) => self.among(object, first, cells),
+            Value::Number(_) | Value::Function(_) | Value::Unknown => self.whole(place),
         }
+    }
+
+    /// So many cells of an object from one on, where it has them, and else all of its cells.
+    #[tactic(auto, unfolding(crate::specs::Memory::among))]
+    fn among(&self, object: u32, first: u64, cells: u32) -> Result<Span, Halt>
+        ensures { Gives (λ s. s) result (among (memory_of self.now) object first cells) }
+    {
+        let found = self.alive(object)?;
+        let length = u64::from(found.length);
+        let cells = u64::from(cells);
+        if cells == 0 || first > length || cells > length - first {
+            return Ok(Span {
+                object,
+                start: found.start,
+                index: 0,
+                end: found.length,
+            });
+        }
+        Ok(Span {
+            object,
+            start: found.start,
+            index: first as u32,
+            end: (first + cells) as u32,
+        })
     }
 
     #[tactic(auto, unfolding(crate::specs::Memory::inside))]
@@ -143,7 +166,7 @@ impl Memory {
         ensures { Gives (λ s. s) result (span_at (memory_of self.now) place count) }
     {
         match place {
-            Value::Within(_) => Err(Halt::For(Reason::NoPlace)),
+            Value::Within(_, _, _) => Err(Halt::For(Reason::NoPlace)),
             Value::Number(_) | Value::Pointer(_, _) | Value::Function(_) | Value::Unknown =>
                 self.span(place, count),
         }
@@ -156,7 +179,7 @@ impl Memory {
     {
         match place {
             Value::Pointer(_, _) => self.member(span.start as usize + span.index as usize),
-            Value::Number(_) | Value::Within(_) | Value::Function(_) | Value::Unknown => Ok(
+            Value::Number(_) | Value::Within(_, _, _) | Value::Function(_) | Value::Unknown => Ok(
                 Value::Unknown,
             ),
         }

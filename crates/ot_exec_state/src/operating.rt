@@ -21,7 +21,7 @@ impl Value {
         match self {
             Value::Number(n) => n != 0,
             Value::Unknown => answer,
-            Value::Pointer(_, _) | Value::Within(_) | Value::Function(_) => true,
+            Value::Pointer(_, _) | Value::Within(_, _, _) | Value::Function(_) => true,
         }
     }
 
@@ -30,7 +30,8 @@ impl Value {
     {
         match self {
             Value::Number(n) => n == 0,
-            Value::Pointer(_, _) | Value::Within(_) | Value::Function(_) | Value::Unknown => false,
+            Value::Pointer(_, _) | Value::Within(_, _, _) | Value::Function(_) | Value::Unknown =>
+                false,
         }
     }
 
@@ -38,7 +39,7 @@ impl Value {
         ensures { result ≡ is_somewhere self }
     {
         match self {
-            Value::Pointer(_, _) | Value::Within(_) | Value::Function(_) => true,
+            Value::Pointer(_, _) | Value::Within(_, _, _) | Value::Function(_) => true,
             Value::Number(_) | Value::Unknown => false,
         }
     }
@@ -153,7 +154,7 @@ pub fn converted(kind: Kind, value: Value) -> Value
 {
     match value {
         Value::Number(n) => Value::Number(kind.narrow(n)),
-        Value::Pointer(_, _) | Value::Within(_) | Value::Function(_) | Value::Unknown => {
+        Value::Pointer(_, _) | Value::Within(_, _, _) | Value::Function(_) | Value::Unknown => {
             if fits_pointer(kind.width) {
                 value
             } else {
@@ -169,17 +170,18 @@ fn fits_pointer(width: Width) -> bool
     matches!(width, Width::Bits64)
 }
 
-/// The place that lies so many elements of this many cells behind another.
+/// The place that lies so many elements of this many cells behind another, at which an array of so many cells begins, or 0 where it isn't
+/// known how many.
 #[tactic(auto, unfolding(crate::specs::Values::advanced))]
-pub fn advanced(place: Value, number: Value, stride: u32) -> Value
-    ensures { result ≡ advanced place number stride }
+pub fn advanced(place: Value, number: Value, stride: u32, cells: u32) -> Value
+    ensures { result ≡ advanced place number stride cells }
 {
     match (place, number) {
         (Value::Pointer(o, k), Value::Number(n)) => {
             Value::Pointer(o, k.wrapping_add(n.wrapping_mul(u64::from(stride))))
         }
-        (Value::Pointer(o, _), _) => Value::Within(o),
-        (Value::Within(o), _) => Value::Within(o),
+        (Value::Pointer(o, k), _) => Value::Within(o, k, cells),
+        (Value::Within(o, first, among), _) => Value::Within(o, first, among),
         (Value::Number(p), Value::Number(n)) => {
             if p == 0 && n == 0 {
                 Value::Number(0)

@@ -11,8 +11,8 @@ pub enum Value {
     Number(u64),
     /// The place of an object at an index, as two's complement has it: it may lie outside, where nothing may be touched.
     Pointer(u32, u64),
-    /// A place somewhere in an object.
-    Within(u32),
+    /// A place somewhere in an object: in so many cells from this one on, or in all of them where they are none.
+    Within(u32, u64, u32),
     /// A function, by its number.
     Function(u32),
     Unknown,
@@ -24,7 +24,8 @@ pub fn is_unknown(value: Value) -> bool
 {
     match value {
         Value::Unknown => true,
-        Value::Number(_) | Value::Pointer(_, _) | Value::Within(_) | Value::Function(_) => false,
+        Value::Number(_) | Value::Pointer(_, _) | Value::Within(_, _, _) | Value::Function(_) =>
+            false,
     }
 }
 
@@ -34,7 +35,7 @@ pub fn number(reason: Reason, value: Value) -> Result<u64, Halt>
 {
     match value {
         Value::Number(n) => Ok(n),
-        Value::Pointer(_, _) | Value::Within(_) | Value::Function(_) | Value::Unknown => Err(
+        Value::Pointer(_, _) | Value::Within(_, _, _) | Value::Function(_) | Value::Unknown => Err(
             Halt::For(reason),
         ),
     }

@@ -215,16 +215,16 @@ fn put_form(
             Ok(())
         }
         Form::Jump(_) if plan.skips(at) => Ok(()),
-        Form::Advance(to, place, number, stride) => {
+        Form::Advance(to, place, number, stride, cells) => {
             if plan.is_marked(at) {
                 made.put(Form::Unknown(spare))?;
-                made.put(Form::Advance(*to, *place, spare, *stride))
+                made.put(Form::Advance(*to, *place, spare, *stride, *cells))
             } else {
                 // An index that isn't known, and doesn't come from memory, comes from what was joined: it isn't judged.
                 let here = made.here();
                 made.tests.push(here)?;
                 made.put(Form::Repeat(0, *number, 0))?;
-                made.put(Form::Advance(*to, *place, *number, *stride))
+                made.put(Form::Advance(*to, *place, *number, *stride, *cells))
             }
         }
         Form::Store(site, place, _) if plan.is_joined(at) => {
@@ -276,7 +276,9 @@ fn plain_copy(form: &Form) -> Form {
         Form::Function(to, function) => Form::Function(*to, *function),
         Form::Operate(to, by, kind, one, other) => Form::Operate(*to, *by, *kind, *one, *other),
         Form::Convert(to, kind, from) => Form::Convert(*to, *kind, *from),
-        Form::Advance(to, place, number, stride) => Form::Advance(*to, *place, *number, *stride),
+        Form::Advance(to, place, number, stride, cells) => Form::Advance(
+            *to, *place, *number, *stride, *cells,
+        ),
         Form::Distance(to, one, other, stride) => Form::Distance(*to, *one, *other, *stride),
         Form::Begin(to, cells, name, zero) => Form::Begin(*to, *cells, *name, *zero),
         Form::Allocate(to, name, count, each, zero) => {

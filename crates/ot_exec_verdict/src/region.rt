@@ -53,7 +53,7 @@ fn is_plain(form: &Form, start: usize, end: usize) -> bool {
         | Form::Function(_, _)
         | Form::Operate(_, _, _, _, _)
         | Form::Convert(_, _, _)
-        | Form::Advance(_, _, _, _)
+        | Form::Advance(_, _, _, _, _)
         | Form::Distance(_, _, _, _)
         | Form::Load(_, _, _)
         | Form::Store(_, _, _)

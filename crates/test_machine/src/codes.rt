@@ -167,7 +167,7 @@ fn plain_form(name: &str, n: &Numbers) -> Form {
         "copy" => Form::Copy(n.at(0), n.at(1)),
         "address" => Form::Address(n.at(0), n.at(1), n.at(2)),
         "function" => Form::Function(n.at(0), n.at(1)),
-        "advance" => Form::Advance(n.at(0), n.at(1), n.at(2), n.at(3)),
+        "advance" => Form::Advance(n.at(0), n.at(1), n.at(2), n.at(3), n.at(4)),
         "distance" => Form::Distance(n.at(0), n.at(1), n.at(2), n.at(3)),
         "begin" => Form::Begin(n.at(0), n.at(1), n.at(2), n.at(3) == 0),
         "allocate" => Form::Allocate(n.at(0), n.at(1), n.at(2), n.at(3), true),

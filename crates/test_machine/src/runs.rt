@@ -41,6 +41,10 @@ Ended 2 0 none|begin 0 1 7; end 70 0; load 22 1 0; stop
 3 1 21 22 7.0-|begin 0 1 7; number 1 5; copy 2 0; copy 3 1; task 20 2 2 7 0; store 21 0 1; finish; unknown 4; branch 31 4 10; wait 32; load 22 5 0; stop
 Null 4 1 none|unknown 0; branch 31 0 3; stop; number 1 0; load 22 2 1; stop
 3 0 21 22 7.3|begin 0 4 7; unknown 1; advance 2 0 1 1; copy 3 2; copy 4 1; task 20 3 2 8 0; store 21 0 1; finish; number 5 3; advance 6 0 5 1; load 22 7 6; stop
+3 0 none|begin 0 4 7; unknown 1; advance 2 0 1 1 2; copy 3 2; copy 4 1; task 20 3 2 8 0; store 21 0 1; finish; number 5 2; advance 6 0 5 1; load 22 7 6; stop
+3 0 21 22 7.1|begin 0 4 7; unknown 1; advance 2 0 1 1 2; copy 3 2; copy 4 1; task 20 3 2 8 0; store 21 0 1; finish; number 5 1; advance 6 0 5 1; load 22 7 6; stop
+3 0 none|begin 0 4 7; number 5 1; advance 6 0 5 1; unknown 1; advance 2 6 1 1 2; copy 3 2; copy 4 1; task 20 3 2 10 0; store 21 0 1; finish; load 22 7 0; stop
+3 0 21 22 7.3|begin 0 4 7; unknown 1; advance 2 0 1 1 9; copy 3 2; copy 4 1; task 20 3 2 8 0; store 21 0 1; finish; number 5 3; advance 6 0 5 1; load 22 7 6; stop
 3 0 21 22 7.2|begin 0 4 7; number 1 3; copy 3 0; copy 4 1; task 20 3 2 7 0; writerange 21 0 1; finish; number 5 2; advance 6 0 5 1; load 22 7 6; stop
 Broken 0 0 none|finish
 Broken 0 0 none|return
@@ -88,7 +92,7 @@ fn tasks(rt: HostRuntime) -> Result<(), Fail> {
 #[test]
 fn faults(rt: HostRuntime) -> Result<(), Fail> {
     let (rows, wrong) = passed(rt.alloc(), &[], FAULTS)?;
-    assert!(rt; rows == 24, "{wrong}");
+    assert!(rt; rows == 28, "{wrong}");
     Ok(())
 }
 
