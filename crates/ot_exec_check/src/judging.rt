@@ -1,9 +1,11 @@
 //! A text, executed and judged.
 use crate::drawing::drawn;
 use crate::placing::origin_of;
-use crate::reading::{Placed, Read, Reading, byte_of, reading_of};
+use crate::reading::{Given, Placed, Read, Reading, byte_of, reading_of};
 use crate::reason::of_run;
-use crate::telling::{Source, more_races, of_file, outside, race_found, with_assumed, wrong};
+use crate::telling::{
+    Source, more_races, of_file, outside, put_note, race_found, with_assumed, wrong,
+};
 use ot_exec_code::Form;
 use ot_exec_machine::{Fault, Limits, Reason, Run, run_code};
 use ot_exec_tokens::Whole;
@@ -63,6 +65,15 @@ const ON_WAY: &str = "some path has both";
 const ONLY_RUN: &str =
     "only the run with these numbers was judged: other numbers in memory may take other ways, and there are too many";
 
+/// What is taken for each number that a text is given.
+const GIVEN: u32 = 8;
+
+/// How many words a command has that gives some, one number after the other.
+const WORDS: [u32; 3] = [2, 3, 9];
+
+const AS_GIVEN: &str =
+    "judged as if each number that it reads, or that a word of its command is, were 8";
+
 /// How many steps one of several ways takes at most.
 const STEPS: u32 = 1_000_000;
 
@@ -78,16 +89,45 @@ fn bounds() -> Bounds {
 }
 
 /// Executes a text, with those of the files that it includes, behind definitions of a command line, each `NAME=VALUE` or `NAME`, and
-/// judges what its tasks touch.
+/// judges what its tasks touch. Where that isn't judged, or only its run, and the text may be given numbers, it is judged with some.
 pub fn judge_run(
     alloc: Global,
     definitions: &[String],
     whole: &Whole,
 ) -> Result<Judged, AllocError> {
-    match reading_of(alloc, definitions, whole)? {
+    let (judged, is_given) = judge_given(alloc, definitions, whole, None)?;
+    if !is_given || matches!(judged.verdict, Verdict::Clean | Verdict::Races) {
+        return Ok(judged);
+    }
+    let mut best = judged;
+    for words in WORDS {
+        let given = Given {
+            words,
+            number: GIVEN,
+        };
+        let (other, _) = judge_given(alloc, definitions, whole, Some(given))?;
+        match other.verdict {
+            Verdict::Races => return with_given(alloc, other, Verdict::Races),
+            Verdict::Clean | Verdict::OnlyRun if best.verdict == Verdict::Outside => {
+                best = with_given(alloc, other, Verdict::OnlyRun)?;
+            }
+            _ => {}
+        }
+    }
+    Ok(best)
+}
+
+/// Judges a text as it runs where this is given, and tells whether it may be given something.
+fn judge_given(
+    alloc: Global,
+    definitions: &[String],
+    whole: &Whole,
+    given: Option<Given>,
+) -> Result<(Judged, bool), AllocError> {
+    match reading_of(alloc, definitions, whole, given)? {
         Read::Outside(byte, words) => {
             let found = outside(alloc, whole, byte, words)?;
-            one_found(alloc, Verdict::Outside, found)
+            Ok((one_found(alloc, Verdict::Outside, found)?, false))
         }
         Read::Whole(reading, placed) => {
             let of = Of {
@@ -96,9 +136,17 @@ pub fn judge_run(
                 draws: false,
             };
             let judged = judge(alloc, of, placed)?;
-            with_assumed(alloc, &reading, judged)
+            Ok((with_assumed(alloc, &reading, judged)?, reading.is_given))
         }
     }
+}
+
+/// What is judged with numbers that the text is given.
+fn with_given(alloc: Global, judged: Judged, verdict: Verdict) -> Result<Judged, AllocError> {
+    let mut judged = judged;
+    judged.verdict = verdict;
+    put_note(alloc, &mut judged.found, String::from_str(alloc, AS_GIVEN)?)?;
+    Ok(judged)
 }
 
 /// What is told of a text, what is found in it, and its picture: of its run up to the first race that is found, or of the whole run
@@ -113,7 +161,7 @@ pub struct Drawn {
 
 /// Executes a text, with those of the files that it includes, judges what its tasks touch, and draws them.
 pub fn draw_run(alloc: Global, whole: &Whole) -> Result<Drawn, AllocError> {
-    let judged = match reading_of(alloc, &[], whole)? {
+    let judged = match reading_of(alloc, &[], whole, None)? {
         Read::Outside(byte, words) => {
             let found = outside(alloc, whole, byte, words)?;
             one_found(alloc, Verdict::Outside, found)?

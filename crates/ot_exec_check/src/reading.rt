@@ -34,6 +34,8 @@ pub(crate) struct Reading {
     pub apart: Vec<u32>,
     /// The forms that can't be executed because a function was called there whose constructs belong to a team.
     pub orphans: Vec<u32>,
+    /// Whether it may be given numbers: by the words of a command, or by what it reads.
+    pub is_given: bool,
 }
 
 impl Reading {
@@ -86,26 +88,75 @@ pub(crate) fn byte_of(tokens: &[Token], at: u32) -> usize {
     }
 }
 
-/// What each name means in the library, by its number.
-fn known_of(alloc: Global, names: &Names) -> Result<Vec<Option<Known>>, AllocError> {
+/// What is taken for what a run is given: how many words the command has, the program's name among them, and each number that a word or
+/// an input is.
+#[derive(Clone, Copy)]
+pub(crate) struct Given {
+    pub words: u32,
+    pub number: u32,
+}
+
+/// A command without words behind its name. Of numbers that are read nothing is known.
+const NO_WORDS: u32 = 1;
+
+/// Functions that give a number which a string is.
+const NUMBERS: [&str; 7] = [
+    "atoi", "atol", "atoll", "strtol", "strtoul", "strtoll", "strtoull",
+];
+
+/// Functions that read numbers, and which of their arguments is the first that they write.
+const SCANS: [(&str, u32); 3] = [("scanf", 1), ("fscanf", 2), ("sscanf", 2)];
+
+/// What a function means that gives or reads numbers, where each is this one.
+fn given_by(name: &str, number: u32) -> Option<Known> {
+    if NUMBERS.iter().any(|one| *one == name) {
+        return Some(Known::Number(number));
+    }
+    let scan = SCANS.iter().find(|scan| scan.0 == name)?;
+    Some(Known::Scans(scan.1, number))
+}
+
+/// What each name means in the library, by its number, where this is given.
+fn known_of(
+    alloc: Global,
+    names: &Names,
+    given: Option<Given>,
+) -> Result<Vec<Option<Known>>, AllocError> {
     let mut known = Vec::new(alloc);
     for number in 0..names.len() {
-        let name = u32::try_from(number).unwrap_or(u32::MAX);
-        known.push(meaning_of(names.text(name).as_bytes()))?;
+        let name = names.text(u32::try_from(number).unwrap_or(u32::MAX));
+        let meaning = match given {
+            Some(given) => given_by(name, given.number).or(meaning_of(name.as_bytes())),
+            None => meaning_of(name.as_bytes()),
+        };
+        known.push(meaning)?;
     }
     Ok(known)
 }
 
+/// Whether a text may be given numbers: it reads some, or `main` has parameters.
+fn is_given(names: &Names, unit: &Unit) -> bool {
+    let has_words = unit.functions.iter().any(|function| names.text(function.name) == "main"
+        && !function.parameters.is_empty());
+    let mut reads = false;
+    for number in 0..names.len() {
+        let name = names.text(u32::try_from(number).unwrap_or(u32::MAX));
+        reads = reads || given_by(name, 0).is_some();
+    }
+    has_words || reads
+}
+
 const TOO_MANY_FILES: &str = "more than 64 files are included";
 
-/// Reads a text behind definitions of a command line.
+/// Reads a text behind definitions of a command line. Where something is given, its run has that.
 pub(crate) fn reading_of(
     alloc: Global,
     definitions: &[String],
     whole: &Whole,
+    given: Option<Given>,
 ) -> Result<Read, AllocError> {
     match tokens_of(alloc, definitions, whole) {
-        Ok(found) => tree_of(alloc, whole.text(), found.tokens, found.names),
+        Ok(found) => tree_of(alloc, whole.text(), found.tokens, found.names, given),
         Err(ReadError::Wants(byte, _)) => {
             let words = String::from_str(alloc, TOO_MANY_FILES)?;
             Ok(Read::Outside(byte, words))
@@ -123,10 +174,11 @@ fn tree_of(
     text: &[u8],
     tokens: Vec<Token>,
     names: Names,
+    given: Option<Given>,
 ) -> Result<Read, AllocError> {
-    let given = tokens.as_slice().to_vec(alloc)?;
-    match unit_of(alloc, given) {
-        Ok(unit) => code_of(alloc, tokens, names, unit),
+    let read = tokens.as_slice().to_vec(alloc)?;
+    match unit_of(alloc, read) {
+        Ok(unit) => code_of(alloc, tokens, names, unit, given),
         Err(ParseError::Memory) => Err(AllocError),
         Err(ParseError::Fault(fault)) => {
             let byte = byte_of(&tokens, fault.at);
@@ -153,19 +205,26 @@ fn code_of(
     tokens: Vec<Token>,
     names: Names,
     unit: Unit,
+    given: Option<Given>,
 ) -> Result<Read, AllocError> {
     if let Some((byte, words)) = beyond(alloc, &tokens, &unit)? {
         return Ok(Read::Outside(byte, String::from_str(alloc, words)?));
     }
-    let known = known_of(alloc, &names)?;
-    match translate(alloc, &unit, &known) {
+    let known = known_of(alloc, &names, given)?;
+    let words = match given {
+        Some(given) => given.words,
+        None => NO_WORDS,
+    };
+    match translate(alloc, &unit, &known, words) {
         Ok(translated) => {
             let layouts = Layouts::of(alloc, &unit)?;
             let placed = Placed {
                 code: translated.code,
                 sites: translated.sites,
             };
+            let is_given = is_given(&names, &unit);
             let reading = Reading {
+                is_given,
                 names,
                 tokens,
                 unit,

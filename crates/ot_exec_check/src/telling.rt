@@ -354,7 +354,11 @@ pub(crate) fn with_assumed(
 }
 
 /// A note to what is told last, or of the file where nothing is told.
-fn put_note(alloc: Global, found: &mut Vec<Diagnosis>, message: String) -> Result<(), AllocError> {
+pub(crate) fn put_note(
+    alloc: Global,
+    found: &mut Vec<Diagnosis>,
+    message: String,
+) -> Result<(), AllocError> {
     match found.last_mut() {
         Some(last) => last.notes.push(Remark {
             place: None,

@@ -4,13 +4,21 @@ use crate::maker::{ACTIVE, ALONE, Aim, COUNT, FINAL, LONG, Maker, NUMBER, Val, W
 use crate::names::Known;
 use crate::team::{THREADS, Whose};
 use ot_exec_code::{Form, Kind, Operation, Width};
-use ot_exec_layout::{Base, Extent, Sort};
+use ot_exec_layout::{Base, Class, Extent, Sort};
 use ot_exec_tree::{Expr, Integer};
 
 const INT: Kind = Kind {
     width: Width::Bits32,
     signed: true,
 };
+
+/// Whether it may be a letter of a string.
+fn is_letter(integer: Integer) -> bool {
+    matches!(
+        integer,
+        Integer::Bool | Integer::Char | Integer::UnsignedChar
+    )
+}
 
 impl<'a> Maker<'a> {
     pub(crate) fn argument(&self, at: u32, base: usize, number: usize) -> Result<Val, Fault> {
@@ -67,7 +75,8 @@ impl<'a> Maker<'a> {
             Known::First => self.argument(at, base, 0),
             Known::Absolute => self.absolute(at, INT, Integer::Int, base),
             Known::AbsoluteLong => self.absolute(at, LONG, Integer::Long, base),
-            Known::Writes(first) => self.writes(at, first, base),
+            Known::Writes(first) => self.writes(at, first, None, base),
+            Known::Scans(first, number) => self.writes(at, first, Some(number), base),
             Known::Reads => {
                 self.reads_texts(at, base, 0, arguments)?;
                 self.unknown_of(Sort::INT)
@@ -79,8 +88,8 @@ impl<'a> Maker<'a> {
             Known::ThreadNumber => self.of_thread(at, false),
             Known::ThreadCount => self.of_thread(at, true),
             Known::ThreadsAtMost => self.threads_at_most(),
-            Known::One => {
-                let slot = self.number(1)?;
+            Known::Number(number) => {
+                let slot = self.number(u64::from(number))?;
                 Ok(self.value(slot, Sort::INT))
             }
             Known::Sorts => self.sorts(at, base),
@@ -273,21 +282,46 @@ impl<'a> Maker<'a> {
     }
 
     /// Where arguments point, from this one on, a cell gets what isn't known.
-    fn writes(&mut self, at: u32, first: u32, base: usize) -> Result<Val, Fault> {
+    fn writes(
+        &mut self,
+        at: u32,
+        first: u32,
+        number: Option<u32>,
+        base: usize,
+    ) -> Result<Val, Fault> {
         let first = base.saturating_add(first as usize);
+        let mut count = 0u64;
         for place in first..self.arguments.len() {
             if let Some(pointer) = self.arguments.get(place).copied()
                 && pointer.sort.target(self.unit).is_some()
             {
                 self.notes_letters(pointer.sort);
                 let out = self.emit(Form::Branch(at, pointer.slot, 0))?;
-                let unknown = self.unknown()?;
+                let written = self.written(pointer.sort, number)?;
                 let aim = self.at_pointer(at, pointer);
-                self.store_scalar(aim, unknown)?;
+                self.store_scalar(aim, written)?;
                 self.lands(out)?;
+                count = count.saturating_add(1);
             }
         }
-        self.unknown_of(Sort::INT)
+        if number.is_none() {
+            return self.unknown_of(Sort::INT);
+        }
+        let slot = self.number(count)?;
+        Ok(self.value(slot, Sort::INT))
+    }
+
+    /// What is written where a pointer leads: this number, if one is read there.
+    fn written(&mut self, pointer: Sort, number: Option<u32>) -> Result<u32, Fault> {
+        let Some(target) = pointer.target(self.unit) else {
+            return self.unknown();
+        };
+        match (number, self.class(target)) {
+            (Some(number), Class::Integer(integer)) if !is_letter(integer) => {
+                self.number(u64::from(number))
+            }
+            _ => self.unknown(),
+        }
     }
 
     fn in_final(&mut self, at: u32) -> Result<Val, Fault> {

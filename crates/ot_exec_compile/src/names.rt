@@ -28,6 +28,8 @@ pub enum Known {
     First,
     /// It writes to where its arguments point, from this one on.
     Writes(u32),
+    /// The same, of which each number becomes the second one. It gives how many they are.
+    Scans(u32, u32),
     /// It reads the strings that its arguments name.
     Reads,
     /// It puts a string where its first argument leads, and reads those that the others name.
@@ -41,7 +43,8 @@ pub enum Known {
     ThreadCount,
     /// How many threads a team has at most.
     ThreadsAtMost,
-    One,
+    /// This number.
+    Number(u32),
     /// It writes and reads an array.
     Sorts,
     Draws,

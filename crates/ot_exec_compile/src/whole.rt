@@ -220,14 +220,15 @@ impl<'a> Maker<'a> {
         )
     }
 
-    /// The run: objects begin, and a function is called.
-    fn run(&mut self, entry: u32, in_team: bool) -> Result<(Vec<u32>, u32), Fault> {
+    /// The run: objects begin, and a function is called, behind so many words of a command.
+    fn run(&mut self, entry: u32, in_team: bool, words: u32) -> Result<(Vec<u32>, u32), Fault> {
         let globals = self.globals()?;
         let seed = self.seed;
         let place = self.fresh()?;
         self.emit(Form::Address(place, seed, 0))?;
         let one = self.number(1)?;
-        self.emit(Form::StoreOwn(0, place, one))?;
+        let words = self.number(u64::from(words))?;
+        self.emit(Form::StoreOwn(0, place, words))?;
         if !in_team {
             self.set_flag(0, ALONE, one)?;
         }
@@ -242,7 +243,7 @@ impl<'a> Maker<'a> {
             self.unknown()?;
         }
         if !in_team && parameters > 0 {
-            // `argc` of a run without arguments, which other runs may have: it comes from memory
+            // `argc`, which other runs may have otherwise: it comes from memory
             self.emit(Form::LoadOwn(0, first, place))?;
         }
         let at = match self.unit.functions.get(entry as usize) {
@@ -395,8 +396,13 @@ fn asks_numbers(known: &[Option<Known>]) -> bool {
     known.iter().any(|one| matches!(one, Some(Known::ThreadNumber | Known::ThreadCount)))
 }
 
-/// The code of a unit, of which each name means this.
-pub fn translate(alloc: Global, unit: &Unit, known: &[Option<Known>]) -> Result<Translated, Fault> {
+/// The code of a unit, of which each name means this, run by a command of so many words.
+pub fn translate(
+    alloc: Global,
+    unit: &Unit,
+    known: &[Option<Known>],
+    words: u32,
+) -> Result<Translated, Fault> {
     let mut layouts = Layouts::of(alloc, unit)?;
     let sharing = Sharing::of(alloc, unit, &mut layouts)?;
     let (entry, is_alone) = match entry_of(unit, known) {
@@ -412,7 +418,7 @@ pub fn translate(alloc: Global, unit: &Unit, known: &[Option<Known>]) -> Result<
     maker.asks_number = asks_numbers(known);
     maker.has_numbers = sharing.has_threads && maker.asks_number;
     maker.binds = binding_functions(alloc, unit)?;
-    let (globals, slots) = maker.run(entry, is_alone)?;
+    let (globals, slots) = maker.run(entry, is_alone, words)?;
     maker.functions(if is_alone {
         Team::Nothing
     } else {
