@@ -89,14 +89,14 @@ fn bounds() -> Bounds {
 }
 
 /// Executes a text, with those of the files that it includes, behind definitions of a command line, each `NAME=VALUE` or `NAME`, and
-/// judges what its tasks touch. Where that isn't judged, or only its run, and the text may be given numbers, it is judged with some.
+/// judges what its tasks touch. Where that isn't judged, or creates no task, and the text may be given numbers, it is judged with some.
 pub fn judge_run(
     alloc: Global,
     definitions: &[String],
     whole: &Whole,
 ) -> Result<Judged, AllocError> {
-    let (judged, is_given) = judge_given(alloc, definitions, whole, None)?;
-    if !is_given || matches!(judged.verdict, Verdict::Clean | Verdict::Races) {
+    let (judged, idles) = judge_given(alloc, definitions, whole, None)?;
+    if !idles || matches!(judged.verdict, Verdict::Clean | Verdict::Races) {
         return Ok(judged);
     }
     let mut best = judged;
@@ -117,7 +117,7 @@ pub fn judge_run(
     Ok(best)
 }
 
-/// Judges a text as it runs where this is given, and tells whether it may be given something.
+/// Judges a text as it runs where this is given, and tells whether it may be given something, and creates no task as it is.
 fn judge_given(
     alloc: Global,
     definitions: &[String],
@@ -135,10 +135,18 @@ fn judge_given(
                 reading: &reading,
                 draws: false,
             };
+            let idles = reading.is_given && idles(alloc, &placed)?;
             let judged = judge(alloc, of, placed)?;
-            Ok((with_assumed(alloc, &reading, judged)?, reading.is_given))
+            Ok((with_assumed(alloc, &reading, judged)?, idles))
         }
     }
+}
+
+/// Whether no task is created in the run, or it can't go on.
+fn idles(alloc: Global, placed: &Placed) -> Result<bool, AllocError> {
+    let none = Vec::new(alloc);
+    let run = run_code(alloc, &placed.code, Limits::usual(), &none)?;
+    Ok(!run.log.iter().any(|event| event.task > 0))
 }
 
 /// What is judged with numbers that the text is given.
