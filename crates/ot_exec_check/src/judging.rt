@@ -71,6 +71,9 @@ const GIVEN: u32 = 8;
 /// How many words a command has that gives some, one number after the other.
 const WORDS: [u32; 3] = [2, 3, 9];
 
+/// What is known where nothing races so.
+const ONLY_GIVEN: &str = "only the run with numbers that it may be given was judged";
+
 const AS_GIVEN: &str =
     "judged as if each number that it reads, or that a word of its command is, were 8";
 
@@ -152,6 +155,13 @@ fn idles(alloc: Global, placed: &Placed) -> Result<bool, AllocError> {
 /// What is judged with numbers that the text is given.
 fn with_given(alloc: Global, judged: Judged, verdict: Verdict) -> Result<Judged, AllocError> {
     let mut judged = judged;
+    if judged.verdict == Verdict::Clean {
+        let words = String::from_str(alloc, ONLY_GIVEN)?;
+        let mut found = Vec::new(alloc);
+        found.push(of_file(alloc, Code::OnlyRun, words))?;
+        found.append(&mut judged.found)?;
+        judged.found = found;
+    }
     judged.verdict = verdict;
     put_note(alloc, &mut judged.found, String::from_str(alloc, AS_GIVEN)?)?;
     Ok(judged)
