@@ -16,6 +16,7 @@ impl Constant {
         integer: Integer::Int,
     };
 
+    /// What a comparison gives: 1 or 0, of type `int` (ISO C11, section 6.5.8).
     pub fn int(value: bool) -> Constant {
         Constant {
             number: u64::from(value),
@@ -23,6 +24,7 @@ impl Constant {
         }
     }
 
+    /// What `sizeof` gives: a number of bytes, of type `size_t` (ISO C11, section 6.5.3.4).
     pub fn size(bytes: u64) -> Constant {
         Constant {
             number: bytes,

@@ -53,6 +53,8 @@ pub(crate) fn members(unit: &Unit, record: u32) -> &[Member] {
 }
 
 impl Layouts {
+    /// The sizes and places of all types of a text; its arrays without a length get that of their initializer.
+    /// `AllocError` where memory is wanting.
     pub fn of(alloc: Global, unit: &Unit) -> Result<Layouts, AllocError> {
         let mut made = Layouts::empty(alloc, unit)?;
         made.measure(unit);

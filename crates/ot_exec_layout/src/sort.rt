@@ -57,6 +57,7 @@ impl Sort {
         base: Base::Void,
     };
 
+    /// An integer type.
     pub fn integer(integer: Integer) -> Sort {
         Sort {
             stars: 0,
@@ -83,6 +84,7 @@ impl Sort {
         }
     }
 
+    /// Which class of type it is: what its values are, and what may be done with them.
     pub fn class(self, unit: &Unit) -> Class {
         if self.stars > 0 {
             return Class::Pointer;
