@@ -50,8 +50,8 @@ is_c name = ends_with nat_eq name (codes ".c")
 abbrev pub is_cpp : List ℕ → Bool
 is_cpp name = ends_with nat_eq name (codes ".cpp") || ends_with nat_eq name (codes ".cc") || ends_with nat_eq name (codes ".cxx") || ends_with nat_eq name (codes ".C")
 
-abbrev pub kind_of : List ℕ → Kind
-kind_of name = if is_c name then InC else (if is_cpp name then InCpp else Requests)
+abbrev pub kind_by_name : List ℕ → Kind
+kind_by_name name = if is_c name then InC else (if is_cpp name then InCpp else Requests)
 
 -- the format that a word asks for, none where there is no such format; text has colours or none
 abbrev pub format_of : List ℕ → Paint → Option Format

@@ -65,39 +65,39 @@ want_text want.Other = codes "read failed"
 -- The line on standard error. Behind that of a bad or a refused line stands its number, and behind that of a server that isn't
 -- reached the path and the cause. Behind that of a bad definition or format stands the word, and behind that of a file that isn't read the path
 -- and why.
-abbrev pub line_of : Fault → List ℕ
-line_of of.Busy = codes "omptask: busy"
-line_of of.UnknownTenant = codes "omptask: unknown tenant"
-line_of of.StrangeGreeting = codes "omptask: strange greeting"
-line_of of.Closed = codes "omptask: closed"
-line_of of.UnknownCode = codes "omptask: unknown code"
-line_of (of.BadLine number answer) = codes "omptask: bad line"
-line_of of.NoRun = codes "omptask: no run"
-line_of of.StrangeReply = codes "omptask: strange reply"
-line_of of.NotWhole = codes "omptask: not whole"
-line_of of.HasArrays = codes "omptask: has arrays"
-line_of (of.RefusedLine number) = codes "omptask: refused line"
-line_of of.Differs = codes "omptask: differs"
-line_of (of.Unreached cause) = codes "omptask:"
-line_of of.ReadFailed = codes "omptask: read failed"
-line_of of.WriteFailed = codes "omptask: write failed"
-line_of of.Memory = codes "omptask: no memory"
-line_of of.TooManyReads = codes "omptask: too many reads"
-line_of of.Stranger = codes "omptask: stranger"
-line_of (of.BadDefinition place) = codes "omptask: bad definition"
-line_of of.BadFormat = codes "omptask: bad format"
-line_of (of.Unread place want) = codes "omptask:"
+abbrev pub line_of_fault : Fault → List ℕ
+line_of_fault of.Busy = codes "omptask: busy"
+line_of_fault of.UnknownTenant = codes "omptask: unknown tenant"
+line_of_fault of.StrangeGreeting = codes "omptask: strange greeting"
+line_of_fault of.Closed = codes "omptask: closed"
+line_of_fault of.UnknownCode = codes "omptask: unknown code"
+line_of_fault (of.BadLine number answer) = codes "omptask: bad line"
+line_of_fault of.NoRun = codes "omptask: no run"
+line_of_fault of.StrangeReply = codes "omptask: strange reply"
+line_of_fault of.NotWhole = codes "omptask: not whole"
+line_of_fault of.HasArrays = codes "omptask: has arrays"
+line_of_fault (of.RefusedLine number) = codes "omptask: refused line"
+line_of_fault of.Differs = codes "omptask: differs"
+line_of_fault (of.Unreached cause) = codes "omptask:"
+line_of_fault of.ReadFailed = codes "omptask: read failed"
+line_of_fault of.WriteFailed = codes "omptask: write failed"
+line_of_fault of.Memory = codes "omptask: no memory"
+line_of_fault of.TooManyReads = codes "omptask: too many reads"
+line_of_fault of.Stranger = codes "omptask: stranger"
+line_of_fault (of.BadDefinition place) = codes "omptask: bad definition"
+line_of_fault of.BadFormat = codes "omptask: bad format"
+line_of_fault (of.Unread place want) = codes "omptask:"
 
 -- the program's fault where a session with a server failed
-abbrev pub fault_of : AskFault → Fault
-fault_of ask.Busy = of.Busy
-fault_of ask.UnknownTenant = of.UnknownTenant
-fault_of ask.StrangeGreeting = of.StrangeGreeting
-fault_of ask.Closed = of.Closed
-fault_of ask.ReadFailed = of.ReadFailed
-fault_of ask.WriteFailed = of.WriteFailed
-fault_of ask.Memory = of.Memory
-fault_of ask.TooManyLines = of.TooManyReads
+abbrev pub session_fault : AskFault → Fault
+session_fault ask.Busy = of.Busy
+session_fault ask.UnknownTenant = of.UnknownTenant
+session_fault ask.StrangeGreeting = of.StrangeGreeting
+session_fault ask.Closed = of.Closed
+session_fault ask.ReadFailed = of.ReadFailed
+session_fault ask.WriteFailed = of.WriteFailed
+session_fault ask.Memory = of.Memory
+session_fault ask.TooManyLines = of.TooManyReads
 
 -- the program's fault where a session without a server failed
 abbrev pub fault_of_session : FrontFault → Fault
@@ -118,7 +118,7 @@ fault_of_last last.Memory = of.Memory
 
 -- the program's fault where a tenant isn't saved, or isn't restored
 abbrev pub fault_of_keep : KeepFault → Fault
-fault_of_keep (keep.Ask fault) = fault_of fault
+fault_of_keep (keep.Ask fault) = session_fault fault
 fault_of_keep keep.StrangeReply = of.StrangeReply
 fault_of_keep keep.WriteFailed = of.WriteFailed
 fault_of_keep keep.NotWhole = of.NotWhole

@@ -14,9 +14,9 @@ use Rattle.ot_file_diagnosis.specs.declared.format.Format.{Format}
 use Rattle.ot_file_diagnosis.specs.declared.format.Format.TheVariants.{Text, Json, Sarif, Github}
 use Rattle.ot_file_diagnosis.specs.declared.summary.Outcome.{Outcome}
 use Rattle.ot_file_diagnosis.specs.declared.summary.Outcome.TheVariants as o
-use Rattle.ot_file_text.specs.Comments.{blanked}
+use Rattle.ot_file_text.specs.Comments.{comments_blanked}
 use Rattle.ot_store.specs.Arrays.{Named}
-use Rattle.ot_file_judge.specs.Judging.{refusals_in, finds, made}
+use Rattle.ot_file_judge.specs.Judging.{refusals_in, finds, arrays_made}
 use Rattle.ot_file_report.specs.Report.{Reports}
 use Rattle.ot_c_judge.specs.Reports.{Told}
 use Rattle.ot_c_text.specs.Judging.{Judges}
@@ -50,12 +50,12 @@ outcome_after (one ∷ others) = o.Refused
 -- A file of requests is judged, where these arrays are there before it: each that is refused is told, and it ends by whether any is.
 abbrev pub JudgesRequests : List ℕ → List (List ℕ × ℕ) → Judged → Type 0
 JudgesRequests text arrays judged =
-    (now : List Named) × (found : List Diagnosis) × (made [] arrays ≡ Ok now) × Reports (blanked text) (refusals_in (finds now) (blanked text)) found
+    (now : List Named) × (found : List Diagnosis) × (arrays_made [] arrays ≡ Ok now) × Reports (comments_blanked text) (refusals_in (finds now) (comments_blanked text)) found
     × (map diagnosis_by judged.found.items ≡ found) × (judged.outcome ≡ outcome_after found)
 
 -- a whole file isn't judged, in these words
-abbrev pub of_file : List ℕ → Diagnosis
-of_file words = record {
+abbrev pub whole_file : List ℕ → Diagnosis
+whole_file words = record {
   severity = Error;
   code = code.Outside;
   told = record { place = None; file = None; turns = []; message = words };
@@ -64,16 +64,16 @@ of_file words = record {
 
 -- a text in C++ isn't judged
 abbrev pub in_cpp : Diagnosis
-in_cpp = of_file (codes "this is C++, which isn't read")
+in_cpp = whole_file (codes "this is C++, which isn't read")
 
 -- a text that includes files which are there has no lines
 abbrev pub HasNoLines : Session → Type 0
 HasNoLines (session.Lines lines) = ⊥
-HasNoLines (session.Outside found) = diagnosis_by found ≡ of_file (codes "it includes files that are there: it is executed, and has no lines")
+HasNoLines (session.Outside found) = diagnosis_by found ≡ whole_file (codes "it includes files that are there: it is executed, and has no lines")
 
 -- what was judged of a file of this name is written in the format
-abbrev pub Tells : Format → List ℕ → List ℕ → Judged → Option (List ℕ) → Option (List ℕ) → Type 0
-Tells format name text judged old new = Appends old new (found_text format name text (map diagnosis_by judged.found.items))
+abbrev pub TellsJudged : Format → List ℕ → List ℕ → Judged → Option (List ℕ) → Option (List ℕ) → Type 0
+TellsJudged format name text judged old new = Appends old new (found_text format name text (map diagnosis_by judged.found.items))
 
 -- the document of SARIF with these results is written (of one that had a number with a fraction, the text isn't said)
 unfoldable pub PutsDocument : List Data → List ℕ → List ℕ → Type 0
@@ -91,9 +91,9 @@ TellsEnd format quiet outcomes results old new =
     (text : List ℕ) × PutsEnd format quiet outcomes results [] text × Appends old new text
 
 -- the lines that are written of a text in C, and how it ends: there are none of one that isn't judged
-abbrev pub lines_of : Session → List ℕ
-lines_of (session.Lines lines) = lines.items
-lines_of (session.Outside found) = []
+abbrev pub session_lines : Session → List ℕ
+session_lines (session.Lines lines) = lines.items
+session_lines (session.Outside found) = []
 
 abbrev pub ended_with : Session → Ended
 ended_with (session.Lines lines) = Well

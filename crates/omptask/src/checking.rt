@@ -1,7 +1,7 @@
 //! Files that are judged, or written as lines.
 ghost use Rattle.std.specs.Prelude.{◌≡◌};
 ghost use Rattle.omptask.specs.Faults.{ended_by, weight_of, worse_of};
-ghost use Rattle.omptask.specs.Asked.{format_of, is_c, is_cpp, kind_of};
+ghost use Rattle.omptask.specs.Asked.{format_of, is_c, is_cpp, kind_by_name};
 
 use crate::asked::{Check, Kind};
 use crate::ended::Ended;
@@ -195,7 +195,7 @@ fn is_cpp(name: &str) -> bool
 
 /// What a file of this name has.
 fn kind_of(name: &str) -> Kind
-    ensures { result ≡ kind_of name.now }
+    ensures { result ≡ kind_by_name name.now }
 {
     if is_c(name) {
         Kind::InC

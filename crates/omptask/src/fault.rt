@@ -1,6 +1,6 @@
 //! What the program tells of a fault.
 ghost use Rattle.std.specs.Prelude.{◌≡◌};
-ghost use Rattle.omptask.specs.Faults.{fault_of, fault_of_keep, fault_of_last, fault_of_session, line_of, want_for, want_text};
+ghost use Rattle.omptask.specs.Faults.{session_fault, fault_of_keep, fault_of_last, fault_of_session, line_of_fault, want_for, want_text};
 
 use crate::reaching::Cause;
 use ot_client_ask::AskFault;
@@ -102,7 +102,7 @@ pub fn want_text(want: Want) -> &'static str
 }
 
 impl From<AskFault> for Fault {
-    ghost from_gives = { λ fault f. f ≡ fault_of fault };
+    ghost from_gives = { λ fault f. f ≡ session_fault fault };
 
     fn from(fault: AskFault) -> Fault {
         match fault {
@@ -166,7 +166,7 @@ impl From<KeepFault> for Fault {
 /// The line that the program prints, without the line feed; behind that of a bad or a refused line stands its
 /// number, and behind that of a server that isn't reached the path and the cause.
 pub fn fault_line(fault: &Fault) -> &'static str
-    ensures { result.now ≡ line_of fault.now }
+    ensures { result.now ≡ line_of_fault fault.now }
 {
     match fault {
         Fault::Busy => "omptask: busy",

@@ -5,7 +5,7 @@ ghost use Rattle.std.specs.Io.KnownBytes.{Appends};
 ghost use Rattle.serde_json.specs.View.{view};
 ghost use Rattle.ot_model.specs.Programs.{arrays_of};
 ghost use Rattle.ot_file_diagnosis.specs.DiagnosisView.{diagnosis_by};
-ghost use Rattle.ot_file_judge.specs.Judging.{lines_in, with_end};
+ghost use Rattle.ot_file_judge.specs.Judging.{lines_of_file, with_end};
 ghost use Rattle.omptask.specs.Faults.{outcome_of};
 ghost use Rattle.omptask.specs.declared.ended.Ended.TheVariants.{Well};
 ghost use Rattle.omptask.specs.Judged as meant;
@@ -36,7 +36,7 @@ pub(crate) struct Judged {
 
 /// Writes the requests of a file, one a line.
 pub(crate) fn write_lines<W: Sink>(alloc: Global, text: &[u8], to: &mut W) -> Result<Ended, Fault>
-    ensures lines { OnOk result (Appends (W.contents to.old) (W.contents to.new) (flat_map with_end (lines_in text.now))) }
+    ensures lines { OnOk result (Appends (W.contents to.old) (W.contents to.new) (flat_map with_end (lines_of_file text.now))) }
     ensures ended { IfOk result (λ ended. ended ≡ Well) }
 {
     let Ok(lines) = lines_of(alloc, text) else {
@@ -48,7 +48,7 @@ pub(crate) fn write_lines<W: Sink>(alloc: Global, text: &[u8], to: &mut W) -> Re
 
 /// Writes the session that runs a text in C, where there is one.
 pub(crate) fn write_session<W: Sink>(session: &Session, to: &mut W) -> Result<Ended, Fault>
-    ensures lines { OnOk result (Appends (W.contents to.old) (W.contents to.new) (meant.lines_of session.now)) }
+    ensures lines { OnOk result (Appends (W.contents to.old) (W.contents to.new) (meant.session_lines session.now)) }
     ensures ended { IfOk result (λ ended. ended ≡ meant.ended_with session.now) }
 {
     let (lines, ended): (&[u8], Ended) = match session {
@@ -201,7 +201,7 @@ fn in_cpp(alloc: Global) -> Result<Diagnosis, AllocError>
 
 /// That a whole file isn't judged, in these words.
 fn of_file(alloc: Global, words: &str) -> Result<Diagnosis, AllocError>
-    ensures { IfOk result (λ found. diagnosis_by found ≡ meant.of_file words.now) }
+    ensures { IfOk result (λ found. diagnosis_by found ≡ meant.whole_file words.now) }
 {
     Ok(Diagnosis {
         severity: Severity::Error,
@@ -224,7 +224,7 @@ pub(crate) fn tell<W: Sink>(
     judged: &Judged,
     to: &mut W,
 ) -> Result<(), Fault>
-    ensures { OnOk result (meant.Tells format source.entry.name.now source.entry.text.now judged.now (W.contents to.old) (W.contents to.new)) }
+    ensures { OnOk result (meant.TellsJudged format source.entry.name.now source.entry.text.now judged.now (W.contents to.old) (W.contents to.new)) }
 {
     let mut out = Vec::new(alloc);
     match put_found(alloc, format, source, judged.found.as_slice(), &mut out) {

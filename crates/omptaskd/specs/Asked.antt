@@ -29,9 +29,9 @@ AsksFor entered (asked.Serve server) =
     (entered_name entered ≡ Some (codes "serve")) × IfSome (entered_rows entered) (λ rows. AsksToServe rows server)
 
 -- the numbers are in their ranges
-abbrev pub IsInRange : Words → Type 0
-IsInRange (asked.Serve server) = serving.IsInRange server
-IsInRange _ = ⊤
+abbrev pub HasNumbersInRange : Words → Type 0
+HasNumbersInRange (asked.Serve server) = serving.IsInRange server
+HasNumbersInRange _ = ⊤
 
 -- the words mean this, and can't be read for want of memory alone
 abbrev pub Means : Words → Result Words Error → Type 0

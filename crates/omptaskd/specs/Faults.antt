@@ -17,6 +17,6 @@ sim_fault sim.LongLine = of.LineTooLong
 sim_fault sim.TooManyTurns = of.TooManyReads
 
 -- the name of which a fault tells: the first that can't be a tenant's beside the others
-abbrev pub name_of : Words → Fault → Option (List ℕ)
-name_of (asked.Serve server) of.BadTenantName = first_bad (map string_bytes server.names.items)
-name_of words fault = None
+abbrev pub name_at_fault : Words → Fault → Option (List ℕ)
+name_at_fault (asked.Serve server) of.BadTenantName = first_bad (map string_bytes server.names.items)
+name_at_fault words fault = None

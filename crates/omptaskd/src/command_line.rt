@@ -2,7 +2,7 @@
 ghost use Rattle.std.specs.Prelude.{◌≡◌, ℕ, List, [], ◌∷◌, map, codes, IfOk};
 ghost use Rattle.clap.specs.Words.{FailsBy, app_of, fault_of, found_of, rows_of, subcommand_of, subcommand_rows_of};
 ghost use Rattle.ot_serve.specs.Serving as serving;
-ghost use Rattle.omptaskd.specs.Asked.{AsksFor, IsInRange, Means, AsksToServe};
+ghost use Rattle.omptaskd.specs.Asked.{AsksFor, HasNumbersInRange, Means, AsksToServe};
 ghost use Rattle.omptaskd.specs.Grammar.{program_words};
 
 use crate::asked::Words;
@@ -25,7 +25,7 @@ pub fn words(alloc: Global, given: &[&str]) -> Result<Words, Error>
     ensures asked { IfOk result (AsksFor (subcommand_of program_words (map (λ word. word.now) given.now))) }
 
     // The numbers of a server are in their ranges.
-    ensures range { IfOk result IsInRange }
+    ensures range { IfOk result HasNumbersInRange }
 
     ensures solo { (name : List ℕ)
         → map (λ word. word.now) given.now ≡ name ∷ codes "solo" ∷ []
@@ -42,7 +42,7 @@ pub fn words(alloc: Global, given: &[&str]) -> Result<Words, Error>
 /// What the matches ask for.
 fn asked_for(alloc: Global, matches: &ArgMatches<'_>) -> Result<Words, AllocError>
     ensures asked { IfOk result (AsksFor (subcommand_rows_of matches.now)) }
-    ensures range { IfOk result IsInRange }
+    ensures range { IfOk result HasNumbersInRange }
 {
     if let Some(found) = matches.subcommand_matches("serve") {
         let server = serve_of(alloc, found)?;

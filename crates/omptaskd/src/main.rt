@@ -6,7 +6,7 @@ ghost use Rattle.std.specs.Process.{exit_status};
 ghost use Rattle.clap.specs.Words.{kind_of};
 ghost use Rattle.ot_serve.specs.Serving.{status_of, IsInRange};
 ghost use Rattle.ot_serve.specs.Starting.{front_fault};
-ghost use Rattle.omptaskd.specs.Faults.{name_of, sim_fault};
+ghost use Rattle.omptaskd.specs.Faults.{name_at_fault, sim_fault};
 
 pub mod asked;
 pub mod command_line;
@@ -81,7 +81,7 @@ fn run<R: Input + Print + Eprint + Threads + Wait + Sync + Files + Net>(
 
 /// The name of which a fault tells, where it tells of one.
 fn name_of<'a>(asked: &'a Words, fault: &Fault) -> Option<&'a str>
-    ensures { option_map (λ name. name.now) result ≡ name_of asked.now fault.now }
+    ensures { option_map (λ name. name.now) result ≡ name_at_fault asked.now fault.now }
 {
     match (asked, fault) {
         (Words::Serve(server), Fault::BadTenantName) => bad_name(server.names.as_slice()),

@@ -8,10 +8,10 @@ use Rattle.ot_model.specs.Programs.{expanded_of}
 use Rattle.ot_model.specs.Serial.{State as RunState, serial_run, state_of}
 use Rattle.ot_check.specs.Jobs.{Spec, IsMeaning}
 use Rattle.ot_check.specs.declared.job.Outcome.{Outcome}
-use Rattle.ot_store.specs.Arrays.{Named, cells_in, recelled}
-use Rattle.ot_book.specs.Answers.{Told, Done, Runs, shown, finished}
+use Rattle.ot_store.specs.Arrays.{Named, cells_in, with_cells}
+use Rattle.ot_book.specs.Answers.{Told, Done, Runs, numbers_shown, step_done}
 use Rattle.ot_book.specs.ReplyView.{told_of}
-use Rattle.ot_book.specs.Books.{Register, state_in, next_step, appended}
+use Rattle.ot_book.specs.Books.{Register, state_in, next_step, register_with_line}
 use Rattle.ot_book.specs.BookView.{entries_of}
 use Rattle.ot_book.specs.declared.book.Entry.{Entry}
 use Rattle.ot_book.specs.declared.book.Pending.{Pending}
@@ -28,9 +28,9 @@ lengths-meaning spec o meaning =
 -- the book with the outcome of the line's program
 pub logged-done : (b : Register) (line : List ℕ) (spec : Spec) (o : Outcome) (shows : List (List ℕ)) →
     next_step b line ≡ Runs (expanded_of spec.checked.program) → spec.before ≡ cells_in b.store → IsMeaning spec o →
-    shows ≡ shown (expanded_of spec.checked.program).shows o.cells →
-    appended b line false ≡ record b {
-      store = recelled b.store o.cells;
+    shows ≡ numbers_shown (expanded_of spec.checked.program).shows o.cells →
+    register_with_line b line false ≡ record b {
+      store = with_cells b.store o.cells;
       log = b.log ++ (line, Done o.counts.tasks o.counts.units shows) ∷ [];
       pending = None;
       used = b.used + o.counts.units;
@@ -38,16 +38,16 @@ pub logged-done : (b : Register) (line : List ℕ) (spec : Spec) (o : Outcome) (
 logged-done b line spec o shows asks cells meaning shown_is =
     let p = expanded_of spec.checked.program in
     let done : RunState → Register = λ run. record b {
-      store = recelled b.store run.cells;
-      log = b.log ++ (line, Done run.tasks run.units (shown p.shows run.cells)) ∷ [];
+      store = with_cells b.store run.cells;
+      log = b.log ++ (line, Done run.tasks run.units (numbers_shown p.shows run.cells)) ∷ [];
       pending = None;
       used = b.used + run.units;
     } in
     let run_is : serial_run p.body (cells_in b.store) ≡ state_of o.cells o.counts = ap (serial_run p.body) (sym cells) ∙ sym meaning in
-    ap (λ step. placed b line (finished (state_in b) step)) asks
+    ap (λ step. placed b line (step_done (state_in b) step)) asks
     ∙ ap done run_is
     ∙ ap (λ lists. record b {
-      store = recelled b.store o.cells;
+      store = with_cells b.store o.cells;
       log = b.log ++ (line, Done o.counts.tasks o.counts.units lists) ∷ [];
       pending = None;
       used = b.used + o.counts.units;

@@ -13,23 +13,23 @@ use Rattle.ot_book.specs.Answers as r
 use Rattle.ot_book.specs.Faults.{told_by_check}
 use Rattle.ot_book.specs.Considering.{ComesToAnswer}
 use Rattle.ot_book.specs.declared.told.Told.{Told}
-use Rattle.ot_book.specs.Answers.{Now, Runs, judged, started}
+use Rattle.ot_book.specs.Answers.{Now, Runs, offence_step, program_step}
 
 -- a program in which nothing offends is run
 pub started-runs : (arrays : List Named) (read : Result Expanded Refusal) (p : Expanded) → FirstOffenceIsFirst → read ≡ Ok p →
-    IsFirstOf (Offends p.body) None → started arrays read ≡ Runs p
+    IsFirstOf (Offends p.body) None → program_step arrays read ≡ Runs p
 started-runs arrays read p law is first =
-    ap (started arrays) is ∙ ap (judged arrays p) (sym ((law p.body).1 None first))
+    ap (program_step arrays) is ∙ ap (offence_step arrays p) (sym ((law p.body).1 None first))
 
 -- the first offence of a program is told
 pub started-offends : (arrays : List Named) (read : Result Expanded Refusal) (p : Expanded) (offence : Offence) (place : ℕ) → FirstOffenceIsFirst → read ≡ Ok p →
-    IsFirstOf (Offends p.body) (Some (place, offence)) → started arrays read ≡ Now (r.Offends (code_of offence) place) arrays
+    IsFirstOf (Offends p.body) (Some (place, offence)) → program_step arrays read ≡ Now (r.Offends (code_of offence) place) arrays
 started-offends arrays read p offence place law is first =
-    ap (started arrays) is ∙ ap (judged arrays p) (sym ((law p.body).1 (Some (place, offence)) first))
+    ap (program_step arrays) is ∙ ap (offence_step arrays p) (sym ((law p.body).1 (Some (place, offence)) first))
 
 -- what is told where a check fails: memory ran out, or the first offence
 pub started-fails : (A : Type 0) (arrays : List Named) (read : Result Expanded Refusal) (p : Expanded) (f : CheckFault) → FirstOffenceIsFirst → read ≡ Ok p →
-    TellsFirst {A = A} (Offends p.body) (Err f) → ComesToAnswer (started arrays read) arrays arrays (told_by_check f)
+    TellsFirst {A = A} (Offends p.body) (Err f) → ComesToAnswer (program_step arrays read) arrays arrays (told_by_check f)
 started-fails A arrays read p fault.Memory law is told = inl (refl, refl)
 started-fails A arrays read p (fault.Offence offence place) law is told = inr (started-offends arrays read p offence place law is told)
 

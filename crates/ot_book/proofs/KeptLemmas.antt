@@ -15,7 +15,7 @@ use Rattle.ot_book.specs.BookView.{register_of, HasRoomForReply, IsBook}
 use Rattle.ot_book.specs.declared.book.Pending.{Pending}
 use Rattle.ot_book.specs.declared.book.Book.TheInside.{Inside}
 use Rattle.ot_book.specs.Readings.{Reading, IsReading}
-use Rattle.ot_book.specs.Answers.{Step, Now, Runs, changed, fetched, judged, started, asked, parsed, value_of, step_of, is_checkpoint}
+use Rattle.ot_book.specs.Answers.{Step, Now, Runs, change_step, cells_step, offence_step, program_step, request_step, parse_step, value_of, step_of, is_checkpoint}
 use Rattle.ot_book.proofs.BookLemmas.{runs-other}
 use Rattle.ot_book.proofs.CloseLemmas.{numbers-from}
 use Rattle.serde_json.specs.Data.{Data}
@@ -23,44 +23,44 @@ use Rattle.ot_program.specs.Programs.{program_of}
 use Rattle.ot_program.specs.declared.fault.Refusal.{Refusal}
 use Rattle.ot_check.specs.Laws.{first_offence}
 use Rattle.ot_check.specs.declared.fault.Offence.{Offence}
-use Rattle.ot_store.specs.Arrays.{Named, created, freed, put, got, cells_in, shape_in}
+use Rattle.ot_store.specs.Arrays.{Named, array_created, array_freed, numbers_put, got, cells_in, shape_in}
 use Rattle.ot_store.specs.declared.fault.StoreRefusal.{StoreRefusal}
 use Rattle.ot_store.specs.declared.limits.Limits.{Limits}
 use Rattle.ot_book.specs.Requests.{Request, New, Free, Put, Get, Arrays, Used, Checkpoint, Run, request_of}
 
 -- Whether a line runs a program, and which, is told by what it may name: neither the arrays' cells nor the used units nor
 -- the other limits change it.
-judged-over : (a b : List Named) (q p : Expanded) (o : Option (ℕ × Offence)) → judged a q o ≡ Runs p → judged b q o ≡ Runs p
+judged-over : (a b : List Named) (q p : Expanded) (o : Option (ℕ × Offence)) → offence_step a q o ≡ Runs p → offence_step b q o ≡ Runs p
 judged-over a b q p None is = is
 judged-over a b q p (Some first) is = cc
 
-started-over : (a b : List Named) (read : Result Expanded Refusal) (p : Expanded) → started a read ≡ Runs p → started b read ≡ Runs p
+started-over : (a b : List Named) (read : Result Expanded Refusal) (p : Expanded) → program_step a read ≡ Runs p → program_step b read ≡ Runs p
 started-over a b (Ok q) p is = judged-over a b q p (first_offence q.body) is
 started-over a b (Err refusal) p is = cc
 
-changed-never : (arrays : List Named) (r : Result (List Named) StoreRefusal) (p : Expanded) → changed arrays r ≡ Runs p → ⊥
+changed-never : (arrays : List Named) (r : Result (List Named) StoreRefusal) (p : Expanded) → change_step arrays r ≡ Runs p → ⊥
 changed-never arrays (Ok new) p is = cc
 changed-never arrays (Err refusal) p is = cc
 
-fetched-never : (arrays : List Named) (r : Result (List ℕ) StoreRefusal) (p : Expanded) → fetched arrays r ≡ Runs p → ⊥
+fetched-never : (arrays : List Named) (r : Result (List ℕ) StoreRefusal) (p : Expanded) → cells_step arrays r ≡ Runs p → ⊥
 fetched-never arrays (Ok values) p is = cc
 fetched-never arrays (Err refusal) p is = cc
 
 asked-over : (l m : Limits) (a b : List Named) (u v : ℕ) (o : Option Request) (p : Expanded) → shape_in l a ≡ shape_in m b →
-    asked l a u o ≡ Runs p → asked m b v o ≡ Runs p
+    request_step l a u o ≡ Runs p → request_step m b v o ≡ Runs p
 asked-over l m a b u v None p same is = cc
-asked-over l m a b u v (Some (New name len)) p same is = absurd (changed-never a (created name len l a) p is)
-asked-over l m a b u v (Some (Free name)) p same is = absurd (changed-never a (freed name a) p is)
-asked-over l m a b u v (Some (Put name start values)) p same is = absurd (changed-never a (put name start values a) p is)
+asked-over l m a b u v (Some (New name len)) p same is = absurd (changed-never a (array_created name len l a) p is)
+asked-over l m a b u v (Some (Free name)) p same is = absurd (changed-never a (array_freed name a) p is)
+asked-over l m a b u v (Some (Put name start values)) p same is = absurd (changed-never a (numbers_put name start values a) p is)
 asked-over l m a b u v (Some (Get name start len)) p same is = absurd (fetched-never a (got name start len a) p is)
 asked-over l m a b u v (Some Arrays) p same is = cc
 asked-over l m a b u v (Some Used) p same is = cc
 asked-over l m a b u v (Some Checkpoint) p same is = cc
 asked-over l m a b u v (Some (Run text)) p same is =
-    started-over a b (program_of (shape_in m b) text) p (subst (λ s. started a (program_of s text) ≡ Runs p) same is)
+    started-over a b (program_of (shape_in m b) text) p (subst (λ s. program_step a (program_of s text) ≡ Runs p) same is)
 
 parsed-over : (l m : Limits) (a b : List Named) (u v : ℕ) (d : Option Data) (p : Expanded) → shape_in l a ≡ shape_in m b →
-    parsed l a u d ≡ Runs p → parsed m b v d ≡ Runs p
+    parse_step l a u d ≡ Runs p → parse_step m b v d ≡ Runs p
 parsed-over l m a b u v None p same is = cc
 parsed-over l m a b u v (Some d) p same is = asked-over l m a b u v (request_of d) p same is
 

@@ -5,9 +5,9 @@ use Rattle.std.proofs.lemmas.Option.{slice_get-map, slice_get-get_or}
 use Rattle.std.proofs.Math.ListN.{length-map}
 use Rattle.std.proofs.lemmas.List.{map-append}
 use Rattle.ot_store.specs.Arrays.{Named}
-use Rattle.ot_book.specs.Answers.{Told, Accepted, Lost, State, Now, finished, is_checkpoint}
+use Rattle.ot_book.specs.Answers.{Told, Accepted, Lost, State, Now, step_done, is_checkpoint}
 use Rattle.ot_book.specs.ReplyView.{told_of}
-use Rattle.ot_book.specs.Books.{Register, state_in, IsRight, number_at, next_number, max_number, next_step, appended, cleared, reply_at, IsFull, AnswersNow}
+use Rattle.ot_book.specs.Books.{Register, state_in, IsRight, number_at, next_number, max_number, next_step, register_with_line, log_cleared, reply_at, IsFull, AnswersNow}
 use Rattle.ot_book.specs.BookView.{entries_of, register_of, IsBook}
 use Rattle.ot_book.specs.declared.book.Entry.{Entry}
 use Rattle.ot_book.specs.declared.book.Pending.{Pending}
@@ -20,8 +20,8 @@ placed b line a = record b { store = a.1.arrays; log = b.log ++ (line, a.0) ∷ 
 
 -- a line that is answered at once
 pub logged-now : (b : Register) (line : List ℕ) (told : Told) (arrays : List Named) → next_step b line ≡ Now told arrays →
-    appended b line false ≡ record b { store = arrays; log = b.log ++ (line, told) ∷ []; pending = None }
-logged-now b line told arrays is = ap (λ step. placed b line (finished (state_in b) step)) is
+    register_with_line b line false ≡ record b { store = arrays; log = b.log ++ (line, told) ∷ []; pending = None }
+logged-now b line told arrays is = ap (λ step. placed b line (step_done (state_in b) step)) is
 
 pub answered-now : (b : Register) (line : List ℕ) (told : Told) (arrays : List Named) → b.pending ≡ None → is_checkpoint line ≡ false →
     (((told ≡ Lost) × (arrays ≡ b.store)) ⊎ (next_step b line ≡ Now told arrays)) →
@@ -65,7 +65,7 @@ not_last b checkpoint h =
     omega (arith, below, length-entries_of b.log.items, b.log.ok.0)
 
 -- a book with one line more is one
-pub book-appended : (b new : Inside) (line : List ℕ) (memory : Bool) → IsBook b → register_of new ≡ appended (register_of b) line memory →
+pub book-appended : (b new : Inside) (line : List ℕ) (memory : Bool) → IsBook b → register_of new ≡ register_with_line (register_of b) line memory →
     vec_len new.log ≡ vec_len b.log + 1 → b.first + vec_len b.log < 2 ^ 32 → new.used ≤ b.used + (2 ^ 32 - 1) → new.pending ≡ None → IsBook new
 book-appended b new line memory h is count few used closed =
     let first : new.first ≡ b.first = ap (λ (r : Register). r.first) is in record {
@@ -77,12 +77,12 @@ book-appended b new line memory h is count few used closed =
     }
 
 -- a book that begins anew with a checkpoint is one
-pub book-anew : (b new : Inside) (line : List ℕ) → IsBook b → register_of new ≡ appended (cleared (register_of b)) line false →
+pub book-anew : (b new : Inside) (line : List ℕ) → IsBook b → register_of new ≡ register_with_line (log_cleared (register_of b)) line false →
     vec_len new.log ≡ 1 → b.first + vec_len b.log < 2 ^ 32 → new.used ≡ b.used → new.pending ≡ None → IsBook new
 book-anew b new line h is count few used closed =
     let first : new.first ≡ b.first + length (entries_of b.log.items) = ap (λ (r : Register). r.first) is in
     let len : length (entries_of b.log.items) ≡ vec_len b.log = omega (arith, length-entries_of b.log.items, b.log.ok.0) in record {
-      right = subst IsRight (sym is) (right-appended (cleared (register_of b)) line false (right-cleared (register_of b)));
+      right = subst IsRight (sym is) (right-appended (log_cleared (register_of b)) line false (right-cleared (register_of b)));
       one = omega (arith, h.one, first);
       few = omega (arith, few, first, count, len);
       used = omega (arith, h.used, used, count, first, len);
@@ -106,10 +106,10 @@ reply_at-entry b place e n inside is count =
 -- a log that begins with a checkpoint
 pub anew-is : (b : Register) (line : List ℕ) (base : List Named) (log : List (List ℕ × Told)) (first : ℕ) → b.pending ≡ None → is_checkpoint line ≡ true →
     base ≡ b.store → log ≡ (line, Accepted) ∷ [] → first ≡ next_number b →
-    record b { base = base; log = log; first = first; base_used = b.used } ≡ appended (cleared b) line false
+    record b { base = base; log = log; first = first; base_used = b.used } ≡ register_with_line (log_cleared b) line false
 anew-is b line base log first closed asks base_is log_is first_is =
     ap (λ x. record b { base = x; log = log; first = first; base_used = b.used }) base_is
     ∙ ap (λ x. record b { base = b.store; log = x; first = first; base_used = b.used }) log_is
     ∙ ap (λ x. record b { base = b.store; log = (line, Accepted) ∷ []; first = x; base_used = b.used }) first_is
     ∙ ap (λ x. record b { base = b.store; log = (line, Accepted) ∷ []; first = next_number b; base_used = b.used; pending = x }) closed
-    ∙ sym (ap (λ step. placed (cleared b) line (finished (state_in (cleared b)) step)) (checkpoint-step b.limits b.store b.used line asks))
+    ∙ sym (ap (λ step. placed (log_cleared b) line (step_done (state_in (log_cleared b)) step)) (checkpoint-step b.limits b.store b.used line asks))

@@ -4,7 +4,7 @@ use Rattle.std.specs.Prelude.{Some, None, nat_le, if◌then◌else◌, slice_get
 use Rattle.std.proofs.lemmas.Bool.{le-leb}
 use Rattle.std.proofs.lemmas.Bool.Decides.{leb_tells}
 use Rattle.ot_book.specs.Answers.{is_checkpoint, answer_or_lost}
-use Rattle.ot_book.specs.Books.{Register, next_number, max_number, state_in, logged, IsFullFor}
+use Rattle.ot_book.specs.Books.{Register, next_number, max_number, state_in, line_logged, IsFullFor}
 use Rattle.ot_book.specs.Room.{Room, room_in, takes, with_entry, room_after, TakesAll}
 use Rattle.ot_book.proofs.BookLemmas.{logged-by}
 
@@ -13,7 +13,7 @@ use Rattle.ot_book.proofs.BookLemmas.{logged-by}
 abbrev entries_by : ℕ → Bool → ℕ
 entries_by n checkpoint = if checkpoint then 1 else n + 1
 
-pub room-logged : (b : Register) (line : List ℕ) (memory : Bool) → room_in (logged b line memory) ≡ with_entry (room_in b) line
+pub room-logged : (b : Register) (line : List ℕ) (memory : Bool) → room_in (line_logged b line memory) ≡ with_entry (room_in b) line
 room-logged b line memory =
     logged-by (λ r. room_in r ≡ with_entry (room_in b) line) b line memory (is_checkpoint line) refl
     (λ is. let next : next_number b + 1 ≡ next_number b + 1 = refl in

@@ -8,7 +8,7 @@ use Rattle.std.proofs.lemmas.Option.{slice_get-map, slice_get-get_or, slice_get_
 use Rattle.ot_model.specs.Cells.{lengths}
 use Rattle.ot_model.specs.Names.{FitsShape}
 use Rattle.ot_model.specs.declared.expr.Section.{Section}
-use Rattle.ot_book.specs.Answers.{shown}
+use Rattle.ot_book.specs.Answers.{numbers_shown}
 
 abbrev pub shown_one : List (List ℕ) → Section → List ℕ
 shown_one cells s = slice_range (unwrap_or (slice_get cells s.array) []) s.start (s.start + s.len)
@@ -16,8 +16,8 @@ shown_one cells s = slice_range (unwrap_or (slice_get cells s.array) []) s.start
 -- the list at i was overwritten by its section
 pub shown-more : {V : Type 0} (items : V → List ℕ) (lists : List V) (i : ℕ) (v : V) (sections : List Section) (cells : List (List ℕ)) (s : Section) →
     i < length lists → i < length sections → s ≡ get_or sections i s → items v ≡ shown_one cells s →
-    take i (map items lists) ≡ shown (take i sections) cells →
-    take (i + 1) (map items (set lists i v)) ≡ shown (take (i + 1) sections) cells
+    take i (map items lists) ≡ numbers_shown (take i sections) cells →
+    take (i + 1) (map items (set lists i v)) ≡ numbers_shown (take (i + 1) sections) cells
 shown-more items lists i v sections cells s below inside is one before =
     let within_items : i < length (map items lists) = omega (arith, length-map lists items) in
     let next : i + 1 ≡ suc i = omega arith in
@@ -25,10 +25,10 @@ shown-more items lists i v sections cells s below inside is one before =
     ∙ ap (take (suc i)) (map-set items lists i v)
     ∙ take-suc-set (map items lists) i (items v) within_items
     ∙ ap (λ front. front ++ items v ∷ []) before
-    ∙ ap (λ y. shown (take i sections) cells ++ y ∷ []) (one ∙ ap (shown_one cells) is)
+    ∙ ap (λ y. numbers_shown (take i sections) cells ++ y ∷ []) (one ∙ ap (shown_one cells) is)
     ∙ sym (map-append (shown_one cells) (take i sections) (get_or sections i s ∷ []))
-    ∙ ap (λ front. shown front cells) (sym (take-suc sections i s inside))
-    ∙ ap (λ n. shown (take n sections) cells) (sym next)
+    ∙ ap (λ front. numbers_shown front cells) (sym (take-suc sections i s inside))
+    ∙ ap (λ n. numbers_shown (take n sections) cells) (sym next)
 
 -- each section fits the array that it shows
 row_from : (o : Option (List ℕ)) (len : ℕ) (row : List ℕ) → option_map length o ≡ Some len → o ≡ Some row → length row ≡ len

@@ -12,7 +12,7 @@ use Rattle.ot_program.specs.declared.fault.Refusal.{Refusal}
 use Rattle.ot_check.specs.Laws.{first_offence}
 use Rattle.ot_check.specs.Offences as check
 use Rattle.ot_check.specs.declared.fault.Offence.{Offence}
-use Rattle.ot_store.specs.Arrays.{Named, created, freed, put, got, listed, cells_in, recelled, shape_in}
+use Rattle.ot_store.specs.Arrays.{Named, array_created, array_freed, numbers_put, got, arrays_listed, cells_in, with_cells, shape_in}
 use Rattle.ot_store.specs.Refusals as store
 use Rattle.ot_store.specs.declared.fault.StoreRefusal.{StoreRefusal}
 use Rattle.ot_store.specs.declared.limits.Limits.{Limits}
@@ -50,8 +50,8 @@ abbrev pub nats : List ℕ → Data
 nats ns = array (items_of (map nat ns))
 
 -- a name with a length
-abbrev pub sized : List ℕ × ℕ → Data
-sized a = array (item (string a.0) (item (nat a.1) no_items))
+abbrev pub name_and_length : List ℕ × ℕ → Data
+name_and_length a = array (item (string a.0) (item (nat a.1) no_items))
 
 abbrev pub refusal : ℕ → ℕ → Data
 refusal n code = array (item (string (codes "err")) (item (nat n) (item (nat code) no_items)))
@@ -61,7 +61,7 @@ refusal n code = array (item (string (codes "err")) (item (nat n) (item (nat cod
 abbrev pub json_of : ℕ → Told → Data
 json_of n Accepted = array (item (string (codes "ok")) (item (nat n) no_items))
 json_of n (Cells values) = array (item (string (codes "cells")) (item (nat n) (item (nats values) no_items)))
-json_of n (Arrays arrays) = array (item (string (codes "arrays")) (item (nat n) (item (array (items_of (map sized arrays))) no_items)))
+json_of n (Arrays arrays) = array (item (string (codes "arrays")) (item (nat n) (item (array (items_of (map name_and_length arrays))) no_items)))
 json_of n (Used units) = array (item (string (codes "used")) (item (nat n) (item (nat units) no_items)))
 json_of n (Done tasks units shows) =
     array (item (string (codes "done")) (item (nat n) (item (nat tasks) (item (nat units) (item (array (items_of (map nats shows))) no_items)))))
@@ -95,43 +95,43 @@ abbrev pub is_run : Step → Bool
 is_run (Now told arrays) = false
 is_run (Runs program) = true
 
-abbrev pub changed : List Named → Result (List Named) StoreRefusal → Step
-changed arrays (Ok new) = Now Accepted new
-changed arrays (Err refusal) = Now (Refused (store.code_of refusal)) arrays
+abbrev pub change_step : List Named → Result (List Named) StoreRefusal → Step
+change_step arrays (Ok new) = Now Accepted new
+change_step arrays (Err refusal) = Now (Refused (store.code_of refusal)) arrays
 
-abbrev pub fetched : List Named → Result (List ℕ) StoreRefusal → Step
-fetched arrays (Ok values) = Now (Cells values) arrays
-fetched arrays (Err refusal) = Now (Refused (store.code_of refusal)) arrays
+abbrev pub cells_step : List Named → Result (List ℕ) StoreRefusal → Step
+cells_step arrays (Ok values) = Now (Cells values) arrays
+cells_step arrays (Err refusal) = Now (Refused (store.code_of refusal)) arrays
 
 -- a program is run where nothing in it is an offence; otherwise its first offence is told
-abbrev pub judged : List Named → Expanded → Option (ℕ × Offence) → Step
-judged arrays p None = Runs p
-judged arrays p (Some first) = Now (Offends (check.code_of first.1) first.0) arrays
+abbrev pub offence_step : List Named → Expanded → Option (ℕ × Offence) → Step
+offence_step arrays p None = Runs p
+offence_step arrays p (Some first) = Now (Offends (check.code_of first.1) first.0) arrays
 
 -- What `first_offence` is says `first_offence_is_first` of ot_check: the first of the offences on the
 -- paths of the body, and no other value.
-abbrev pub started : List Named → Result Expanded Refusal → Step
-started arrays (Ok p) = judged arrays p (first_offence p.body)
-started arrays (Err refusal) = Now (Refused (program.code_of refusal)) arrays
+abbrev pub program_step : List Named → Result Expanded Refusal → Step
+program_step arrays (Ok p) = offence_step arrays p (first_offence p.body)
+program_step arrays (Err refusal) = Now (Refused (program.code_of refusal)) arrays
 
 -- what a request does to these arrays, after done replies of so many units
-abbrev pub performed : Limits → List Named → ℕ → r.Request → Step
-performed limits arrays used (r.New name len) = changed arrays (created name len limits arrays)
-performed limits arrays used (r.Free name) = changed arrays (freed name arrays)
-performed limits arrays used (r.Put name start values) = changed arrays (put name start values arrays)
-performed limits arrays used (r.Get name start len) = fetched arrays (got name start len arrays)
-performed limits arrays used r.Arrays = Now (Arrays (listed arrays)) arrays
-performed limits arrays used r.Used = Now (Used used) arrays
-performed limits arrays used r.Checkpoint = Now Accepted arrays
-performed limits arrays used (r.Run text) = started arrays (program_of (shape_in limits arrays) text)
+abbrev pub perform_step : Limits → List Named → ℕ → r.Request → Step
+perform_step limits arrays used (r.New name len) = change_step arrays (array_created name len limits arrays)
+perform_step limits arrays used (r.Free name) = change_step arrays (array_freed name arrays)
+perform_step limits arrays used (r.Put name start values) = change_step arrays (numbers_put name start values arrays)
+perform_step limits arrays used (r.Get name start len) = cells_step arrays (got name start len arrays)
+perform_step limits arrays used r.Arrays = Now (Arrays (arrays_listed arrays)) arrays
+perform_step limits arrays used r.Used = Now (Used used) arrays
+perform_step limits arrays used r.Checkpoint = Now Accepted arrays
+perform_step limits arrays used (r.Run text) = program_step arrays (program_of (shape_in limits arrays) text)
 
-abbrev pub asked : Limits → List Named → ℕ → Option r.Request → Step
-asked limits arrays used None = Now (Refused 411) arrays
-asked limits arrays used (Some request) = performed limits arrays used request
+abbrev pub request_step : Limits → List Named → ℕ → Option r.Request → Step
+request_step limits arrays used None = Now (Refused 411) arrays
+request_step limits arrays used (Some request) = perform_step limits arrays used request
 
-abbrev pub parsed : Limits → List Named → ℕ → Option Data → Step
-parsed limits arrays used None = Now (Refused 410) arrays
-parsed limits arrays used (Some d) = asked limits arrays used (r.request_of d)
+abbrev pub parse_step : Limits → List Named → ℕ → Option Data → Step
+parse_step limits arrays used None = Now (Refused 410) arrays
+parse_step limits arrays used (Some d) = request_step limits arrays used (r.request_of d)
 
 -- the value of a line, where it is JSON in UTF-8
 abbrev pub value_of : List ℕ → Option Data
@@ -143,32 +143,32 @@ is_checkpoint line = r.asks_checkpoint (option_and_then r.request_of (value_of l
 
 -- what a line does
 abbrev pub step_of : Limits → List Named → ℕ → List ℕ → Step
-step_of limits arrays used line = parsed limits arrays used (value_of line)
+step_of limits arrays used line = parse_step limits arrays used (value_of line)
 
 -- the numbers of each section
-abbrev pub shown : List Section → List (List ℕ) → List (List ℕ)
-shown shows cells = map (λ s. slice_range (unwrap_or (slice_get cells s.array) []) s.start (s.start + s.len)) shows
+abbrev pub numbers_shown : List Section → List (List ℕ) → List (List ℕ)
+numbers_shown shows cells = map (λ s. slice_range (unwrap_or (slice_get cells s.array) []) s.start (s.start + s.len)) shows
 
 -- A program is executed from the arrays, each task where it is created. The sections are shown as
 -- they are after it.
-abbrev pub finished : State → Step → Told × State
-finished s (Now told arrays) = (told, record { arrays = arrays; next = s.next + 1; used = s.used })
-finished s (Runs p) =
+abbrev pub step_done : State → Step → Told × State
+step_done s (Now told arrays) = (told, record { arrays = arrays; next = s.next + 1; used = s.used })
+step_done s (Runs p) =
     let run = serial_run p.body (cells_in s.arrays) in (
-      Done run.tasks run.units (shown p.shows run.cells),
-      record { arrays = recelled s.arrays run.cells; next = s.next + 1; used = s.used + run.units },
+      Done run.tasks run.units (numbers_shown p.shows run.cells),
+      record { arrays = with_cells s.arrays run.cells; next = s.next + 1; used = s.used + run.units },
     )
 
 -- one request: what is told, and the state after it
 abbrev pub answer : Limits → State → List ℕ → Told × State
-answer limits s line = finished s (step_of limits s.arrays s.used line)
+answer limits s line = step_done s (step_of limits s.arrays s.used line)
 
 -- the answer for want of memory, and the state after it
-abbrev pub lost : State → Told × State
-lost s = (Lost, record s { next = s.next + 1 })
+abbrev pub loss_told : State → Told × State
+loss_told s = (Lost, record s { next = s.next + 1 })
 
 abbrev pub answer_or_lost : Limits → State → List ℕ → Bool → Told × State
-answer_or_lost limits s line true = lost s
+answer_or_lost limits s line true = loss_told s
 answer_or_lost limits s line false = answer limits s line
 
 -- The answers to lines, and the state after them. Beside each line stands whether it was answered
@@ -190,13 +190,13 @@ AnswersGoOn = (limits : Limits) (s : State) (xs ys : List (List ℕ × Bool)) �
     )
 
 -- what is told, with the numbers of the requests, of which the first has this number
-abbrev pub numbered : ℕ → List Told → List (ℕ × Told)
-numbered n [] = []
-numbered n (told ∷ more) = (n, told) ∷ numbered (n + 1) more
+abbrev pub told_with_numbers : ℕ → List Told → List (ℕ × Told)
+told_with_numbers n [] = []
+told_with_numbers n (told ∷ more) = (n, told) ∷ told_with_numbers (n + 1) more
 
 -- the replies to lines from a state on
 abbrev pub replies : Limits → State → List (List ℕ × Bool) → List (ℕ × Told)
-replies limits s lines = numbered s.next (answers limits s lines).0
+replies limits s lines = told_with_numbers s.next (answers limits s lines).0
 
 -- the same of replies
 abbrev pub RepliesGoOn : Type 0

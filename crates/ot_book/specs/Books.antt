@@ -67,23 +67,23 @@ abbrev pub next_step : Register → List ℕ → Step
 next_step b line = step_of b.limits b.store b.used line
 
 -- the book with the line behind its log, answered as the next request or for want of memory
-abbrev pub appended : Register → List ℕ → Bool → Register
-appended b line memory =
+abbrev pub register_with_line : Register → List ℕ → Bool → Register
+register_with_line b line memory =
     let a = answer_or_lost b.limits (state_in b) line memory in
     record b { store = a.1.arrays; log = b.log ++ (line, a.0) ∷ []; pending = None; used = a.1.used }
 
 -- the book with a log that begins at its present state
-abbrev pub cleared : Register → Register
-cleared b = record b { base = b.store; base_used = b.used; first = next_number b; log = [] }
+abbrev pub log_cleared : Register → Register
+log_cleared b = record b { base = b.store; base_used = b.used; first = next_number b; log = [] }
 
 -- The book with the line answered. A checkpoint is answered as other lines are, and the log begins with it. It is never
 -- answered for want of memory.
-abbrev pub logged : Register → List ℕ → Bool → Register
-logged b line memory = if is_checkpoint line then appended (cleared b) line memory else appended b line memory
+abbrev pub line_logged : Register → List ℕ → Bool → Register
+line_logged b line memory = if is_checkpoint line then register_with_line (log_cleared b) line memory else register_with_line b line memory
 
 -- the book with the line's request open
-abbrev pub opened : Register → List ℕ → Register
-opened b line = record b { pending = Some line }
+abbrev pub request_opened : Register → List ℕ → Register
+request_opened b line = record b { pending = Some line }
 
 -- the line of the open request
 abbrev pub open_line : Register → List ℕ
@@ -94,12 +94,12 @@ abbrev pub open_step : Register → Step
 open_step b = next_step b (open_line b)
 
 -- the book with its open request answered
-abbrev pub closed : Register → Register
-closed b = logged b (open_line b) false
+abbrev pub request_closed : Register → Register
+request_closed b = line_logged b (open_line b) false
 
 -- the book with its open request answered for want of memory
-abbrev pub refused : Register → Register
-refused b = logged b (open_line b) true
+abbrev pub request_refused : Register → Register
+request_refused b = line_logged b (open_line b) true
 
 -- the book with its open request given up
 abbrev pub given_up : Register → Register
@@ -124,11 +124,11 @@ IsFullFor b line = IsFull b (is_checkpoint line)
 -- the line is answered at once: it runs no program, or memory ran out, but never for a checkpoint
 pub record AnswersNow (b : Register) (line : List ℕ) (new : Register) : Type 0 where
   pub memory : Bool
-  pub new_is : new ≡ logged b line memory
+  pub new_is : new ≡ line_logged b line memory
   pub never : is_checkpoint line ≡ true → memory ≡ false
   pub at_once : (memory ≡ true) ⊎ ((told : Told) × (arrays : List Named) × (next_step b line ≡ Now told arrays))
 
 abbrev pub OpensLine : Register → List ℕ → Register → Opened → Type 0
 OpensLine b line new Full = IsFullFor b line × (new ≡ b)
 OpensLine b line new Answered = (¬ (IsFullFor b line)) × AnswersNow b line new
-OpensLine b line new (ToRun spec) = (¬ (IsFullFor b line)) × (new ≡ opened b line) × IsOpenFor new spec
+OpensLine b line new (ToRun spec) = (¬ (IsFullFor b line)) × (new ≡ request_opened b line) × IsOpenFor new spec

@@ -2,7 +2,7 @@
 use Rattle.std.specs.Prelude.{ℕ, ◌+◌, ◌≡◌, List, [], ◌∷◌, length, nat_le, Bool, true, false, if◌then◌else◌, None, ◌↔◌}
 use Rattle.ot_store.specs.declared.limits.Limits.{Limits}
 use Rattle.ot_book.specs.Answers.{is_checkpoint}
-use Rattle.ot_book.specs.Books.{Register, next_number, max_number, logged, IsFullFor}
+use Rattle.ot_book.specs.Books.{Register, next_number, max_number, line_logged, IsFullFor}
 
 -- the limit of the log, how many entries it has, and the number of the next request
 pub record Room : Type 0 where
@@ -37,7 +37,7 @@ TakesAll r (line ∷ lines) = (takes r line ≡ true) × TakesAll (with_entry r 
 
 -- The room of a book after a line is that of the book before it with the line counted, whatever was told.
 abbrev pub RoomGoesOn : Type 0
-RoomGoesOn = (b : Register) (line : List ℕ) (memory : Bool) → room_in (logged b line memory) ≡ with_entry (room_in b) line
+RoomGoesOn = (b : Register) (line : List ℕ) (memory : Bool) → room_in (line_logged b line memory) ≡ with_entry (room_in b) line
 
 -- A book without an open request takes a line exactly where it isn't full for it.
 abbrev pub TakesWhereFree : Type 0

@@ -1,7 +1,7 @@
 ghost use Rattle.std.specs.Prelude.{◌≡◌, ◌+◌, ◌≤◌, map, length, vec_len, slice_range, All, ◌↔◌, ◌<◌, ◌^◌, true, false, IfOk, OnOk, OnErr, IsTrue, IsSome, option_map, Some, IfSome};
 ghost use Rattle.ot_model.specs.Cells.{lengths};
 ghost use Rattle.ot_model.specs.Names.{FitsShape};
-ghost use Rattle.ot_book.specs.Answers.{shown, value_of, is_checkpoint};
+ghost use Rattle.ot_book.specs.Answers.{numbers_shown, value_of, is_checkpoint};
 ghost use Rattle.ot_book.specs.Readings.{IsReading};
 
 use crate::kept::Kept;
@@ -78,7 +78,7 @@ pub enum Opened {
 
 impl Book {
     ghost use Rattle.ot_check.specs.Jobs.{IsMeaning};
-    ghost use Rattle.ot_book.specs.Books.{IsRight, IsOpenFor, new_register, number_at, next_number, reply_at, logged, closed, refused, given_up, OpensLine, IsFull};
+    ghost use Rattle.ot_book.specs.Books.{IsRight, IsOpenFor, new_register, number_at, next_number, reply_at, line_logged, request_closed, request_refused, given_up, OpensLine, IsFull};
     ghost use Rattle.ot_book.specs.ReplyView.{reply_of};
     ghost use Rattle.ot_book.specs.BookView.{entries_of};
     ghost use Rattle.serde_json.specs.View.{view};
@@ -327,7 +327,7 @@ impl Book {
     fn begin_anew(&mut self, alloc: Global, line: &[u8]) -> Result<(), AllocError>
         requires free { ¬ (IsFull self.old true) }
         requires checkpoint { is_checkpoint line.now ≡ true }
-        ensures anew { OnOk result (self.new ≡ logged self.old line.now false) }
+        ensures anew { OnOk result (self.new ≡ line_logged self.old line.now false) }
         ensures memory { OnErr result (self.new ≡ self.old) }
     {
         let line = Vec::from_slice(alloc, line)?;
@@ -347,7 +347,7 @@ impl Book {
     pub fn close(&mut self, spec: JobSpec, outcome: Outcome)
         requires open { IsOpenFor self.old spec }
         requires meaning { IsMeaning spec outcome }
-        ensures { self.new ≡ closed self.old }
+        ensures { self.new ≡ request_closed self.old }
     {
         let Some(pending) = self.pending.take() else {
             unreachable!()
@@ -364,7 +364,7 @@ impl Book {
     /// takes no memory.
     pub fn close_refused(&mut self, spec: JobSpec)
         requires { IsOpenFor self.old spec }
-        ensures { self.new ≡ refused self.old }
+        ensures { self.new ≡ request_refused self.old }
     {
         let Some(pending) = self.pending.take() else {
             unreachable!()
@@ -387,7 +387,7 @@ impl Book {
 fn show_all(lists: &mut Vec<Vec<u64>>, sections: &Vec<Section>, cells: &Cells)
     requires long { map (λ l. length l.items) lists.old.items ≡ map (λ s. s.len) sections.now.items }
     requires there { All (FitsShape (lengths cells.now)) sections.now.items }
-    ensures { map (λ l. l.items) lists.new.items ≡ shown sections.now.items cells.now }
+    ensures { map (λ l. l.items) lists.new.items ≡ numbers_shown sections.now.items cells.now }
 {
     for i in 0..sections.len() {
         let section = sections[i];

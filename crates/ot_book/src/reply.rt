@@ -3,7 +3,7 @@ ghost use Rattle.json.specs.Token as token;
 ghost use Rattle.serde_json.specs.Data.{array, string};
 ghost use Rattle.serde_json.specs.View.{items_of};
 ghost use Rattle.ot_model.specs.Programs.{arrays_of};
-ghost use Rattle.ot_book.specs.Answers.{json_of, nat, nats, sized, text_of};
+ghost use Rattle.ot_book.specs.Answers.{json_of, nat, nats, name_and_length, text_of};
 ghost use Rattle.ot_book.specs.ReplyView.{told_of};
 ghost use Rattle.ot_book.specs.Pieces.{tokens_of, tokens_of_all};
 
@@ -109,7 +109,7 @@ fn write_shows(shows: &[Vec<u64>], out: &mut Writer) -> Result<(), AllocError>
 
 fn write_arrays(arrays: &[ArrayShape], out: &mut Writer) -> Result<(), AllocError>
     ensures tokens { OnOk result
-        (out.new.tokens ≡ out.old.tokens ++ tokens_of (array (items_of (map sized (arrays_of arrays.now))))) }
+        (out.new.tokens ≡ out.old.tokens ++ tokens_of (array (items_of (map name_and_length (arrays_of arrays.now))))) }
     ensures before { out.new.before ≡ out.old.before }
 {
     out.begin_array()?;

@@ -5,7 +5,7 @@ ghost use Rattle.ot_model.specs.Cells.{lengths};
 ghost use Rattle.ot_model.specs.Programs.{expanded_of, IsNamedIn};
 ghost use Rattle.ot_program.specs.Programs.{program_of};
 ghost use Rattle.ot_store.specs.Arrays.{cells_in, shape_in};
-ghost use Rattle.ot_book.specs.Answers.{parsed, performed, started, is_checkpoint};
+ghost use Rattle.ot_book.specs.Answers.{parse_step, perform_step, program_step, is_checkpoint};
 ghost use Rattle.ot_book.specs.Considering.{ComesToAnswer, ComesTo};
 ghost use Rattle.ot_book.specs.Requests.{Run, IsProper, request_of, asks_checkpoint};
 ghost use Rattle.ot_book.specs.RequestView.{asked_by};
@@ -43,7 +43,7 @@ pub(crate) fn consider(
     used: u64,
     value: &Option<Value>,
 ) -> Considered
-    ensures { ComesTo (parsed limits.now store.old used (option_map view value.now)) store.old store.new result }
+    ensures { ComesTo (parse_step limits.now store.old used (option_map view value.now)) store.old store.new result }
 {
     match attempt(alloc, limits, store, used, value) {
         Ok(considered) => considered,
@@ -59,8 +59,8 @@ fn attempt(
     used: u64,
     value: &Option<Value>,
 ) -> Result<Considered, Told>
-    ensures ok { IfOk result (λ considered. ComesTo (parsed limits.now store.old used (option_map view value.now)) store.old store.new considered) }
-    ensures refused { IfErr result (λ told. ComesToAnswer (parsed limits.now store.old used (option_map view value.now)) store.old store.new told) }
+    ensures ok { IfOk result (λ considered. ComesTo (parse_step limits.now store.old used (option_map view value.now)) store.old store.new considered) }
+    ensures refused { IfErr result (λ told. ComesToAnswer (parse_step limits.now store.old used (option_map view value.now)) store.old store.new told) }
 {
     let Some(value) = value else {
         return Err(Told::Refused(Code::NotJson));
@@ -97,8 +97,8 @@ fn perform(
     request: Request<'_>,
 ) -> Result<Considered, Told>
     requires { IsProper (asked_by request) }
-    ensures ok { IfOk result (λ considered. ComesTo (performed limits.now store.old used (asked_by request.entry)) store.old store.new considered) }
-    ensures refused { IfErr result (λ told. ComesToAnswer (performed limits.now store.old used (asked_by request.entry)) store.old store.new told) }
+    ensures ok { IfOk result (λ considered. ComesTo (perform_step limits.now store.old used (asked_by request.entry)) store.old store.new considered) }
+    ensures refused { IfErr result (λ told. ComesToAnswer (perform_step limits.now store.old used (asked_by request.entry)) store.old store.new told) }
 {
     match request {
         Request::New(name, len) => {
@@ -128,9 +128,9 @@ fn perform(
 /// reply.
 fn start(alloc: Global, limits: &Limits, store: &Store, text: &Value) -> Result<Considered, Told>
     ensures ok { IfOk result (λ considered.
-        ComesTo (started store.now (program_of (shape_in limits.now store.now) (view text.now))) store.now store.now considered) }
+        ComesTo (program_step store.now (program_of (shape_in limits.now store.now) (view text.now))) store.now store.now considered) }
     ensures refused { IfErr result (λ told.
-        ComesToAnswer (started store.now (program_of (shape_in limits.now store.now) (view text.now))) store.now store.now told) }
+        ComesToAnswer (program_step store.now (program_of (shape_in limits.now store.now) (view text.now))) store.now store.now told) }
 {
     let shape = store.shape(alloc, limits)?;
     let program = read_program(alloc, text, &shape)?;

@@ -5,7 +5,7 @@ use Rattle.ot_c_statements.specs.declared.tree.Stmt.{Stmt}
 use Rattle.ot_c_statements.specs.Tree.{S, Body, End, Next, stmt_of, list_of, body_of}
 use Rattle.ot_c_scope.specs.declared.fault.CFault.{CFault}
 use Rattle.ot_c_scope.specs.declared.fault.CFault.TheVariants as errors
-use Rattle.ot_c_scope.specs.Results.{Refusal, Fails}
+use Rattle.ot_c_scope.specs.Results.{Refusal, FailsAs}
 use Rattle.ot_c_arrays.specs.Arrays.{D}
 use Rattle.ot_c_arrays.specs.Pointers.{Names, pointers_in, pointers_from}
 use Rattle.ot_c_arrays.proofs.EachLemmas.{front}
@@ -29,7 +29,7 @@ module _ (names : Names) where
   pub pointers_more : (ss : List Stmt) (i : ℕ) (x : Stmt) (d e : D) (whole : Result D Refusal) → i < length ss → x ≡ get_or ss i x → pointers_from names d (body_of (list_of (drop i ss))) ≡ whole → pointers_in names d (stmt_of x) ≡ Ok e → pointers_from names e (body_of (list_of (drop (i + 1) ss))) ≡ whole
   pointers_more ss i x d e whole h at is done = sym (one_more d e (stmt_of x) (body_of (list_of (drop (i + 1) ss))) done) ∙ sym (ap (pointers_from names d) (viewed ss i x h at)) ∙ is
 
-  pub pointers_fails : (ss : List Stmt) (i : ℕ) (x : Stmt) (d : D) (whole : Result D Refusal) (e : CFault) → i < length ss → x ≡ get_or ss i x → pointers_from names d (body_of (list_of (drop i ss))) ≡ whole → Fails e (pointers_in names d (stmt_of x)) → Fails e whole
+  pub pointers_fails : (ss : List Stmt) (i : ℕ) (x : Stmt) (d : D) (whole : Result D Refusal) (e : CFault) → i < length ss → x ≡ get_or ss i x → pointers_from names d (body_of (list_of (drop i ss))) ≡ whole → FailsAs e (pointers_in names d (stmt_of x)) → FailsAs e whole
   pointers_fails ss i x d whole errors.Memory h at is fails = tt
   pointers_fails ss i x d whole (errors.Outside left why) h at is fails = sym is ∙ ap (pointers_from names d) (viewed ss i x h at) ∙ one_fails d (stmt_of x) (body_of (list_of (drop (i + 1) ss))) (left, why) fails
 

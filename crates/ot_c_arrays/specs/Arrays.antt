@@ -20,7 +20,7 @@ use Rattle.ot_c_scope.specs.Results.{Refusal, ◌>>=◌}
 use Rattle.ot_c_scope.specs.Scopes.{Around}
 use Rattle.ot_c_arrays.specs.declared.arrays.CArray.{CArray}
 use Rattle.ot_c_arrays.specs.declared.arrays.Declared.{Declared}
-use Rattle.ot_c_arrays.specs.Each.{each}
+use Rattle.ot_c_arrays.specs.Each.{each_or_refused}
 
 -- an array of the program, with its cells as it begins
 pub record Arr : Type 0 where
@@ -31,16 +31,16 @@ pub record Arr : Type 0 where
 abbrev pub with_zeros : List ℕ → ℕ → List ℕ
 with_zeros cells n = cells ++ replicate n 0
 
-abbrev pub array_of : CArray → Arr
-array_of a = record { name = string_bytes a.name; cells = with_zeros a.cells.items a.zeros }
+abbrev pub c_array : CArray → Arr
+c_array a = record { name = string_bytes a.name; cells = with_zeros a.cells.items a.zeros }
 
 -- what names mean, and the arrays in their order
 pub record D : Type 0 where
   pub meanings : List Meaning
   pub arrays : List Arr
 
-abbrev pub declared_of : Declared → D
-declared_of d = record { meanings = d.meanings.items; arrays = map array_of d.arrays.items }
+abbrev pub declared_view : Declared → D
+declared_view d = record { meanings = d.meanings.items; arrays = map c_array d.arrays.items }
 
 abbrev pub named_over : ℕ → D → ℕ → Meaning → Option Meaning → Result D Refusal
 named_over at d x new None = Err (at, why.NoName)
@@ -51,8 +51,8 @@ named_over at d x new (Some (m.Pointer y p)) = Err (at, why.Twice)
 named_over at d x new (Some (m.Function i)) = Err (at, why.Twice)
 
 -- a name that means nothing yet comes to mean this
-abbrev pub named : ℕ → D → ℕ → Meaning → Result D Refusal
-named at d x new = named_over at d x new (slice_get d.meanings x)
+abbrev pub with_meaning : ℕ → D → ℕ → Meaning → Result D Refusal
+with_meaning at d x new = named_over at d x new (slice_get d.meanings x)
 
 -- ---- numbers
 
@@ -63,18 +63,18 @@ number_by at (Some x) = Ok x.0
 abbrev pub number : Around → E → Result ℕ Refusal
 number a e = number_by (left_of e) (constant a e)
 
-abbrev pub counted : ℕ → ℕ → Result (Option ℕ) Refusal
-counted at n = if n == 0 || nat_lt 65536 n then Err (at, why.NoLength) else Ok (Some n)
+abbrev pub element_count : ℕ → ℕ → Result (Option ℕ) Refusal
+element_count at n = if n == 0 || nat_lt 65536 n then Err (at, why.NoLength) else Ok (Some n)
 
 -- how many cells an array has, if it is one
 abbrev pub length : Around → Option E → Result (Option ℕ) Refusal
 length a None = Ok None
-length a (Some e) = number a e >>= λ n. counted (left_of e) n
+length a (Some e) = number a e >>= λ n. element_count (left_of e) n
 
 -- a number that a type holds
-abbrev pub held : ℕ → IntegerType → Option Typed → Result ℕ Refusal
-held at k None = Err (at, why.NoConstant)
-held at k (Some x) = if holds k x.0 then Ok x.0 else Err (at, why.NoConstant)
+abbrev pub held_number : ℕ → IntegerType → Option Typed → Result ℕ Refusal
+held_number at k None = Err (at, why.NoConstant)
+held_number at k (Some x) = if holds k x.0 then Ok x.0 else Err (at, why.NoConstant)
 
 -- -n, where both its type and another hold it
 abbrev pub below : ℕ → IntegerType → Option Typed → Result ℕ Refusal
@@ -84,26 +84,26 @@ below at k (Some x) = if is_signed x.1 && holds_below k x.0 then Ok ((2 ^ 64 - x
 -- what a cell of type k begins with
 unfoldable pub first : Around → IntegerType → E → Result ℕ Refusal
 first a k (Signed l u.Minus e) = below l k (constant a e)
-first a k e = held (left_of e) k (constant a e)
+first a k e = held_number (left_of e) k (constant a e)
 
 abbrev pub number_step : Around → IntegerType → List ℕ → E → Result (List ℕ) Refusal
 number_step a k cells e = first a k e >>= λ n. Ok (cells ++ n ∷ [])
 
 abbrev pub numbers : Around → IntegerType → List E → Result (List ℕ) Refusal
-numbers a k es = each (number_step a k) [] es
+numbers a k es = each_or_refused (number_step a k) [] es
 
 -- the first cells of an array, and zeros behind them (C17, section 6.7.9)
-abbrev pub filled : ℕ → List ℕ → ℕ → Result (List ℕ) Refusal
-filled at cells n = if nat_lt n (count_in cells) then Err (at, why.NoLength) else Ok (with_zeros cells (n - count_in cells))
+abbrev pub filled_cells : ℕ → List ℕ → ℕ → Result (List ℕ) Refusal
+filled_cells at cells n = if nat_lt n (count_in cells) then Err (at, why.NoLength) else Ok (with_zeros cells (n - count_in cells))
 
 -- the cells of a variable or an array of a type as it begins, whose name stands there
-abbrev pub begun : Around → ℕ → IntegerType → Option ℕ → Start → Result (List ℕ) Refusal
-begun a at k None Unset = filled at [] 1
-begun a at k (Some n) Unset = filled at [] n
-begun a at k None (One e) = number_step a k [] e
-begun a at k (Some n) (Many es) = numbers a k es >>= λ cells. filled at cells n
-begun a at k None (Many es) = Err (at, why.NoConstant)
-begun a at k (Some n) (One e) = Err (left_of e, why.NoConstant)
+abbrev pub beginning_cells : Around → ℕ → IntegerType → Option ℕ → Start → Result (List ℕ) Refusal
+beginning_cells a at k None Unset = filled_cells at [] 1
+beginning_cells a at k (Some n) Unset = filled_cells at [] n
+beginning_cells a at k None (One e) = number_step a k [] e
+beginning_cells a at k (Some n) (Many es) = numbers a k es >>= λ cells. filled_cells at cells n
+beginning_cells a at k None (Many es) = Err (at, why.NoConstant)
+beginning_cells a at k (Some n) (One e) = Err (left_of e, why.NoConstant)
 
 -- ---- declarations
 
@@ -111,15 +111,15 @@ begun a at k (Some n) (One e) = Err (left_of e, why.NoConstant)
 abbrev pub outside : List (String Global) → List Meaning → Bool → Around
 outside names meanings inside = record { names = names; meanings = meanings; turns = []; opened = []; portions = []; inside = inside }
 
-abbrev pub cells_in : Around → IntegerType → Cells → Result (Option ℕ × List ℕ) Refusal
-cells_in a k v = length a v.length >>= λ n. begun a v.left k n v.initial >>= λ cells. Ok (n, cells)
+abbrev pub cells_around : Around → IntegerType → Cells → Result (Option ℕ × List ℕ) Refusal
+cells_around a k v = length a v.length >>= λ n. beginning_cells a v.left k n v.initial >>= λ cells. Ok (n, cells)
 
-abbrev pub cells_of : List (String Global) → List Meaning → IntegerType → Cells → Result (Option ℕ × List ℕ) Refusal
-cells_of names meanings k v = cells_in (outside names meanings false) k v
+abbrev pub array_cells : List (String Global) → List Meaning → IntegerType → Cells → Result (Option ℕ × List ℕ) Refusal
+array_cells names meanings k v = cells_around (outside names meanings false) k v
 
-abbrev pub number_of : ℕ → Name → Result ℕ Refusal
-number_of at (n.Other i) = Ok i
-number_of at (n.Known k) = Err (at, why.Reserved)
+abbrev pub name_number : ℕ → Name → Result ℕ Refusal
+name_number at (n.Other i) = Ok i
+name_number at (n.Known k) = Err (at, why.Reserved)
 
 abbrev pub is_declared : List Arr → List ℕ → Bool
 is_declared arrays name = list_any (λ a. bytes_eq a.name name) arrays
@@ -133,20 +133,20 @@ name_by at arrays None = Err (at, why.NoName)
 name_by at arrays (Some s) = new_name at arrays (own_name (string_bytes s))
 
 -- the name of the array that is called so in C
-abbrev pub name_of : List (String Global) → ℕ → List Arr → ℕ → Result (List ℕ) Refusal
-name_of names at arrays i = name_by at arrays (slice_get names i)
+abbrev pub array_name_in_c : List (String Global) → ℕ → List Arr → ℕ → Result (List ℕ) Refusal
+array_name_in_c names at arrays i = name_by at arrays (slice_get names i)
 
 abbrev pub with_array : D → List ℕ → List ℕ → D
 with_array d name cells = record d { arrays = d.arrays ++ (record { name = name; cells = cells }) ∷ [] }
 
 abbrev pub variable_step : List (String Global) → IntegerType → D → Cells → Result D Refusal
 variable_step names k d v =
-    number_of v.left v.name >>= λ i.
-    name_of names v.left d.arrays i >>= λ name.
-    cells_of names d.meanings k v >>= λ cells.
-    named v.left d i (m.Cells k cells.0) >>= λ e.
+    name_number v.left v.name >>= λ i.
+    array_name_in_c names v.left d.arrays i >>= λ name.
+    array_cells names d.meanings k v >>= λ cells.
+    with_meaning v.left d i (m.Cells k cells.0) >>= λ e.
     Ok (with_array e name cells.1)
 
 -- variables of a type, one after another
-abbrev pub declaration : List (String Global) → D → Declaration → Result D Refusal
-declaration names d given = each (variable_step names given.kind) d given.variables
+abbrev pub declare_all : List (String Global) → D → Declaration → Result D Refusal
+declare_all names d given = each_or_refused (variable_step names given.kind) d given.variables

@@ -12,7 +12,7 @@ use Rattle.ot_c_scope.specs.declared.scope.Pointee.{Pointee}
 use Rattle.ot_c_scope.specs.Constants.{Typed, constant}
 use Rattle.ot_c_scope.specs.Kinds.{is_word}
 use Rattle.ot_c_scope.specs.Results.{Refusal, ◌>>=◌}
-use Rattle.ot_c_arrays.specs.Arrays.{D, number_of, outside}
+use Rattle.ot_c_arrays.specs.Arrays.{D, name_number, outside}
 
 abbrev pub Names : Type 0
 Names = List (String Global)
@@ -23,12 +23,12 @@ place_in at count None = Err (at, why.Pointee)
 place_in at count (Some n) = if nat_lt n.0 count then Ok n.0 else Err (at, why.Pointee)
 
 -- so many cells, where they are of type `uint64_t`, to which pointers point
-abbrev pub counted : ℕ → IntegerType → ℕ → Result ℕ Refusal
-counted at k n = if is_word k then Ok n else Err (at, why.OtherType)
+abbrev pub pointed_count : ℕ → IntegerType → ℕ → Result ℕ Refusal
+pointed_count at k n = if is_word k then Ok n else Err (at, why.OtherType)
 
 -- how many cells an array has
 abbrev pub count_by : ℕ → Option Meaning → Result ℕ Refusal
-count_by at (Some (m.Cells k (Some n))) = counted at k n
+count_by at (Some (m.Cells k (Some n))) = pointed_count at k n
 count_by at (Some (m.Cells k None)) = Err (at, why.Pointee)
 count_by at (Some m.Nothing) = Err (at, why.Pointee)
 count_by at (Some (m.Constant n k)) = Err (at, why.Pointee)
@@ -39,7 +39,7 @@ count_by at None = Err (at, why.Pointee)
 -- the cell of an array at a place that is a constant
 abbrev pub pointee : Names → D → Site → Result Pointee Refusal
 pointee names d c =
-    number_of c.left c.array >>= λ array.
+    name_number c.left c.array >>= λ array.
     count_by c.left (slice_get d.meanings array) >>= λ count.
     place_in (left_of c.index) count (constant (outside names d.meanings false) c.index) >>= λ place.
     Ok (record { array = array; place = place })
@@ -61,7 +61,7 @@ pointing at d p cell = pointing_over at d p cell (slice_get d.meanings p)
 
 -- `uint64_t *p = &x[i];`, where the name of the pointer stands there
 abbrev pub point : Names → ℕ → D → Name → Site → Result D Refusal
-point names at d p c = pointee names d c >>= λ cell. number_of at p >>= λ n. pointing at d n cell
+point names at d p c = pointee names d c >>= λ cell. name_number at p >>= λ n. pointing at d n cell
 
 -- the pointers that statements declare
 unfoldable mutual

@@ -3,10 +3,10 @@ ghost use Rattle.std.specs.Prelude.{◌≡◌, IfOk, length, map, string_bytes};
 ghost use Rattle.ot_c_expressions.specs.Tree.{expr_of};
 ghost use Rattle.ot_c_statements.specs.Tree.{exprs_of, index_of};
 ghost use Rattle.ot_c_files.specs.Program.{initial_of, variable_of, variables_of, declaration_of};
-ghost use Rattle.ot_c_scope.specs.Results.{Gives};
-ghost use Rattle.ot_c_arrays.specs.Arrays.{array_of, declared_of, with_zeros};
+ghost use Rattle.ot_c_scope.specs.Results.{GivesAs};
+ghost use Rattle.ot_c_arrays.specs.Arrays.{c_array, declared_view, with_zeros};
 ghost use Rattle.ot_c_arrays.specs.Arrays as meant;
-ghost use Rattle.ot_c_arrays.specs.Each.{each};
+ghost use Rattle.ot_c_arrays.specs.Each.{each_or_refused};
 
 use indexmap::IndexSet;
 use ot_c_expressions::{Expr, Unary, left_of};
@@ -31,14 +31,14 @@ pub struct CArray {
 
 /// How many cells an array has.
 pub fn cell_count(array: &CArray) -> usize
-    ensures { result ≡ length (array_of array.now).cells }
+    ensures { result ≡ length (c_array array.now).cells }
 {
     array.cells.len() + array.zeros as usize
 }
 
 /// All cells of an array as it begins.
 pub fn all_cells(alloc: Global, array: &CArray) -> Result<Vec<u64>, AllocError>
-    ensures { IfOk result (λ cells. cells.items ≡ (array_of array.now).cells) }
+    ensures { IfOk result (λ cells. cells.items ≡ (c_array array.now).cells) }
 {
     let mut cells = array.cells.clone()?;
     let zeros = vec![in alloc; 0u64; array.zeros as usize]?;
@@ -60,7 +60,7 @@ pub fn named(
     name: usize,
     meaning: Meaning,
 ) -> Result<Declared, CFault>
-    ensures { Gives declared_of result (meant.named left (declared_of declared) name meaning) }
+    ensures { GivesAs declared_view result (meant.with_meaning left (declared_view declared) name meaning) }
 {
     match declared.meanings.get(name) {
         None => return Err(CFault::Outside(left, Reason::NoName)),
@@ -73,7 +73,7 @@ pub fn named(
 
 /// The number that a value is wherever it is computed.
 fn number(scope: &Scope<'_>, expr: &Expr) -> Result<u64, CFault>
-    ensures { Gives (λ n. n) result (meant.number scope.now (expr_of expr.now)) }
+    ensures { GivesAs (λ n. n) result (meant.number scope.now (expr_of expr.now)) }
 {
     match constant(scope, expr) {
         Some((number, _)) => Ok(number),
@@ -83,7 +83,7 @@ fn number(scope: &Scope<'_>, expr: &Expr) -> Result<u64, CFault>
 
 /// How many cells an array has, if it is one.
 fn length(scope: &Scope<'_>, length: &Option<Expr>) -> Result<Option<usize>, CFault>
-    ensures { Gives (λ n. n) result (meant.length scope.now (index_of length.now)) }
+    ensures { GivesAs (λ n. n) result (meant.length scope.now (index_of length.now)) }
 {
     let Some(length) = length else {
         return Ok(None);
@@ -97,7 +97,7 @@ fn length(scope: &Scope<'_>, length: &Option<Expr>) -> Result<Option<usize>, CFa
 
 /// A number that a type holds.
 fn held(left: usize, kind: IntegerType, known: Option<(u64, IntegerType)>) -> Result<u64, CFault>
-    ensures { Gives (λ n. n) result (meant.held left kind known) }
+    ensures { GivesAs (λ n. n) result (meant.held_number left kind known) }
 {
     match known {
         Some((number, _)) if holds(kind, number) => Ok(number),
@@ -107,7 +107,7 @@ fn held(left: usize, kind: IntegerType, known: Option<(u64, IntegerType)>) -> Re
 
 /// The number that is so much below zero, modulo 2^64, where both its type and the cell's hold it.
 fn below(left: usize, kind: IntegerType, known: Option<(u64, IntegerType)>) -> Result<u64, CFault>
-    ensures { Gives (λ n. n) result (meant.below left kind known) }
+    ensures { GivesAs (λ n. n) result (meant.below left kind known) }
 {
     match known {
         Some((number, by)) if is_signed(by) && holds_below(kind, number) => {
@@ -120,7 +120,7 @@ fn below(left: usize, kind: IntegerType, known: Option<(u64, IntegerType)>) -> R
 /// What a cell of a type begins with.
 #[tactic(auto, unfolding(crate::specs::Arrays::first))]
 fn first(scope: &Scope<'_>, kind: IntegerType, expr: &Expr) -> Result<u64, CFault>
-    ensures { Gives (λ n. n) result (meant.first scope.now kind (expr_of expr.now)) }
+    ensures { GivesAs (λ n. n) result (meant.first scope.now kind (expr_of expr.now)) }
 {
     match expr {
         Expr::Unary(left, Unary::Minus, expr) => below(*left, kind, constant(scope, expr)),
@@ -135,7 +135,7 @@ fn number_step(
     mut cells: Vec<u64>,
     expr: &Expr,
 ) -> Result<Vec<u64>, CFault>
-    ensures { Gives (λ v. v.items) result (meant.number_step scope.now kind cells.items (expr_of expr.now)) }
+    ensures { GivesAs (λ v. v.items) result (meant.number_step scope.now kind cells.items (expr_of expr.now)) }
 {
     let cell = first(scope, kind, expr)?;
     cells.push(cell)?;
@@ -148,7 +148,7 @@ fn numbers(
     kind: IntegerType,
     exprs: &[Expr],
 ) -> Result<Vec<u64>, CFault>
-    ensures { Gives (λ v. v.items) result (meant.numbers scope.now kind (exprs_of exprs.now)) }
+    ensures { GivesAs (λ v. v.items) result (meant.numbers scope.now kind (exprs_of exprs.now)) }
 {
     let mut cells = Vec::new(alloc);
     for expr in exprs {
@@ -160,7 +160,7 @@ fn numbers(
 /// The first cells of an array, and how many zeros stand behind them. None is made here, where no limit has been looked at. An array
 /// has fewer than 2^32 cells.
 fn filled(left: usize, cells: Vec<u64>, count: usize) -> Result<(Vec<u64>, u32), CFault>
-    ensures { Gives (λ x. with_zeros x.0.items x.1) result (meant.filled left cells.items count) }
+    ensures { GivesAs (λ x. with_zeros x.0.items x.1) result (meant.filled_cells left cells.items count) }
 {
     if cells.len() > count {
         return Err(CFault::Outside(left, Reason::NoLength));
@@ -178,7 +178,7 @@ fn only(
     cells: Vec<u64>,
     expr: &Expr,
 ) -> Result<(Vec<u64>, u32), CFault>
-    ensures { Gives (λ x. with_zeros x.0.items x.1) result (meant.number_step scope.now kind cells.items (expr_of expr.now)) }
+    ensures { GivesAs (λ x. with_zeros x.0.items x.1) result (meant.number_step scope.now kind cells.items (expr_of expr.now)) }
 {
     let cells = number_step(scope, kind, cells, expr)?;
     Ok((cells, 0))
@@ -193,7 +193,7 @@ fn begun(
     length: Option<usize>,
     initial: &Initial,
 ) -> Result<(Vec<u64>, u32), CFault>
-    ensures { Gives (λ x. with_zeros x.0.items x.1) result (meant.begun scope.now left kind length (initial_of initial.now)) }
+    ensures { GivesAs (λ x. with_zeros x.0.items x.1) result (meant.beginning_cells scope.now left kind length (initial_of initial.now)) }
 {
     match (length, initial) {
         (None, Initial::Nothing) => filled(left, Vec::new(alloc), 1),
@@ -218,7 +218,7 @@ fn cells_of(
     kind: IntegerType,
     variable: &Variable,
 ) -> Result<(Option<usize>, (Vec<u64>, u32)), CFault>
-    ensures { Gives (λ x. (x.0, with_zeros x.1.0.items x.1.1)) result (meant.cells_of names.now.keys meanings.now kind (variable_of variable.now)) }
+    ensures { GivesAs (λ x. (x.0, with_zeros x.1.0.items x.1.1)) result (meant.array_cells names.now.keys meanings.now kind (variable_of variable.now)) }
 {
     let scope = Scope::new(alloc, names, meanings, false);
     let length = length(&scope, &variable.length)?;
@@ -229,7 +229,7 @@ fn cells_of(
 
 /// The number of a name among those of the text.
 pub fn number_of(left: usize, name: Name) -> Result<usize, CFault>
-    ensures { Gives (λ n. n) result (meant.number_of left name) }
+    ensures { GivesAs (λ n. n) result (meant.name_number left name) }
 {
     match name {
         Name::Other(number) => Ok(number),
@@ -238,7 +238,7 @@ pub fn number_of(left: usize, name: Name) -> Result<usize, CFault>
 }
 
 fn is_declared(arrays: &[CArray], name: &str) -> bool
-    ensures { result ≡ meant.is_declared (map array_of arrays.now) name.now }
+    ensures { result ≡ meant.is_declared (map c_array arrays.now) name.now }
 {
     for array in arrays {
         if array.name.as_str() == name {
@@ -251,7 +251,7 @@ fn is_declared(arrays: &[CArray], name: &str) -> bool
 /// A name that the language has, and that no array has by another name in C, as `at` and `A_at` would. Few names are
 /// taken, so few are looked for.
 fn new_name(alloc: Global, left: usize, arrays: &[CArray], name: &str) -> Result<String, CFault>
-    ensures { Gives (λ s. string_bytes s) result (meant.new_name left (map array_of arrays.now) name.now) }
+    ensures { GivesAs (λ s. string_bytes s) result (meant.new_name left (map c_array arrays.now) name.now) }
 {
     if is_taken(name) && is_declared(arrays, name) {
         return Err(CFault::Outside(left, Reason::Twice));
@@ -270,7 +270,7 @@ fn name_of(
     arrays: &[CArray],
     number: usize,
 ) -> Result<String, CFault>
-    ensures { Gives (λ s. string_bytes s) result (meant.name_of names.now.keys left (map array_of arrays.now) number) }
+    ensures { GivesAs (λ s. string_bytes s) result (meant.array_name_in_c names.now.keys left (map c_array arrays.now) number) }
 {
     match names.get_index(number) {
         Some(name) => new_name(alloc, left, arrays, own_name(name.as_str())),
@@ -286,7 +286,7 @@ fn variable_step(
     declared: Declared,
     variable: &Variable,
 ) -> Result<Declared, CFault>
-    ensures { Gives declared_of result (meant.variable_step names.now.keys kind (declared_of declared) (variable_of variable.now)) }
+    ensures { GivesAs declared_view result (meant.variable_step names.now.keys kind (declared_view declared) (variable_of variable.now)) }
 {
     let left = variable.left;
     let number = number_of(left, variable.name)?;
@@ -306,7 +306,7 @@ fn variables(
     declared: Declared,
     variables: &[Variable],
 ) -> Result<Declared, CFault>
-    ensures { Gives declared_of result (each (meant.variable_step names.now.keys kind) (declared_of declared) (variables_of variables.now)) }
+    ensures { GivesAs declared_view result (each_or_refused (meant.variable_step names.now.keys kind) (declared_view declared) (variables_of variables.now)) }
 {
     let mut declared = declared;
     for variable in variables {
@@ -322,7 +322,7 @@ pub fn declaration(
     declared: Declared,
     declaration: &Declaration,
 ) -> Result<Declared, CFault>
-    ensures { Gives declared_of result (meant.declaration names.now.keys (declared_of declared) (declaration_of declaration.now)) }
+    ensures { GivesAs declared_view result (meant.declare_all names.now.keys (declared_view declared) (declaration_of declaration.now)) }
 {
     let kind = declaration.kind;
     variables(alloc, names, kind, declared, &declaration.variables)

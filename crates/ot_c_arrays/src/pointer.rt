@@ -1,8 +1,8 @@
 //! Pointers to cells of arrays.
 ghost use Rattle.std.specs.Prelude.{◌≡◌, slice_get};
 ghost use Rattle.ot_c_statements.specs.Tree.{site_of, stmt_of, list_of, body_of};
-ghost use Rattle.ot_c_scope.specs.Results.{Gives};
-ghost use Rattle.ot_c_arrays.specs.Arrays.{declared_of};
+ghost use Rattle.ot_c_scope.specs.Results.{GivesAs};
+ghost use Rattle.ot_c_arrays.specs.Arrays.{declared_view};
 ghost use Rattle.ot_c_arrays.specs.Pointers as meant;
 
 use crate::arrays::{Declared, number_of};
@@ -16,7 +16,7 @@ use std::alloc::Global;
 
 /// So many cells, where they are of the type to which pointers point.
 fn counted(left: usize, kind: IntegerType, count: usize) -> Result<usize, CFault>
-    ensures { Gives (λ n. n) result (meant.counted left kind count) }
+    ensures { GivesAs (λ n. n) result (meant.pointed_count left kind count) }
 {
     if is_word(kind) {
         Ok(count)
@@ -27,7 +27,7 @@ fn counted(left: usize, kind: IntegerType, count: usize) -> Result<usize, CFault
 
 /// How many cells an array has.
 fn count_by(left: usize, meaning: Option<Meaning>) -> Result<usize, CFault>
-    ensures { Gives (λ n. n) result (meant.count_by left meaning) }
+    ensures { GivesAs (λ n. n) result (meant.count_by left meaning) }
 {
     match meaning {
         Some(Meaning::Cells(kind, Some(count))) => counted(left, kind, count),
@@ -52,7 +52,7 @@ fn pointee(
     declared: &Declared,
     spot: &Spot,
 ) -> Result<Pointee, CFault>
-    ensures { Gives (λ p. p) result (meant.pointee names.now.keys (declared_of declared.now) (site_of spot.now)) }
+    ensures { GivesAs (λ p. p) result (meant.pointee names.now.keys (declared_view declared.now) (site_of spot.now)) }
 {
     let array = number_of(spot.left, spot.array)?;
     let count = count_by(spot.left, meaning_of(&declared.meanings, array))?;
@@ -83,7 +83,7 @@ fn pointing(
     name: usize,
     cell: Pointee,
 ) -> Result<Declared, CFault>
-    ensures { Gives declared_of result (meant.pointing left (declared_of declared) name cell) }
+    ensures { GivesAs declared_view result (meant.pointing left (declared_view declared) name cell) }
 {
     match declared.meanings.get(name) {
         None => return Err(CFault::Outside(left, Reason::NoName)),
@@ -109,7 +109,7 @@ fn point(
     pointer: Name,
     spot: &Spot,
 ) -> Result<Declared, CFault>
-    ensures { Gives declared_of result (meant.point names.now.keys left (declared_of declared) pointer (site_of spot.now)) }
+    ensures { GivesAs declared_view result (meant.point names.now.keys left (declared_view declared) pointer (site_of spot.now)) }
 {
     let cell = pointee(alloc, names, &declared, spot)?;
     let number = number_of(left, pointer)?;
@@ -125,7 +125,7 @@ fn pointers_in(
     declared: Declared,
     stmt: &Stmt,
 ) -> Result<Declared, CFault>
-    ensures { Gives declared_of result (meant.pointers_in names.now.keys (declared_of declared) (stmt_of stmt.now)) }
+    ensures { GivesAs declared_view result (meant.pointers_in names.now.keys (declared_view declared) (stmt_of stmt.now)) }
 {
     match stmt {
         Stmt::Block(_, inner) | Stmt::For(_, _, inner) => pointers(alloc, names, declared, inner),
@@ -150,7 +150,7 @@ pub fn pointers(
     declared: Declared,
     stmts: &[Stmt],
 ) -> Result<Declared, CFault>
-    ensures { Gives declared_of result (meant.pointers_from names.now.keys (declared_of declared) (body_of (list_of stmts.now))) }
+    ensures { GivesAs declared_view result (meant.pointers_from names.now.keys (declared_view declared) (body_of (list_of stmts.now))) }
 {
     let mut declared = declared;
     for stmt in stmts {

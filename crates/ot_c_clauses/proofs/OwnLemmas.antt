@@ -17,7 +17,7 @@ use Rattle.std.proofs.lemmas.List.Sums.{sum_by-append}
 use Rattle.ot_c_scope.specs.declared.scope.Pointee.{Pointee}
 use Rattle.ot_c_scope.specs.Scopes.{Run, is_among}
 use Rattle.ot_c_clauses.specs.declared.own.Own.{Own}
-use Rattle.ot_c_clauses.specs.Cells.{Key, key_cmp, is_at, marked, times_at, HasArrays, HasTimes, HasRun}
+use Rattle.ot_c_clauses.specs.Cells.{CellKey, cell_key_cmp, is_at, under_in, times_at, HasArrays, HasTimes, HasRun}
 use Rattle.ot_c_clauses.specs.Owns.{is_of, name_if}
 
 -- ---- keys
@@ -30,7 +30,7 @@ then_eq Less b = refl
 then_eq Equal b = refl
 then_eq Greater b = refl
 
-key_eq : (x y : Key) → is_eq (key_cmp x y) ≡ ((x.0 == y.0) && (x.1 == y.1))
+key_eq : (x y : CellKey) → is_eq (cell_key_cmp x y) ≡ ((x.0 == y.0) && (x.1 == y.1))
 key_eq x y =
     then_eq (nat_cmp x.0 y.0) (nat_cmp x.1 y.1)
     ∙ ap (λ b. b && is_eq (nat_cmp x.1 y.1)) (same_cmp x.0 y.0)
@@ -60,24 +60,24 @@ more p o os = let h = sum_by-append (λ c. tick (p c)) (o ∷ []) os in omega (a
 
 -- ---- marks change no cell
 
-module _ (named : BTreeSet Key) where
-  pub of_marked : (x : ℕ) (run : Run) (os : List Own) → count_by (is_of x run) (map (marked named) os) ≡ count_by (is_of x run) os
+module _ (named : BTreeSet CellKey) where
+  pub of_marked : (x : ℕ) (run : Run) (os : List Own) → count_by (is_of x run) (map (under_in named) os) ≡ count_by (is_of x run) os
   of_marked x run [] = refl
-  of_marked x run (o ∷ os) = more (is_of x run) (marked named o) (map (marked named) os) ∙ ap (λ n. tick (is_of x run o) + n) (of_marked x run os) ∙ sym (more (is_of x run) o os)
+  of_marked x run (o ∷ os) = more (is_of x run) (under_in named o) (map (under_in named) os) ∙ ap (λ n. tick (is_of x run o) + n) (of_marked x run os) ∙ sym (more (is_of x run) o os)
 
-  pub at_marked : (x p : ℕ) (os : List Own) → count_by (is_at x p) (map (marked named) os) ≡ count_by (is_at x p) os
+  pub at_marked : (x p : ℕ) (os : List Own) → count_by (is_at x p) (map (under_in named) os) ≡ count_by (is_at x p) os
   at_marked x p [] = refl
-  at_marked x p (o ∷ os) = more (is_at x p) (marked named o) (map (marked named) os) ∙ ap (λ n. tick (is_at x p o) + n) (at_marked x p os) ∙ sym (more (is_at x p) o os)
+  at_marked x p (o ∷ os) = more (is_at x p) (under_in named o) (map (under_in named) os) ∙ ap (λ n. tick (is_at x p o) + n) (at_marked x p os) ∙ sym (more (is_at x p) o os)
 
   or_false : (b c : Bool) → c ≡ false → (b || c) ≡ b
   or_false true c h = refl
   or_false false c h = h
 
-  one_unmarked : set.keys named ≡ [] → (o : Own) → marked named o ≡ o
+  one_unmarked : set.keys named ≡ [] → (o : Own) → under_in named o ≡ o
   one_unmarked none o =
-      ap (λ b. own o.cell b) (or_false o.named (contains key_cmp named (o.cell.array, o.cell.place)) (ap (list_any (tree.is_at (key_cmp (o.cell.array, o.cell.place)))) none))
+      ap (λ b. own o.cell b) (or_false o.named (contains cell_key_cmp named (o.cell.array, o.cell.place)) (ap (list_any (tree.is_at (cell_key_cmp (o.cell.array, o.cell.place)))) none))
 
-  pub unmarked : set.keys named ≡ [] → (os : List Own) → map (marked named) os ≡ os
+  pub unmarked : set.keys named ≡ [] → (os : List Own) → map (under_in named) os ≡ os
   unmarked none [] = refl
   unmarked none (o ∷ os) = λ i. one_unmarked none o i ∷ unmarked none os i
 
@@ -97,10 +97,10 @@ module _ (x : ℕ) (run : Run) where
   turned false false true = refl
   turned false false false = refl
 
-  pub marks_behind : (named : BTreeSet Key) (os : List Own) → map (marked named) (map (name_if x run) os) ≡ map (name_if x run) (map (marked named) os)
+  pub marks_behind : (named : BTreeSet CellKey) (os : List Own) → map (under_in named) (map (name_if x run) os) ≡ map (name_if x run) (map (under_in named) os)
   marks_behind named [] = refl
   marks_behind named (o ∷ os) = λ i.
-      own o.cell (turned o.named (is_of x run o) (contains key_cmp named (o.cell.array, o.cell.place)) i) ∷ marks_behind named os i
+      own o.cell (turned o.named (is_of x run o) (contains cell_key_cmp named (o.cell.array, o.cell.place)) i) ∷ marks_behind named os i
 
   -- ---- how many
 
@@ -162,15 +162,15 @@ together : (a b c : Bool) → (a || (b || c)) ≡ ((a || b) || c)
 together true b c = refl
 together false b c = refl
 
-module _ (x f e : ℕ) (old new : BTreeSet Key) (within : f ≤ e) (has : HasRun x f e old new) where
-  one_named : (o : Own) → marked new o ≡ name_if x (Some (f, e - f)) (marked old o)
+module _ (x f e : ℕ) (old new : BTreeSet CellKey) (within : f ≤ e) (has : HasRun x f e old new) where
+  one_named : (o : Own) → under_in new o ≡ name_if x (Some (f, e - f)) (under_in old o)
   one_named o =
       let a = o.cell.array in
       let p = o.cell.place in
-      ap (λ b. own o.cell (o.named || b)) (has a p ∙ ap (λ b. contains key_cmp old (a, p) || ((a == x) && b)) (same_run f e p within))
-      ∙ ap (λ b. own o.cell b) (together o.named (contains key_cmp old (a, p)) ((a == x) && (nat_le f p && nat_lt (p - f) (e - f))))
+      ap (λ b. own o.cell (o.named || b)) (has a p ∙ ap (λ b. contains cell_key_cmp old (a, p) || ((a == x) && b)) (same_run f e p within))
+      ∙ ap (λ b. own o.cell b) (together o.named (contains cell_key_cmp old (a, p)) ((a == x) && (nat_le f p && nat_lt (p - f) (e - f))))
 
-  pub all_named : (os : List Own) → map (marked new) os ≡ map (name_if x (Some (f, e - f))) (map (marked old) os)
+  pub all_named : (os : List Own) → map (under_in new) os ≡ map (name_if x (Some (f, e - f))) (map (under_in old) os)
   all_named [] = refl
   all_named (o ∷ os) = λ i. one_named o i ∷ all_named os i
 
@@ -190,13 +190,13 @@ picked true false true false = refl
 picked false false true false = refl
 picked a b false w = refl
 
-pub run_more : (x f e : ℕ) (first old new : BTreeSet Key) → f ≤ e → HasRun x f e first old → set.Updates key_cmp old new (x, e) true → HasRun x f (e + 1) first new
+pub run_more : (x f e : ℕ) (first old new : BTreeSet CellKey) → f ≤ e → HasRun x f e first old → set.Updates cell_key_cmp old new (x, e) true → HasRun x f (e + 1) first new
 run_more x f e first old new within has updates = λ y p.
     updates.0 (y, p)
-    ∙ ap (λ b. cond b true (contains key_cmp old (y, p))) (key_eq (x, e) (y, p) ∙ ap (λ b. b && (e == p)) (flip x y))
+    ∙ ap (λ b. cond b true (contains cell_key_cmp old (y, p))) (key_eq (x, e) (y, p) ∙ ap (λ b. b && (e == p)) (flip x y))
     ∙ ap (λ b. cond ((y == x) && (e == p)) true b) (has y p)
-    ∙ picked (nat_le f p && nat_lt p e) (contains key_cmp first (y, p)) (y == x) (e == p)
-    ∙ ap (λ b. contains key_cmp first (y, p) || ((y == x) && b)) (sym (next_place f e p within))
+    ∙ picked (nat_le f p && nat_lt p e) (contains cell_key_cmp first (y, p)) (y == x) (e == p)
+    ∙ ap (λ b. contains cell_key_cmp first (y, p) || ((y == x) && b)) (sym (next_place f e p within))
 
 -- ---- what is kept, of one cell more
 
@@ -217,8 +217,8 @@ arrays_more old new os i d low has updates = λ x.
     ∙ sym (list_any-append (λ p. p.cell.array == x) (take i os) (o ∷ []))
     ∙ ap (list_any (λ p. p.cell.array == x)) (sym (take_more os i d low))
 
-pub times_more : (old new : BTreeMap Key ℕ) (os : List Own) (i : ℕ) (d : Own) (n : ℕ) → i < length os → HasTimes old (take i os)
-    → n ≡ times_at old ((get_or os i d).cell.array, (get_or os i d).cell.place) → tree.Updates key_cmp old new ((get_or os i d).cell.array, (get_or os i d).cell.place) (Some (n + 1))
+pub times_more : (old new : BTreeMap CellKey ℕ) (os : List Own) (i : ℕ) (d : Own) (n : ℕ) → i < length os → HasTimes old (take i os)
+    → n ≡ times_at old ((get_or os i d).cell.array, (get_or os i d).cell.place) → tree.Updates cell_key_cmp old new ((get_or os i d).cell.array, (get_or os i d).cell.place) (Some (n + 1))
     → HasTimes new (take (i + 1) os)
 times_more old new os i d n low has before updates = λ x p.
     let o = get_or os i d in
@@ -227,8 +227,8 @@ times_more old new os i d n low has before updates = λ x p.
     let count = count_by (is_at x p) (take i os) in
     let last = ap (count_by (is_at x p)) (take_more os i d low) ∙ sum_by-append (λ c. tick (is_at x p c)) (take i os) (o ∷ []) in
     let whole : count_by (is_at x p) (take (i + 1) os) ≡ count + tick (is_at x p o) = omega (arith, last) in
-    ap (λ g. unwrap_or g 0) (updates.0 (x, p) ∙ ap (λ b. cond b (Some (n + 1)) (get key_cmp old (x, p))) (key_eq (a, q) (x, p)))
-    ∙ by ((a == x) && (q == p)) n count (get key_cmp old (x, p)) (has x p)
+    ap (λ g. unwrap_or g 0) (updates.0 (x, p) ∙ ap (λ b. cond b (Some (n + 1)) (get cell_key_cmp old (x, p))) (key_eq (a, q) (x, p)))
+    ∙ by ((a == x) && (q == p)) n count (get cell_key_cmp old (x, p)) (has x p)
     (λ same. before ∙ has a q ∙ ap (λ y. count_by (is_at y q) (take i os)) (equal_of a x (left_of (a == x) (q == p) same)) ∙ ap (λ y. count_by (is_at x y) (take i os)) (equal_of q p (right_of (a == x) (q == p) same)))
     ∙ sym whole
   where

@@ -23,11 +23,11 @@ use Rattle.ot_c_clauses.specs.declared.clause.Heading.{Heading}
 use Rattle.ot_c_clauses.specs.declared.clause.Joined.{Joined}
 use Rattle.ot_c_clauses.specs.declared.own.Own.{Own}
 use Rattle.ot_c_clauses.specs.declared.own.Taking.{Taking}
-use Rattle.ot_c_arrays.specs.Each.{each}
-use Rattle.ot_c_clauses.specs.Operations.{operation_word, is_same, is_extreme}
+use Rattle.ot_c_arrays.specs.Each.{each_or_refused}
+use Rattle.ot_c_clauses.specs.Operations.{operation_word, is_same_operation, is_extreme}
 use Rattle.ot_c_clauses.specs.Owns.{own_count, name_all, is_run, taking_of}
 use Rattle.ot_c_clauses.specs.Portions.{is_item}
-use Rattle.ot_c_clauses.specs.Sections.{Sectioned, part, pointed, section, cells_named}
+use Rattle.ot_c_clauses.specs.Sections.{Sectioned, part, cell_pointed_at, item_section, item_run}
 
 -- clauses of the language, or a group's sections; what names mean behind them; the cells that the task folds into by pointers;
 -- and how it takes part in each reduction that it takes part in
@@ -74,21 +74,21 @@ are_single (Some over) n = true
 
 abbrev pub depends_by : Head → Role → List ℕ → Option Span → Entry → Run → Headed
 depends_by h role word over item cells =
-    if own_count item.array cells h.own == 0 then (section h.around over item >>= λ d. Ok (with_clause h (form word (d ∷ []))))
+    if own_count item.array cells h.own == 0 then (item_section h.around over item >>= λ d. Ok (with_clause h (form word (d ∷ []))))
     else if is_in role && is_run cells (own_count item.array cells h.own) && are_single over (own_count item.array cells h.own) then Ok (record h { own = name_all item.array cells h.own })
     else Err (item.left, why.Combined)
 
 -- Under `in`, `out` or `inout`. Where the task folds into the cells by pointers, `red` says all that `in` does: each is an item.
-abbrev pub depends : Head → Role → List ℕ → Option Span → Entry → Headed
-depends h role word over item = depends_by h role word over item (cells_named h.around over item)
+abbrev pub under_depend : Head → Role → List ℕ → Option Span → Entry → Headed
+under_depend h role word over item = depends_by h role word over item (item_run h.around over item)
 
-abbrev pub number_of : Name → ℕ
-number_of (n.Other i) = i
-number_of (n.Known k) = 0
+abbrev pub item_number : Name → ℕ
+item_number (n.Other i) = i
+item_number (n.Known k) = 0
 
 -- over so many cells of an array, or a pointer's, an open group combines by an operation, and the task has no copy of them yet
 abbrev pub may_join : Sense → Operation → Option (Option Pointee × Option ℕ)
-may_join (s.Combined c k length) op = if not c.own && is_same c.operation op then Some (c.pointee, length) else None
+may_join (s.Combined c k length) op = if not c.own && is_same_operation c.operation op then Some (c.pointee, length) else None
 may_join s.Nothing op = None
 may_join (s.Constant n k) op = None
 may_join (s.Turn k) op = None
@@ -98,11 +98,11 @@ may_join (s.Pointer x p) op = None
 may_join (s.Function i) op = None
 
 abbrev pub opening : Name → Operation → Bool → Option Pointee → Opening
-opening x op own cell = record { array = number_of x; operation = op; own = own; pointee = cell }
+opening x op own cell = record { array = item_number x; operation = op; own = own; pointee = cell }
 
 abbrev pub part_or_cell : Around → ℕ → Name → Option Pointee → Option ℕ → Part → Sectioned
 part_or_cell a at x None length p = part a at x length p
-part_or_cell a at x (Some cell) length p = pointed a at cell p
+part_or_cell a at x (Some cell) length p = cell_pointed_at a at cell p
 
 abbrev pub own_of : Option Pointee → List Own
 own_of None = []
@@ -145,42 +145,42 @@ pointer_in (s.Combined o k length) = None
 pointer_in (s.Function i) = None
 
 abbrev pub combined_over : Around → Entry → Option Pointee → Sectioned
-combined_over a item None = section a None item >>= λ d. apart a item.left (number_of item.array) (cells_named a None item) >>= λ u. Ok d
-combined_over a item (Some cell) = apart a item.left cell.array (Some (cell.place, 1)) >>= λ u. pointed a item.left cell item.part
+combined_over a item None = item_section a None item >>= λ d. apart a item.left (item_number item.array) (item_run a None item) >>= λ u. Ok d
+combined_over a item (Some cell) = apart a item.left cell.array (Some (cell.place, 1)) >>= λ u. cell_pointed_at a item.left cell item.part
 
 -- of numbers that may be negative the language has no `min` and `max`
-abbrev pub ordered : ℕ → Operation → Sense → Result (Unit {0}) Refusal
-ordered at op (s.Cells k length) = if is_extreme op && is_signed k then Err (at, why.Signed) else Ok tt
-ordered at op s.Nothing = Ok tt
-ordered at op (s.Constant n k) = Ok tt
-ordered at op (s.Turn k) = Ok tt
-ordered at op s.Begins = Ok tt
-ordered at op (s.Combined c k length) = Ok tt
-ordered at op (s.Pointer x p) = Ok tt
-ordered at op (s.Function i) = Ok tt
+abbrev pub is_extreme_apt : ℕ → Operation → Sense → Result (Unit {0}) Refusal
+is_extreme_apt at op (s.Cells k length) = if is_extreme op && is_signed k then Err (at, why.Signed) else Ok tt
+is_extreme_apt at op s.Nothing = Ok tt
+is_extreme_apt at op (s.Constant n k) = Ok tt
+is_extreme_apt at op (s.Turn k) = Ok tt
+is_extreme_apt at op s.Begins = Ok tt
+is_extreme_apt at op (s.Combined c k length) = Ok tt
+is_extreme_apt at op (s.Pointer x p) = Ok tt
+is_extreme_apt at op (s.Function i) = Ok tt
 
 -- in a group that combines over an item: a part of an array, or the cell of a pointer
-abbrev pub with_part : Around → Option Pointee → Entry → Around
-with_part a None item = with_portion a (number_of item.array) item.part
-with_part a (Some cell) item = a
+abbrev pub with_reduced_item : Around → Option Pointee → Entry → Around
+with_reduced_item a None item = with_portion a (item_number item.array) item.part
+with_reduced_item a (Some cell) item = a
 
 -- under `task_reduction`: a section of the group
-abbrev pub combines : Head → Operation → Entry → Headed
-combines h op item =
+abbrev pub under_reduction : Head → Operation → Entry → Headed
+under_reduction h op item =
     combined_over h.around item (pointer_in (sense h.around item.array)) >>= λ d.
-    ordered item.left op (sense h.around item.array) >>= λ u.
-    Ok (record h { clauses = h.clauses ++ d ∷ []; around = with_part (with_opening h.around (opening item.array op false (pointer_in (sense h.around item.array)))) (pointer_in (sense h.around item.array)) item })
+    is_extreme_apt item.left op (sense h.around item.array) >>= λ u.
+    Ok (record h { clauses = h.clauses ++ d ∷ []; around = with_reduced_item (with_opening h.around (opening item.array op false (pointer_in (sense h.around item.array)))) (pointer_in (sense h.around item.array)) item })
 
 -- under `shared`: what is so anyway
-abbrev pub shared : ℕ → Sense → Result (Unit {0}) Refusal
-shared at (s.Cells k length) = Ok tt
-shared at s.Nothing = Err (at, why.Unknown)
-shared at (s.Constant n k) = Err (at, why.Constant)
-shared at (s.Turn k) = Err (at, why.LoopVariable)
-shared at s.Begins = Err (at, why.LoopVariable)
-shared at (s.Combined c k length) = Err (at, why.Combined)
-shared at (s.Pointer x p) = Err (at, why.Pointer)
-shared at (s.Function i) = Err (at, why.Function)
+abbrev pub under_shared : ℕ → Sense → Result (Unit {0}) Refusal
+under_shared at (s.Cells k length) = Ok tt
+under_shared at s.Nothing = Err (at, why.Unknown)
+under_shared at (s.Constant n k) = Err (at, why.Constant)
+under_shared at (s.Turn k) = Err (at, why.LoopVariable)
+under_shared at s.Begins = Err (at, why.LoopVariable)
+under_shared at (s.Combined c k length) = Err (at, why.Combined)
+under_shared at (s.Pointer x p) = Err (at, why.Pointer)
+under_shared at (s.Function i) = Err (at, why.Function)
 
 -- under `firstprivate`: what is so anyway
 abbrev pub private : ℕ → Sense → Result (Unit {0}) Refusal
@@ -193,25 +193,25 @@ private at (s.Combined c k length) = Err (at, why.Private)
 private at (s.Pointer x p) = Err (at, why.Private)
 private at (s.Function i) = Err (at, why.Private)
 
-abbrev pub item_step : Role → Option Span → Head → Entry → Headed
-item_step r.In over h item = depends h r.In (codes "in") over item
-item_step r.Out over h item = depends h r.Out (codes "out") over item
-item_step r.Inout over h item = depends h r.Inout (codes "inout") over item
-item_step (r.Reduces op) over h item = Ok h
-item_step (r.Combines op) over h item = combines h op item
-item_step r.Shared over h item = shared item.left (sense h.around item.array) >>= λ x. Ok h
-item_step r.Firstprivate over h item = private item.left (sense h.around item.array) >>= λ x. Ok h
-item_step r.Default over h item = Ok h
-item_step r.DefaultNone over h item = Ok h
-item_step r.NumThreads over h item = Ok h
-item_step r.Priority over h item = Ok h
-item_step r.Untied over h item = Ok h
-item_step r.Mergeable over h item = Ok h
+abbrev pub claim_item : Role → Option Span → Head → Entry → Headed
+claim_item r.In over h item = under_depend h r.In (codes "in") over item
+claim_item r.Out over h item = under_depend h r.Out (codes "out") over item
+claim_item r.Inout over h item = under_depend h r.Inout (codes "inout") over item
+claim_item (r.Reduces op) over h item = Ok h
+claim_item (r.Combines op) over h item = under_reduction h op item
+claim_item r.Shared over h item = under_shared item.left (sense h.around item.array) >>= λ x. Ok h
+claim_item r.Firstprivate over h item = private item.left (sense h.around item.array) >>= λ x. Ok h
+claim_item r.Default over h item = Ok h
+claim_item r.DefaultNone over h item = Ok h
+claim_item r.NumThreads over h item = Ok h
+claim_item r.Priority over h item = Ok h
+claim_item r.Untied over h item = Ok h
+claim_item r.Mergeable over h item = Ok h
 
 -- ---- clauses
 
-abbrev pub clause_step : Head → Claim → Headed
-clause_step h c = each (item_step c.role c.over) h c.items
+abbrev pub claim_items : Head → Claim → Headed
+claim_items h c = each_or_refused (claim_item c.role c.over) h c.items
 
 -- by what a task takes part in reductions
 abbrev pub reduced_by : Role → Option Operation
@@ -231,7 +231,7 @@ reduced_by r.Mergeable = None
 
 abbrev pub joining_by : Head → Claim → Option Operation → Headed
 joining_by h c None = Ok h
-joining_by h c (Some op) = each (takes_part op) h c.items
+joining_by h c (Some op) = each_or_refused (takes_part op) h c.items
 
 abbrev pub joining_step : Head → Claim → Headed
 joining_step h c = joining_by h c (reduced_by c.role)
@@ -241,11 +241,11 @@ abbrev pub all_named : ℕ → Head → Headed
 all_named at h = if list_all (λ o. o.named) h.own then Ok h else Err (at, why.NoDependence)
 
 abbrev pub all_joining : Around → List Claim → Headed
-all_joining a cs = each joining_step (record { clauses = []; around = a; own = []; taking = [] }) cs
+all_joining a cs = each_or_refused joining_step (record { clauses = []; around = a; own = []; taking = [] }) cs
 
 -- of a directive whose name stands there: reductions first, since they say what the others name
 abbrev pub heading : ℕ → Around → List Claim → Headed
-heading at a cs = all_joining a cs >>= λ h. each clause_step h cs >>= λ k. all_named at k
+heading at a cs = all_joining a cs >>= λ h. each_or_refused claim_items h cs >>= λ k. all_named at k
 
 -- by what a clause of a group combines
 abbrev pub combined_by : Role → Operation

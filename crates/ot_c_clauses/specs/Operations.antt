@@ -17,25 +17,25 @@ operation_word o.Min = codes "min"
 operation_word o.Max = codes "max"
 
 -- by which operation `x op= e` folds; taking away adds
-abbrev pub fold_of : Sign → Option Operation
-fold_of s.Plus = Some o.Plus
-fold_of s.Minus = Some o.Plus
-fold_of s.Times = Some o.Times
-fold_of s.And = Some o.And
-fold_of s.Or = Some o.Or
-fold_of s.Xor = Some o.Xor
-fold_of s.Equal = None
-fold_of s.Less = None
-fold_of s.Rest = None
-fold_of s.Either = None
-fold_of s.Both = None
-fold_of s.Unequal = None
-fold_of s.More = None
-fold_of s.AtMost = None
-fold_of s.AtLeast = None
-fold_of s.ShiftLeft = None
-fold_of s.ShiftRight = None
-fold_of s.Over = None
+abbrev pub folding_sign : Sign → Option Operation
+folding_sign s.Plus = Some o.Plus
+folding_sign s.Minus = Some o.Plus
+folding_sign s.Times = Some o.Times
+folding_sign s.And = Some o.And
+folding_sign s.Or = Some o.Or
+folding_sign s.Xor = Some o.Xor
+folding_sign s.Equal = None
+folding_sign s.Less = None
+folding_sign s.Rest = None
+folding_sign s.Either = None
+folding_sign s.Both = None
+folding_sign s.Unequal = None
+folding_sign s.More = None
+folding_sign s.AtMost = None
+folding_sign s.AtLeast = None
+folding_sign s.ShiftLeft = None
+folding_sign s.ShiftRight = None
+folding_sign s.Over = None
 
 abbrev pub is_minus : Sign → Bool
 is_minus s.Minus = true
@@ -71,14 +71,14 @@ is_extreme o.And = false
 is_extreme o.Or = false
 is_extreme o.Xor = false
 
-abbrev pub rank : Operation → ℕ
-rank o.Plus = 0
-rank o.Times = 1
-rank o.And = 2
-rank o.Or = 3
-rank o.Xor = 4
-rank o.Min = 5
-rank o.Max = 6
+abbrev pub operation_rank : Operation → ℕ
+operation_rank o.Plus = 0
+operation_rank o.Times = 1
+operation_rank o.And = 2
+operation_rank o.Or = 3
+operation_rank o.Xor = 4
+operation_rank o.Min = 5
+operation_rank o.Max = 6
 
-abbrev pub is_same : Operation → Operation → Bool
-is_same a b = rank a == rank b
+abbrev pub is_same_operation : Operation → Operation → Bool
+is_same_operation a b = operation_rank a == operation_rank b

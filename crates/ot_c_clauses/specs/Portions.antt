@@ -10,7 +10,7 @@ use Rattle.ot_c_expressions.specs.contracts.tree.Call.{the_type as calls}
 use Rattle.ot_c_expressions.specs.Tree.{E, Literal, Variable, CellAt, Unsigned, Signed, Called, Apply, Choose, Part, Whole, Cells, Entry}
 use Rattle.ot_c_scope.specs.declared.scope.Pointee.{Pointee}
 use Rattle.ot_c_scope.specs.Constants.{Typed, constant}
-use Rattle.ot_c_scope.specs.Runs.{run}
+use Rattle.ot_c_scope.specs.Runs.{index_run}
 use Rattle.ot_c_scope.specs.Scopes.{Around, Run, Extent, portion_of, hides}
 use Rattle.ot_c_clauses.specs.Sections.{count_of, run_of, same_name}
 
@@ -88,7 +88,7 @@ begins_at a Whole i = false
 
 -- whether a cell at this index is surely one of the part over which a group combines
 abbrev pub is_cell : Around → Extent → Option ℕ → E → Bool
-is_cell a x length i = lies_in length (run_of a length x.part) (run a i) || (begins_at a x.part i && not (hides a.turns x.around))
+is_cell a x length i = lies_in length (run_of a length x.part) (index_run a i) || (begins_at a x.part i && not (hides a.turns x.around))
 
 abbrev pub is_cell_by : Around → Option Extent → Option ℕ → E → Bool
 is_cell_by a None length i = false

@@ -11,7 +11,7 @@ use Rattle.ot_c_scope.specs.declared.scope.Pointee.{Pointee}
 use Rattle.ot_c_scope.specs.declared.scope.Sense.{Sense}
 use Rattle.ot_c_scope.specs.declared.scope.Sense.TheVariants as s
 use Rattle.ot_c_scope.specs.Constants.{Typed, constant}
-use Rattle.ot_c_scope.specs.Forms.{nat, form, listed}
+use Rattle.ot_c_scope.specs.Forms.{nat, form, list_form}
 use Rattle.ot_c_scope.specs.Results.{Refusal, ◌>>=◌}
 use Rattle.ot_c_scope.specs.Scopes.{Around, Run, sense, name_text, array_text}
 use Rattle.ot_c_scope.specs.Sizes.{size}
@@ -37,8 +37,8 @@ count_of (Some n) = n
 count_of None = 1
 
 -- `[name, first, count]`
-abbrev pub row : Around → Name → Data → Data → Data
-row a x first count = listed (string (name_text a x) ∷ first ∷ count ∷ [])
+abbrev pub section_row : Around → Name → Data → Data → Data
+section_row a x first count = list_form (string (name_text a x) ∷ first ∷ count ∷ [])
 
 -- the first cell from a pointer on, and no other
 unfoldable pub is_only : Part → Bool
@@ -46,8 +46,8 @@ is_only (Cells (Literal h n j) (Literal l m k)) = n == 0 && m == 1
 is_only p = false
 
 -- the cell that a pointer points to
-abbrev pub pointed : Around → ℕ → Pointee → Part → Sectioned
-pointed a at cell p = if is_only p then Ok (listed (string (array_text a.names cell.array) ∷ nat cell.place ∷ nat 1 ∷ [])) else Err (at, why.Pointee)
+abbrev pub cell_pointed_at : Around → ℕ → Pointee → Part → Sectioned
+cell_pointed_at a at cell p = if is_only p then Ok (list_form (string (array_text a.names cell.array) ∷ nat cell.place ∷ nat 1 ∷ [])) else Err (at, why.Pointee)
 
 -- how many cells an item has that no iterator counts: never a difference, which says that one does (`Items.is_iterated` of `ot_c_overlap`)
 abbrev pub plain : Data → Data
@@ -55,9 +55,9 @@ plain d = if is_difference d then form (codes "+") (d ∷ nat 0 ∷ []) else d
 
 -- a part of what has so many cells
 abbrev pub part : Around → ℕ → Name → Option ℕ → Part → Sectioned
-part a at x length Whole = Ok (row a x (nat 0) (nat (count_of length)))
+part a at x length Whole = Ok (section_row a x (nat 0) (nat (count_of length)))
 part a at x None (Cells first count) = Err (at, why.NoArray)
-part a at x (Some n) (Cells first count) = size a first >>= λ f. size a count >>= λ c. Ok (row a x f.0 (plain c.0))
+part a at x (Some n) (Cells first count) = size a first >>= λ f. size a count >>= λ c. Ok (section_row a x f.0 (plain c.0))
 
 -- whether both are the same name, which means nothing by itself
 unfoldable pub same_name : Name → Name → Bool
@@ -70,30 +70,30 @@ is_counted variable (Cells (Variable h x) (Literal l n k)) = n == 1 && same_name
 is_counted variable p = false
 
 -- the cells of an array that an iterator counts, each of which is an item: from a number up to another
-abbrev pub counted : Around → ℕ → Span → Name → Option ℕ → Part → Sectioned
-counted a at over x None p = Err (at, why.Iterator)
-counted a at over x (Some n) p =
+abbrev pub iterated_cells : Around → ℕ → Span → Name → Option ℕ → Part → Sectioned
+iterated_cells a at over x None p = Err (at, why.Iterator)
+iterated_cells a at over x (Some n) p =
     if is_counted over.variable p
-    then (size a over.start >>= λ f. size a over.end >>= λ e. Ok (row a x f.0 (form (codes "-") (e.0 ∷ f.0 ∷ []))))
+    then (size a over.start >>= λ f. size a over.end >>= λ e. Ok (section_row a x f.0 (form (codes "-") (e.0 ∷ f.0 ∷ []))))
     else Err (at, why.Iterator)
 
 abbrev pub part_over : Around → ℕ → Option Span → Name → Option ℕ → Part → Sectioned
 part_over a at None x length p = part a at x length p
-part_over a at (Some over) x length p = counted a at over x length p
+part_over a at (Some over) x length p = iterated_cells a at over x length p
 
-abbrev pub section_by : Around → ℕ → Option Span → Entry → Sense → Sectioned
-section_by a at over item (s.Cells k length) = part_over a at over item.array length item.part
-section_by a at over item s.Nothing = Err (at, why.Unknown)
-section_by a at over item (s.Constant n k) = Err (at, why.Constant)
-section_by a at over item (s.Turn k) = Err (at, why.LoopVariable)
-section_by a at over item s.Begins = Err (at, why.LoopVariable)
-section_by a at over item (s.Combined o k length) = Err (at, why.Combined)
-section_by a at over item (s.Pointer x p) = Err (at, why.Pointer)
-section_by a at over item (s.Function i) = Err (at, why.Function)
+abbrev pub section_in_sense : Around → ℕ → Option Span → Entry → Sense → Sectioned
+section_in_sense a at over item (s.Cells k length) = part_over a at over item.array length item.part
+section_in_sense a at over item s.Nothing = Err (at, why.Unknown)
+section_in_sense a at over item (s.Constant n k) = Err (at, why.Constant)
+section_in_sense a at over item (s.Turn k) = Err (at, why.LoopVariable)
+section_in_sense a at over item s.Begins = Err (at, why.LoopVariable)
+section_in_sense a at over item (s.Combined o k length) = Err (at, why.Combined)
+section_in_sense a at over item (s.Pointer x p) = Err (at, why.Pointer)
+section_in_sense a at over item (s.Function i) = Err (at, why.Function)
 
 -- the section that an item names, over which no open group combines; a fault is where its name stands, or in its places
-abbrev pub section : Around → Option Span → Entry → Sectioned
-section a over item = section_by a item.left over item (sense a item.array)
+abbrev pub item_section : Around → Option Span → Entry → Sectioned
+item_section a over item = section_in_sense a item.left over item (sense a item.array)
 
 -- ---- which cells an item names
 
@@ -111,15 +111,15 @@ abbrev pub run_over : Around → Option Span → Option ℕ → Part → Run
 run_over a None length p = run_of a length p
 run_over a (Some over) length p = run_between (constant a over.start) (constant a over.end)
 
-abbrev pub length_of : Sense → Option ℕ
-length_of (s.Cells k length) = length
-length_of s.Nothing = None
-length_of (s.Constant n k) = None
-length_of (s.Turn k) = None
-length_of s.Begins = None
-length_of (s.Combined o k length) = None
-length_of (s.Pointer x p) = None
-length_of (s.Function i) = None
+abbrev pub sense_length : Sense → Option ℕ
+sense_length (s.Cells k length) = length
+sense_length s.Nothing = None
+sense_length (s.Constant n k) = None
+sense_length (s.Turn k) = None
+sense_length s.Begins = None
+sense_length (s.Combined o k length) = None
+sense_length (s.Pointer x p) = None
+sense_length (s.Function i) = None
 
-abbrev pub cells_named : Around → Option Span → Entry → Run
-cells_named a over item = run_over a over (length_of (sense a item.array)) item.part
+abbrev pub item_run : Around → Option Span → Entry → Run
+item_run a over item = run_over a over (sense_length (sense a item.array)) item.part

@@ -2,9 +2,9 @@
 ghost use Rattle.std.specs.Prelude.{◌≡◌, ◌++◌, IfOk, map};
 ghost use Rattle.serde_json.specs.View.{view};
 ghost use Rattle.ot_c_expressions.specs.Tree.{item_of, items_of, over_of, part_of, clause_of, clauses_of};
-ghost use Rattle.ot_c_scope.specs.Results.{Gives};
+ghost use Rattle.ot_c_scope.specs.Results.{GivesAs};
 ghost use Rattle.ot_c_clauses.specs.Clauses.{Head, head_of, joined_of};
-ghost use Rattle.ot_c_arrays.specs.Each.{each};
+ghost use Rattle.ot_c_arrays.specs.Each.{each_or_refused};
 ghost use Rattle.ot_c_clauses.specs.Clauses as meant;
 
 use crate::own::{Own, Owns, Taking, is_run, taking_of};
@@ -59,7 +59,7 @@ fn depends<'a>(
     over: &Option<Range>,
     item: &Item,
 ) -> Result<Heading<'a>, CFault>
-    ensures { Gives head_of result (meant.depends (head_of heading.entry) role word.now (over_of over.now) (item_of item.now)) }
+    ensures { GivesAs head_of result (meant.under_depend (head_of heading.entry) role word.now (over_of over.now) (item_of item.now)) }
 {
     let cells = cells_named(&heading.scope, over, item);
     let count = heading.own.count(item.array, cells);
@@ -81,7 +81,7 @@ fn depends<'a>(
 
 /// The name of an item, where it is one among those of the text.
 fn number_of(name: Name) -> usize
-    ensures { result ≡ meant.number_of name }
+    ensures { result ≡ meant.item_number name }
 {
     match name {
         Name::Other(number) => number,
@@ -125,7 +125,7 @@ fn part_or_cell(
     found: (Option<Pointee>, Option<usize>),
     item: &Item,
 ) -> Result<Value, CFault>
-    ensures { Gives (λ v. view v) result (meant.part_or_cell scope.now item.now.left item.now.array found.0 found.1 (part_of item.now.place)) }
+    ensures { GivesAs (λ v. view v) result (meant.part_or_cell scope.now item.now.left item.now.array found.0 found.1 (part_of item.now.place)) }
 {
     match found.0 {
         None => part(alloc, scope, item.left, item.array, found.1, &item.place),
@@ -150,7 +150,7 @@ fn takes_part<'a>(
     mut joined: Joined<'a>,
     item: &Item,
 ) -> Result<Joined<'a>, CFault>
-    ensures { Gives joined_of result (meant.takes_part operation (joined_of joined.entry) (item_of item.now)) }
+    ensures { GivesAs joined_of result (meant.takes_part operation (joined_of joined.entry) (item_of item.now)) }
 {
     let Some(found) = may_join(joined.scope.sense(item.array), operation) else {
         return Err(CFault::Outside(item.left, Reason::NoGroup));
@@ -181,7 +181,7 @@ fn apart(
     array: usize,
     cells: Option<(u64, u64)>,
 ) -> Result<(), CFault>
-    ensures { Gives (λ x. x) result (meant.apart scope.now left array cells) }
+    ensures { GivesAs (λ x. x) result (meant.apart scope.now left array cells) }
 {
     match scope.sense(Name::Other(array)) {
         Sense::Cells(_, _) => {
@@ -212,7 +212,7 @@ fn combined_over(
     item: &Item,
     pointer: Option<Pointee>,
 ) -> Result<Value, CFault>
-    ensures { Gives (λ v. view v) result (meant.combined_over scope.now (item_of item.now) pointer) }
+    ensures { GivesAs (λ v. view v) result (meant.combined_over scope.now (item_of item.now) pointer) }
 {
     match pointer {
         None => {
@@ -230,7 +230,7 @@ fn combined_over(
 
 /// Of numbers that may be negative the language has no `min` and `max`.
 fn ordered(left: usize, operation: Operation, sense: Sense) -> Result<(), CFault>
-    ensures { Gives (λ x. x) result (meant.ordered left operation sense) }
+    ensures { GivesAs (λ x. x) result (meant.is_extreme_apt left operation sense) }
 {
     match sense {
         Sense::Cells(kind, _) if is_extreme(operation) && is_signed(kind) => {
@@ -247,7 +247,7 @@ fn with_part<'a>(
     pointer: Option<Pointee>,
     item: &'a Item,
 ) -> Result<Scope<'a>, AllocError>
-    ensures { IfOk result (λ s. s ≡ meant.with_part scope.entry pointer (item_of item.now)) }
+    ensures { IfOk result (λ s. s ≡ meant.with_reduced_item scope.entry pointer (item_of item.now)) }
 {
     match pointer {
         None => scope.with_portion(alloc, number_of(item.array), &item.place),
@@ -262,7 +262,7 @@ fn combines<'a>(
     operation: Operation,
     item: &'a Item,
 ) -> Result<Heading<'a>, CFault>
-    ensures { Gives head_of result (meant.combines (head_of heading.entry) operation (item_of item.now)) }
+    ensures { GivesAs head_of result (meant.under_reduction (head_of heading.entry) operation (item_of item.now)) }
 {
     let pointer = pointer_in(heading.scope.sense(item.array));
     let section = combined_over(alloc, &heading.scope, item, pointer)?;
@@ -281,7 +281,7 @@ fn combines<'a>(
 
 /// An item under `shared`, which says what is so anyway: arrays are shared.
 fn shared(left: usize, sense: Sense) -> Result<(), CFault>
-    ensures { Gives (λ x. x) result (meant.shared left sense) }
+    ensures { GivesAs (λ x. x) result (meant.under_shared left sense) }
 {
     match sense {
         Sense::Cells(_, _) => Ok(()),
@@ -291,7 +291,7 @@ fn shared(left: usize, sense: Sense) -> Result<(), CFault>
 
 /// An item under `firstprivate`, which says what is so anyway: each task has a copy of a loop's variable.
 fn private(left: usize, sense: Sense) -> Result<(), CFault>
-    ensures { Gives (λ x. x) result (meant.private left sense) }
+    ensures { GivesAs (λ x. x) result (meant.private left sense) }
 {
     match sense {
         Sense::Turn(_) => Ok(()),
@@ -307,7 +307,7 @@ fn item_step<'a>(
     over: &Option<Range>,
     item: &'a Item,
 ) -> Result<Heading<'a>, CFault>
-    ensures { Gives head_of result (meant.item_step role (over_of over.now) (head_of heading.entry) (item_of item.now)) }
+    ensures { GivesAs head_of result (meant.claim_item role (over_of over.now) (head_of heading.entry) (item_of item.now)) }
 {
     match role {
         Role::In => depends(alloc, heading, role, "in", over, item),
@@ -336,7 +336,7 @@ fn items<'a>(
     over: &Option<Range>,
     items: &'a [Item],
 ) -> Result<Heading<'a>, CFault>
-    ensures { Gives head_of result (each (meant.item_step role (over_of over.now)) (head_of heading.entry) (items_of items.now)) }
+    ensures { GivesAs head_of result (each_or_refused (meant.claim_item role (over_of over.now)) (head_of heading.entry) (items_of items.now)) }
 {
     let mut heading = heading;
     for item in items {
@@ -351,7 +351,7 @@ fn clause_step<'a>(
     heading: Heading<'a>,
     clause: &'a Clause,
 ) -> Result<Heading<'a>, CFault>
-    ensures { Gives head_of result (meant.clause_step (head_of heading.entry) (clause_of clause.now)) }
+    ensures { GivesAs head_of result (meant.claim_items (head_of heading.entry) (clause_of clause.now)) }
 {
     items(alloc, heading, clause.role, &clause.over, &clause.items)
 }
@@ -375,7 +375,7 @@ fn joining<'a>(
     joined: Joined<'a>,
     items: &[Item],
 ) -> Result<Joined<'a>, CFault>
-    ensures { Gives joined_of result (each (meant.takes_part operation) (joined_of joined.entry) (items_of items.now)) }
+    ensures { GivesAs joined_of result (each_or_refused (meant.takes_part operation) (joined_of joined.entry) (items_of items.now)) }
 {
     let mut joined = joined;
     for item in items {
@@ -390,7 +390,7 @@ fn joining_step<'a>(
     joined: Joined<'a>,
     clause: &Clause,
 ) -> Result<Joined<'a>, CFault>
-    ensures { Gives joined_of result (meant.joining_step (joined_of joined.entry) (clause_of clause.now)) }
+    ensures { GivesAs joined_of result (meant.joining_step (joined_of joined.entry) (clause_of clause.now)) }
 {
     match reduced_by(clause.role) {
         Some(operation) => joining(alloc, operation, joined, &clause.items),
@@ -404,7 +404,7 @@ fn all_joining<'a>(
     scope: Scope<'a>,
     clauses: &[Clause],
 ) -> Result<Joined<'a>, CFault>
-    ensures { Gives joined_of result (meant.all_joining scope.entry (clauses_of clauses.now)) }
+    ensures { GivesAs joined_of result (meant.all_joining scope.entry (clauses_of clauses.now)) }
 {
     let mut joined = Joined {
         clauses: Vec::new(alloc),
@@ -424,7 +424,7 @@ fn others<'a>(
     heading: Heading<'a>,
     clauses: &'a [Clause],
 ) -> Result<Heading<'a>, CFault>
-    ensures { Gives head_of result (each meant.clause_step (head_of heading.entry) (clauses_of clauses.now)) }
+    ensures { GivesAs head_of result (each_or_refused meant.claim_items (head_of heading.entry) (clauses_of clauses.now)) }
 {
     let mut heading = heading;
     for clause in clauses {
@@ -452,7 +452,7 @@ pub fn headed<'a>(
     scope: Scope<'a>,
     clauses: &'a [Clause],
 ) -> Result<Heading<'a>, CFault>
-    ensures { Gives head_of result (meant.heading left scope.entry (clauses_of clauses.now)) }
+    ensures { GivesAs head_of result (meant.heading left scope.entry (clauses_of clauses.now)) }
 {
     let joined = all_joining(alloc, scope, clauses)?;
     let heading = heading_of(alloc, joined)?;
@@ -479,7 +479,7 @@ fn combined_by(role: Role) -> Operation
 
 /// The operation of a group.
 pub fn group_operation(clauses: &[Clause]) -> Result<Operation, CFault>
-    ensures { Gives (λ o. o) result (meant.group_operation (clauses_of clauses.now)) }
+    ensures { GivesAs (λ o. o) result (meant.group_operation (clauses_of clauses.now)) }
 {
     match clauses {
         [] => Ok(Operation::Plus),

@@ -1,7 +1,7 @@
 //! How a task takes part in reductions, and the cells that it folds into by pointers.
 ghost use Rattle.std.specs.Prelude.{◌≡◌, ◌≤◌, ◌-◌, ◌<◌, ◌^◌, IfOk, IfSome, Some, length, map};
 ghost use Rattle.std.specs.List.{count_by, list_all};
-ghost use Rattle.ot_c_clauses.specs.Cells.{is_at, times_at, marked, HasArrays, HasTimes, HasRun};
+ghost use Rattle.ot_c_clauses.specs.Cells.{is_at, times_at, under_in, HasArrays, HasTimes, HasRun};
 ghost use Rattle.ot_c_clauses.specs.Owns as meant;
 
 use ot_c_scope::{Pointee, points_into};
@@ -53,11 +53,11 @@ pub(crate) struct Owns {
 impl Model for Owns {
     ghost use Rattle.std.specs.Prelude.{List, map};
     ghost use Rattle.ot_c_clauses.specs.declared.own.Own.{Own};
-    ghost use Rattle.ot_c_clauses.specs.Cells.{marked, AreKept};
+    ghost use Rattle.ot_c_clauses.specs.Cells.{under_in, AreKept};
 
     ghost Value = { List Own };
 
-    ghost view = { λ s. map (marked s.named) s.cells.items };
+    ghost view = { λ s. map (under_in s.named) s.cells.items };
 
     ghost invariant = { λ s. AreKept s.arrays s.times s.cells.items };
 }
@@ -282,7 +282,7 @@ fn all_named_by(
 
 /// Whether each of some cells says that it stands under `in` too, or is among those that do.
 fn are_named(own: &[Own], named: &BTreeSet<(usize, u64)>) -> bool
-    ensures { result ≡ list_all (λ o. (marked named.now o).named) own.now }
+    ensures { result ≡ list_all (λ o. (under_in named.now o).named) own.now }
 {
     for one in own {
         if !is_named(*one, named) {
@@ -293,7 +293,7 @@ fn are_named(own: &[Own], named: &BTreeSet<(usize, u64)>) -> bool
 }
 
 fn is_named(own: Own, named: &BTreeSet<(usize, u64)>) -> bool
-    ensures { result ≡ (marked named.now own).named }
+    ensures { result ≡ (under_in named.now own).named }
 {
     own.named || named.contains(&(own.cell.array, own.cell.place))
 }

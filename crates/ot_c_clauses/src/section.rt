@@ -2,7 +2,7 @@
 ghost use Rattle.std.specs.Prelude.{◌≡◌, IfOk};
 ghost use Rattle.serde_json.specs.View.{view};
 ghost use Rattle.ot_c_expressions.specs.Tree.{item_of, over_of, part_of, range_of};
-ghost use Rattle.ot_c_scope.specs.Results.{Gives};
+ghost use Rattle.ot_c_scope.specs.Results.{GivesAs};
 ghost use Rattle.ot_c_clauses.specs.Sections as meant;
 
 use ot_c_expressions::{Expr, Item, Place, Range};
@@ -56,7 +56,7 @@ pub(crate) fn pointed(
     cell: Pointee,
     place: &Place,
 ) -> Result<Value, CFault>
-    ensures { Gives (λ v. view v) result (meant.pointed scope.now left cell (part_of place.now)) }
+    ensures { GivesAs (λ v. view v) result (meant.cell_pointed_at scope.now left cell (part_of place.now)) }
 {
     if !is_only(place) {
         return Err(CFault::Outside(left, Reason::Pointee));
@@ -85,7 +85,7 @@ pub(crate) fn part(
     length: Option<usize>,
     place: &Place,
 ) -> Result<Value, CFault>
-    ensures { Gives (λ v. view v) result (meant.part scope.now left array length (part_of place.now)) }
+    ensures { GivesAs (λ v. view v) result (meant.part scope.now left array length (part_of place.now)) }
 {
     let name = scope.named(alloc, array)?;
     match place {
@@ -137,7 +137,7 @@ fn counted(
     length: Option<usize>,
     place: &Place,
 ) -> Result<Value, CFault>
-    ensures { Gives (λ v. view v) result (meant.counted scope.now left (range_of over.now) array length (part_of place.now)) }
+    ensures { GivesAs (λ v. view v) result (meant.iterated_cells scope.now left (range_of over.now) array length (part_of place.now)) }
 {
     if length.is_none() || !is_counted(over.variable, place) {
         return Err(CFault::Outside(left, Reason::Iterator));
@@ -156,7 +156,7 @@ pub(crate) fn section(
     over: &Option<Range>,
     item: &Item,
 ) -> Result<Value, CFault>
-    ensures { Gives (λ v. view v) result (meant.section scope.now (over_of over.now) (item_of item.now)) }
+    ensures { GivesAs (λ v. view v) result (meant.item_section scope.now (over_of over.now) (item_of item.now)) }
 {
     let left = item.left;
     match scope.sense(item.array) {
@@ -190,7 +190,7 @@ pub(crate) fn run_of(scope: &Scope<'_>, length: Option<usize>, place: &Place) ->
 
 /// How many cells an array has.
 fn length_of(sense: Sense) -> Option<usize>
-    ensures { result ≡ meant.length_of sense }
+    ensures { result ≡ meant.sense_length sense }
 {
     match sense {
         Sense::Cells(_, length) => length,
@@ -205,7 +205,7 @@ pub(crate) fn cells_named(
     over: &Option<Range>,
     item: &Item,
 ) -> Option<(u64, u64)>
-    ensures { result ≡ meant.cells_named scope.now (over_of over.now) (item_of item.now) }
+    ensures { result ≡ meant.item_run scope.now (over_of over.now) (item_of item.now) }
 {
     match over {
         None => run_of(scope, length_of(scope.sense(item.array)), &item.place),

@@ -21,7 +21,7 @@ pub fn operation_word(operation: Operation) -> &'static str
 
 /// By which operation `x op= e` folds; taking away adds.
 pub fn fold_of(sign: Sign) -> Option<Operation>
-    ensures { result ≡ meant.fold_of sign }
+    ensures { result ≡ meant.folding_sign sign }
 {
     match sign {
         Sign::Plus | Sign::Minus => Some(Operation::Plus),
@@ -60,7 +60,7 @@ pub(crate) fn is_extreme(operation: Operation) -> bool
 }
 
 fn rank(operation: Operation) -> u32
-    ensures { result ≡ meant.rank operation }
+    ensures { result ≡ meant.operation_rank operation }
 {
     match operation {
         Operation::Plus => 0,
@@ -75,7 +75,7 @@ fn rank(operation: Operation) -> u32
 
 /// Whether both are one operation.
 pub fn is_same(one: Operation, two: Operation) -> bool
-    ensures { result ≡ meant.is_same one two }
+    ensures { result ≡ meant.is_same_operation one two }
 {
     rank(one) == rank(two)
 }

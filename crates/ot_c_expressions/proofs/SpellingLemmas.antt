@@ -19,10 +19,10 @@ use Rattle.ot_c_expressions.specs.declared.sign.Unary.{Unary}
 use Rattle.ot_c_expressions.specs.declared.sign.Unary.TheVariants as u
 use Rattle.ot_c_expressions.specs.declared.tree.Call.{Call}
 use Rattle.ot_c_expressions.specs.declared.tree.Call.TheVariants as c
-use Rattle.ot_c_expressions.specs.Signs.{binds, sign_of, begin_of, signed, any_sign, if_tight, front_sign}
+use Rattle.ot_c_expressions.specs.Signs.{binds, sign_of, begin_of, sign_read, any_sign, if_tight, front_sign}
 use Rattle.ot_c_expressions.specs.Tree.{E, Literal, Variable, CellAt, Unsigned, Signed, Called, Apply, Choose}
-use Rattle.ot_c_expressions.specs.Reading.{◌>>=◌, Read, open_at, close_at, close_index_at, comma_at, colon_at, call_of, is_unsigned, cast_end, indexed_at, named_at, called_at, bracket_at, prefixed_at, operand_at, go_on, too_long, more_at, question_at, chosen, choice_at, value_at}
-use Rattle.ot_c_expressions.specs.Spelling.{sorts, sort_of, sign_mark, unary_mark, call_name, bracketed, wanted, spelled, behind_side, placed, row, nested, depth, IsName, IsPlain, goes_on}
+use Rattle.ot_c_expressions.specs.Reading.{◌>>=◌, Read, open_at, close_at, close_index_at, comma_at, colon_at, call_of, is_unsigned, cast_end, indexed_at, named_at, called_at, bracket_at, prefixed_at, operand_at, go_on, too_long, more_at, question_at, choice_read, choice_at, value_at}
+use Rattle.ot_c_expressions.specs.Spelling.{sorts, sort_of, sign_mark, unary_mark, call_name, in_brackets, words_wanted, words_of_value, behind_side, value_with_places, row, depth_in_brackets, depth, IsName, IsPlain, goes_on}
 
 -- ---- numbers
 
@@ -76,7 +76,7 @@ looser n k ws le stops = record { sign = λ l h. stops.sign l (omega (arith, le,
 
 no_sign : (mark : Mark) (ws : List Word) (n : ℕ) → sign_of mark ≡ None → front_sign n (w.Mark mark ∷ ws) ≡ None
 unfolding any_sign
-no_sign mark ws n is = ap (λ x. if_tight n (signed ws x)) is
+no_sign mark ws n is = ap (λ x. if_tight n (sign_read ws x)) is
 
 stop_close : (ws : List Word) → Stops 1 (w.Mark m.Close ∷ ws)
 unfolding sign_of question_at indexes
@@ -105,7 +105,7 @@ stop_question ws = record { sign = λ n h. no_sign m.Question ws n refl; choice 
 
 sign_front : (sign : Sign) (ws : List Word) (n : ℕ) → front_sign n (w.Mark (sign_mark sign) ∷ ws) ≡ if_tight n (Some (sign, ws))
 unfolding any_sign
-sign_front sign ws n = ap (λ x. if_tight n (signed ws x)) (is_sign sign).is
+sign_front sign ws n = ap (λ x. if_tight n (sign_read ws x)) (is_sign sign).is
 
 sign_found : (sign : Sign) (ws : List Word) (n : ℕ) → n ≤ binds sign → front_sign n (w.Mark (sign_mark sign) ∷ ws) ≡ Some (sign, ws)
 sign_found sign ws n h = sign_front sign ws n ∙ ap (λ t. if t then None else Some (sign, ws)) (not_below (binds sign) n h)
@@ -163,7 +163,7 @@ stops_here inner (suc t) n e ws is = ap (go_on inner (more_at inner t n) e ws) i
 
 no_more : (inner : ℕ → List Word → Read) (n : ℕ) (e : E) (ws : List Word) → question_at n ws ≡ None → choice_at inner n e ws ≡ Ok (e, ws)
 unfolding choice_at
-no_more inner n e ws is = ap (chosen inner e ws) is
+no_more inner n e ws is = ap (choice_read inner e ws) is
 
 -- a row behind which nothing goes on
 whole : (d n : ℕ) (e : E) (ws rest : List Word) → row_at d 24 n ws ≡ Ok (e, rest) → Stops n rest → value_at (suc d) n ws ≡ Ok (e, rest)
@@ -184,7 +184,7 @@ sign_step inner sign t n a b ws rest fits read =
 -- ---- operands
 
 bracket_back : (d : ℕ) (e : E) (ws rest : List Word) → cast_end (ws ++ (w.Mark m.Close ∷ rest)) ≡ None → value_at d 1 (ws ++ (w.Mark m.Close ∷ rest)) ≡ Ok (e, w.Mark m.Close ∷ rest)
-    → operand_at (value_at d) (bracketed ws ++ rest) ≡ Ok (e, rest)
+    → operand_at (value_at d) (in_brackets ws ++ rest) ≡ Ok (e, rest)
 unfolding operand_at begin_of bracket_at close_at
 bracket_back d e ws rest none read = rw (append_assoc ws (w.Mark m.Close ∷ []) rest, none, read) refl
 
@@ -239,7 +239,7 @@ unfolding cast_end
 no_cast x (w.Mark m.Close ∷ ws) is = ap (λ t. if t then Some ws else None) is
 no_cast x _ is = refl
 
-side_no_cast : (t : Bool) (e : E) (ws : List Word) → ((r : List Word) → cast_end (spelled e ++ r) ≡ None) → cast_end ((if t then bracketed (spelled e) else spelled e) ++ ws) ≡ None
+side_no_cast : (t : Bool) (e : E) (ws : List Word) → ((r : List Word) → cast_end (words_of_value e ++ r) ≡ None) → cast_end ((if t then in_brackets (words_of_value e) else words_of_value e) ++ ws) ≡ None
 unfolding cast_end
 side_no_cast true e ws none = refl
 side_no_cast false e ws none = none ws
@@ -251,50 +251,50 @@ pub record Back (e : E) : Type 0 where
   pub tall : 1 ≤ depth e
   pub sort : 1 ≤ sort_of e
   pub short : row e ≤ 24
-  pub uncast : (ws : List Word) → cast_end (spelled e ++ ws) ≡ None
-  pub front : 2 ≤ sort_of e → (d t n : ℕ) (rest : List Word) → depth e ≤ suc d → n ≤ sort_of e → Stops (sort_of e + 1) rest → row_at d (row e + t) n (spelled e ++ rest) ≡ more_at (value_at d) t n (placed e rest) rest
-  pub value : (d n : ℕ) (rest : List Word) → depth e ≤ d → n ≤ sort_of e → Stops n rest → value_at d n (spelled e ++ rest) ≡ Ok (placed e rest, rest)
+  pub uncast : (ws : List Word) → cast_end (words_of_value e ++ ws) ≡ None
+  pub front : 2 ≤ sort_of e → (d t n : ℕ) (rest : List Word) → depth e ≤ suc d → n ≤ sort_of e → Stops (sort_of e + 1) rest → row_at d (row e + t) n (words_of_value e ++ rest) ≡ more_at (value_at d) t n (value_with_places e rest) rest
+  pub value : (d n : ℕ) (rest : List Word) → depth e ≤ d → n ≤ sort_of e → Stops n rest → value_at d n (words_of_value e ++ rest) ≡ Ok (value_with_places e rest, rest)
 
 -- a side in brackets is an operand
-bracket_side : (e : E) (d : ℕ) (rest : List Word) → Back e → depth e + 1 ≤ suc d → operand_at (value_at d) (bracketed (spelled e) ++ rest) ≡ Ok (placed e (w.Mark m.Close ∷ rest), rest)
-bracket_side e d rest back deep = bracket_back d (placed e (w.Mark m.Close ∷ rest)) (spelled e) rest (back.uncast (w.Mark m.Close ∷ rest)) (back.value d 1 (w.Mark m.Close ∷ rest) (omega (arith, deep)) back.sort (stop_close rest))
+bracket_side : (e : E) (d : ℕ) (rest : List Word) → Back e → depth e + 1 ≤ suc d → operand_at (value_at d) (in_brackets (words_of_value e) ++ rest) ≡ Ok (value_with_places e (w.Mark m.Close ∷ rest), rest)
+bracket_side e d rest back deep = bracket_back d (value_with_places e (w.Mark m.Close ∷ rest)) (words_of_value e) rest (back.uncast (w.Mark m.Close ∷ rest)) (back.value d 1 (w.Mark m.Close ∷ rest) (omega (arith, deep)) back.sort (stop_close rest))
 
 -- a side at the front of a row
 row_side : (t : Bool) (e : E) (k d l n : ℕ) (rest : List Word) → nat_lt (sort_of e) k ≡ t → Back e → (if t then depth e + 1 else depth e) ≤ suc d → n ≤ k → 2 ≤ k → Stops (k + 1) rest
-    → row_at d ((if t then 0 else row e) + l) n ((if t then bracketed (spelled e) else spelled e) ++ rest) ≡ more_at (value_at d) l n (placed e (if t then w.Mark m.Close ∷ rest else rest)) rest
+    → row_at d ((if t then 0 else row e) + l) n ((if t then in_brackets (words_of_value e) else words_of_value e) ++ rest) ≡ more_at (value_at d) l n (value_with_places e (if t then w.Mark m.Close ∷ rest else rest)) rest
 row_side true e k d l n rest is back deep fits two stops =
     let none : 0 + l ≡ l = omega arith in
-    ap (λ i. row_at d i n (bracketed (spelled e) ++ rest)) none ∙ begun d l n (placed e (w.Mark m.Close ∷ rest)) (bracketed (spelled e) ++ rest) rest (bracket_side e d rest back deep)
+    ap (λ i. row_at d i n (in_brackets (words_of_value e) ++ rest)) none ∙ begun d l n (value_with_places e (w.Mark m.Close ∷ rest)) (in_brackets (words_of_value e) ++ rest) rest (bracket_side e d rest back deep)
 row_side false e k d l n rest is back deep fits two stops =
     let sort = least (sort_of e) k is in
     back.front (omega (arith, sort, two)) d l n rest deep (omega (arith, sort, fits)) (looser (k + 1) (sort_of e + 1) rest (omega (arith, sort)) stops)
 
 -- a side alone
 value_side : (t : Bool) (e : E) (k d : ℕ) (rest : List Word) → nat_lt (sort_of e) k ≡ t → Back e → (if t then depth e + 1 else depth e) ≤ d → Stops k rest
-    → value_at d k ((if t then bracketed (spelled e) else spelled e) ++ rest) ≡ Ok (placed e (if t then w.Mark m.Close ∷ rest else rest), rest)
+    → value_at d k ((if t then in_brackets (words_of_value e) else words_of_value e) ++ rest) ≡ Ok (value_with_places e (if t then w.Mark m.Close ∷ rest else rest), rest)
 value_side true e k zero rest is back deep stops = absurd (omega (arith, deep))
 value_side true e k (suc d) rest is back deep stops =
-    whole d k (placed e (w.Mark m.Close ∷ rest)) (bracketed (spelled e) ++ rest) rest (begun d 24 k (placed e (w.Mark m.Close ∷ rest)) (bracketed (spelled e) ++ rest) rest (bracket_side e d rest back deep) ∙ stops_here (value_at d) 24 k (placed e (w.Mark m.Close ∷ rest)) rest (stops.sign k (omega arith))) stops
+    whole d k (value_with_places e (w.Mark m.Close ∷ rest)) (in_brackets (words_of_value e) ++ rest) rest (begun d 24 k (value_with_places e (w.Mark m.Close ∷ rest)) (in_brackets (words_of_value e) ++ rest) rest (bracket_side e d rest back deep) ∙ stops_here (value_at d) 24 k (value_with_places e (w.Mark m.Close ∷ rest)) rest (stops.sign k (omega arith))) stops
 value_side false e k d rest is back deep stops = back.value d k rest deep (least (sort_of e) k is) stops
 
 -- what is read at the front of a row is read alone
-by_row : (e : E) → 1 ≤ depth e → row e ≤ 24 → ((d t n : ℕ) (rest : List Word) → depth e ≤ suc d → n ≤ sort_of e → Stops (sort_of e + 1) rest → row_at d (row e + t) n (spelled e ++ rest) ≡ more_at (value_at d) t n (placed e rest) rest)
-    → (d n : ℕ) (rest : List Word) → depth e ≤ d → n ≤ sort_of e → Stops n rest → value_at d n (spelled e ++ rest) ≡ Ok (placed e rest, rest)
+by_row : (e : E) → 1 ≤ depth e → row e ≤ 24 → ((d t n : ℕ) (rest : List Word) → depth e ≤ suc d → n ≤ sort_of e → Stops (sort_of e + 1) rest → row_at d (row e + t) n (words_of_value e ++ rest) ≡ more_at (value_at d) t n (value_with_places e rest) rest)
+    → (d n : ℕ) (rest : List Word) → depth e ≤ d → n ≤ sort_of e → Stops n rest → value_at d n (words_of_value e ++ rest) ≡ Ok (value_with_places e rest, rest)
 by_row e tall short read zero n rest deep fits stops = absurd (omega (arith, tall, deep))
 by_row e tall short read (suc d) n rest deep fits stops =
     let is : 24 ≡ row e + (24 - row e) = omega (arith, short) in
-    let front = ap (λ l. row_at d l n (spelled e ++ rest)) is ∙ read d (24 - row e) n rest deep fits (looser n (sort_of e + 1) rest (omega (arith, fits)) stops) in
-    whole d n (placed e rest) (spelled e ++ rest) rest (front ∙ stops_here (value_at d) (24 - row e) n (placed e rest) rest (stops.sign n (omega arith))) stops
+    let front = ap (λ l. row_at d l n (words_of_value e ++ rest)) is ∙ read d (24 - row e) n rest deep fits (looser n (sort_of e + 1) rest (omega (arith, fits)) stops) in
+    whole d n (value_with_places e rest) (words_of_value e ++ rest) rest (front ∙ stops_here (value_at d) (24 - row e) n (value_with_places e rest) rest (stops.sign n (omega arith))) stops
 
 -- what is an operand
-by_operand : (e : E) → row e ≡ 0 → ((d : ℕ) (rest : List Word) → depth e ≤ suc d → indexes rest ≡ false → operand_at (value_at d) (spelled e ++ rest) ≡ Ok (placed e rest, rest))
-    → (d t n : ℕ) (rest : List Word) → depth e ≤ suc d → n ≤ sort_of e → Stops (sort_of e + 1) rest → row_at d (row e + t) n (spelled e ++ rest) ≡ more_at (value_at d) t n (placed e rest) rest
+by_operand : (e : E) → row e ≡ 0 → ((d : ℕ) (rest : List Word) → depth e ≤ suc d → indexes rest ≡ false → operand_at (value_at d) (words_of_value e ++ rest) ≡ Ok (value_with_places e rest, rest))
+    → (d t n : ℕ) (rest : List Word) → depth e ≤ suc d → n ≤ sort_of e → Stops (sort_of e + 1) rest → row_at d (row e + t) n (words_of_value e ++ rest) ≡ more_at (value_at d) t n (value_with_places e rest) rest
 by_operand e none read d t n rest deep fits stops =
     let is : row e + t ≡ t = omega (arith, none) in
-    ap (λ l. row_at d l n (spelled e ++ rest)) is ∙ begun d t n (placed e rest) (spelled e ++ rest) rest (read d rest deep stops.index)
+    ap (λ l. row_at d l n (words_of_value e ++ rest)) is ∙ begun d t n (value_with_places e rest) (words_of_value e ++ rest) rest (read d rest deep stops.index)
 
-back_operand : (e : E) → 1 ≤ depth e → 1 ≤ sort_of e → row e ≡ 0 → ((ws : List Word) → cast_end (spelled e ++ ws) ≡ None)
-    → ((d : ℕ) (rest : List Word) → depth e ≤ suc d → indexes rest ≡ false → operand_at (value_at d) (spelled e ++ rest) ≡ Ok (placed e rest, rest)) → Back e
+back_operand : (e : E) → 1 ≤ depth e → 1 ≤ sort_of e → row e ≡ 0 → ((ws : List Word) → cast_end (words_of_value e ++ ws) ≡ None)
+    → ((d : ℕ) (rest : List Word) → depth e ≤ suc d → indexes rest ≡ false → operand_at (value_at d) (words_of_value e ++ rest) ≡ Ok (value_with_places e rest, rest)) → Back e
 back_operand e tall sort none uncast read =
     let front = by_operand e none read in
     record { tall = tall; sort = sort; short = omega (arith, none); uncast = uncast; front = λ low. front; value = by_row e tall (omega (arith, none)) front }
@@ -305,40 +305,40 @@ regroup : (xs : List Word) (word : Word) (ys rest : List Word) → (xs ++ (word 
 regroup xs word ys rest = append_assoc xs (word ∷ ys) rest
 
 module _ (l : ℕ) (sign : Sign) (a b : E) (one : Back a) (two : Back b) where
-  right_read : (d : ℕ) (rest : List Word) → depth (Apply l sign a b) ≤ suc d → Stops ((sorts sign).0 + 1) rest → value_at d (binds sign + 1) (wanted (sorts sign).1 b (spelled b) ++ rest) ≡ Ok (placed b (behind_side (sorts sign).1 b rest), rest)
+  right_read : (d : ℕ) (rest : List Word) → depth (Apply l sign a b) ≤ suc d → Stops ((sorts sign).0 + 1) rest → value_at d (binds sign + 1) (words_wanted (sorts sign).1 b (words_of_value b) ++ rest) ≡ Ok (value_with_places b (behind_side (sorts sign).1 b rest), rest)
   right_read d rest deep stops =
       let is = is_sign sign in
       let own = is.own in
       let next = is.right in
-      let most = le-max_right (nested (sorts sign).0 a (depth a)) (nested (sorts sign).1 b (depth b) + 1) in
-      ap (λ l. value_at d l (wanted (sorts sign).1 b (spelled b) ++ rest)) (sym next)
+      let most = le-max_right (depth_in_brackets (sorts sign).0 a (depth a)) (depth_in_brackets (sorts sign).1 b (depth b) + 1) in
+      ap (λ l. value_at d l (words_wanted (sorts sign).1 b (words_of_value b) ++ rest)) (sym next)
       ∙ value_side (nat_lt (sort_of b) (sorts sign).1) b (sorts sign).1 d rest refl two (omega (arith, most, deep)) (looser ((sorts sign).0 + 1) (sorts sign).1 rest (omega (arith, own, next)) stops)
 
   apply_row : (d t n : ℕ) (rest : List Word) → depth (Apply l sign a b) ≤ suc d → n ≤ sort_of (Apply l sign a b) → Stops (sort_of (Apply l sign a b) + 1) rest
-      → row_at d (row (Apply l sign a b) + t) n (spelled (Apply l sign a b) ++ rest) ≡ more_at (value_at d) t n (placed (Apply l sign a b) rest) rest
+      → row_at d (row (Apply l sign a b) + t) n (words_of_value (Apply l sign a b) ++ rest) ≡ more_at (value_at d) t n (value_with_places (Apply l sign a b) rest) rest
   apply_row d t n rest deep fits stops =
       let is = is_sign sign in
       let own = is.own in
       let low = is.low in
-      let most = le-max_left (nested (sorts sign).0 a (depth a)) (nested (sorts sign).1 b (depth b) + 1) in
-      let behind = wanted (sorts sign).1 b (spelled b) ++ rest in
+      let most = le-max_left (depth_in_brackets (sorts sign).0 a (depth a)) (depth_in_brackets (sorts sign).1 b (depth b) + 1) in
+      let behind = words_wanted (sorts sign).1 b (words_of_value b) ++ rest in
       let count : row (Apply l sign a b) + t ≡ (if nat_lt (sort_of a) (sorts sign).0 then 0 else row a) + suc t = omega arith in
-      ap (λ c. row_at d c n (spelled (Apply l sign a b) ++ rest)) count
-      ∙ ap (row_at d ((if nat_lt (sort_of a) (sorts sign).0 then 0 else row a) + suc t) n) (regroup (wanted (sorts sign).0 a (spelled a)) (w.Mark (sign_mark sign)) (wanted (sorts sign).1 b (spelled b)) rest)
+      ap (λ c. row_at d c n (words_of_value (Apply l sign a b) ++ rest)) count
+      ∙ ap (row_at d ((if nat_lt (sort_of a) (sorts sign).0 then 0 else row a) + suc t) n) (regroup (words_wanted (sorts sign).0 a (words_of_value a)) (w.Mark (sign_mark sign)) (words_wanted (sorts sign).1 b (words_of_value b)) rest)
       ∙ row_side (nat_lt (sort_of a) (sorts sign).0) a (sorts sign).0 d (suc t) n (w.Mark (sign_mark sign) ∷ behind) refl one (omega (arith, most, deep)) fits (omega (arith, low, own))
       (looser (binds sign + 1) ((sorts sign).0 + 1) (w.Mark (sign_mark sign) ∷ behind) (omega (arith, own)) (stop_sign sign behind))
-      ∙ sign_step (value_at d) sign t n (placed a (behind_side (sorts sign).0 a (w.Mark (sign_mark sign) ∷ behind))) (placed b (behind_side (sorts sign).1 b rest)) behind rest (omega (arith, own, fits)) (right_read d rest deep stops)
+      ∙ sign_step (value_at d) sign t n (value_with_places a (behind_side (sorts sign).0 a (w.Mark (sign_mark sign) ∷ behind))) (value_with_places b (behind_side (sorts sign).1 b rest)) behind rest (omega (arith, own, fits)) (right_read d rest deep stops)
 
-  apply_no_cast : (ws : List Word) → cast_end (spelled (Apply l sign a b) ++ ws) ≡ None
+  apply_no_cast : (ws : List Word) → cast_end (words_of_value (Apply l sign a b) ++ ws) ≡ None
   apply_no_cast ws =
-      ap cast_end (regroup (wanted (sorts sign).0 a (spelled a)) (w.Mark (sign_mark sign)) (wanted (sorts sign).1 b (spelled b)) ws)
-      ∙ side_no_cast (nat_lt (sort_of a) (sorts sign).0) a (w.Mark (sign_mark sign) ∷ (wanted (sorts sign).1 b (spelled b) ++ ws)) one.uncast
+      ap cast_end (regroup (words_wanted (sorts sign).0 a (words_of_value a)) (w.Mark (sign_mark sign)) (words_wanted (sorts sign).1 b (words_of_value b)) ws)
+      ∙ side_no_cast (nat_lt (sort_of a) (sorts sign).0) a (w.Mark (sign_mark sign) ∷ (words_wanted (sorts sign).1 b (words_of_value b) ++ ws)) one.uncast
 
   back_apply : row (Apply l sign a b) ≤ 24 → Back (Apply l sign a b)
   back_apply short =
       let low = (is_sign sign).low in
       let own = (is_sign sign).own in
-      let most = le-max_right (nested (sorts sign).0 a (depth a)) (nested (sorts sign).1 b (depth b) + 1) in
+      let most = le-max_right (depth_in_brackets (sorts sign).0 a (depth a)) (depth_in_brackets (sorts sign).1 b (depth b) + 1) in
       let tall : 1 ≤ depth (Apply l sign a b) = omega (arith, most) in
       record {
         tall = tall;
@@ -357,51 +357,51 @@ unfolding choice_at question_at colon_at
 choice_step inner n e a b ws vs rest l one two = rw (up_to_one n l, one, two) refl
 
 module _ (l : ℕ) (e a b : E) (test : Back e) (one : Back a) (other : Back b) where
-  choose_words : (rest : List Word) → spelled (Choose l e a b) ++ rest ≡ wanted 2 e (spelled e) ++ (w.Mark m.Question ∷ (spelled a ++ (w.Mark m.Colon ∷ (spelled b ++ rest))))
+  choose_words : (rest : List Word) → words_of_value (Choose l e a b) ++ rest ≡ words_wanted 2 e (words_of_value e) ++ (w.Mark m.Question ∷ (words_of_value a ++ (w.Mark m.Colon ∷ (words_of_value b ++ rest))))
   choose_words rest =
-      regroup (wanted 2 e (spelled e)) (w.Mark m.Question) (spelled a ++ (w.Mark m.Colon ∷ spelled b)) rest
-      ∙ ap (λ ws. wanted 2 e (spelled e) ++ (w.Mark m.Question ∷ ws)) (regroup (spelled a) (w.Mark m.Colon) (spelled b) rest)
+      regroup (words_wanted 2 e (words_of_value e)) (w.Mark m.Question) (words_of_value a ++ (w.Mark m.Colon ∷ words_of_value b)) rest
+      ∙ ap (λ ws. words_wanted 2 e (words_of_value e) ++ (w.Mark m.Question ∷ ws)) (regroup (words_of_value a) (w.Mark m.Colon) (words_of_value b) rest)
 
-  test_row : (d n : ℕ) (ws : List Word) → nested 2 e (depth e) ≤ suc d → n ≤ 1 → row_at d 24 n (wanted 2 e (spelled e) ++ (w.Mark m.Question ∷ ws)) ≡ Ok (placed e (behind_side 2 e (w.Mark m.Question ∷ ws)), w.Mark m.Question ∷ ws)
+  test_row : (d n : ℕ) (ws : List Word) → depth_in_brackets 2 e (depth e) ≤ suc d → n ≤ 1 → row_at d 24 n (words_wanted 2 e (words_of_value e) ++ (w.Mark m.Question ∷ ws)) ≡ Ok (value_with_places e (behind_side 2 e (w.Mark m.Question ∷ ws)), w.Mark m.Question ∷ ws)
   unfolding sign_of
   test_row d n ws deep low =
       let short = test.short in
       let signs = (if nat_lt (sort_of e) 2 then 0 else row e) in
       let few : signs ≤ 24 = signs_short (nat_lt (sort_of e) 2) in
       let is : 24 ≡ signs + (24 - signs) = omega (arith, few) in
-      ap (λ t. row_at d t n (wanted 2 e (spelled e) ++ (w.Mark m.Question ∷ ws))) is
+      ap (λ t. row_at d t n (words_wanted 2 e (words_of_value e) ++ (w.Mark m.Question ∷ ws))) is
       ∙ row_side (nat_lt (sort_of e) 2) e 2 d (24 - signs) n (w.Mark m.Question ∷ ws) refl test deep (omega (arith, low)) (omega arith) (looser 2 3 (w.Mark m.Question ∷ ws) (omega arith) (stop_question ws))
-      ∙ stops_here (value_at d) (24 - signs) n (placed e (behind_side 2 e (w.Mark m.Question ∷ ws))) (w.Mark m.Question ∷ ws) (no_sign m.Question ws n refl)
+      ∙ stops_here (value_at d) (24 - signs) n (value_with_places e (behind_side 2 e (w.Mark m.Question ∷ ws))) (w.Mark m.Question ∷ ws) (no_sign m.Question ws n refl)
     where
       signs_short : (t : Bool) → (if t then 0 else row e) ≤ 24
       signs_short true = omega arith
       signs_short false = omega (arith, test.short)
 
-  choose_value : (d n : ℕ) (rest : List Word) → depth (Choose l e a b) ≤ d → n ≤ 1 → Stops n rest → value_at d n (spelled (Choose l e a b) ++ rest) ≡ Ok (placed (Choose l e a b) rest, rest)
+  choose_value : (d n : ℕ) (rest : List Word) → depth (Choose l e a b) ≤ d → n ≤ 1 → Stops n rest → value_at d n (words_of_value (Choose l e a b) ++ rest) ≡ Ok (value_with_places (Choose l e a b) rest, rest)
   choose_value zero n rest deep least stops =
-      let most = le-max_right (nested 2 e (depth e)) (max (depth a) (depth b) + 1) in
+      let most = le-max_right (depth_in_brackets 2 e (depth e)) (max (depth a) (depth b) + 1) in
       absurd (omega (arith, most, deep))
   choose_value (suc d) n rest deep least stops =
-      let first = le-max_left (nested 2 e (depth e)) (max (depth a) (depth b) + 1) in
-      let most = le-max_right (nested 2 e (depth e)) (max (depth a) (depth b) + 1) in
+      let first = le-max_left (depth_in_brackets 2 e (depth e)) (max (depth a) (depth b) + 1) in
+      let most = le-max_right (depth_in_brackets 2 e (depth e)) (max (depth a) (depth b) + 1) in
       let left = le-max_left (depth a) (depth b) in
       let right = le-max_right (depth a) (depth b) in
-      let ws = spelled a ++ (w.Mark m.Colon ∷ (spelled b ++ rest)) in
+      let ws = words_of_value a ++ (w.Mark m.Colon ∷ (words_of_value b ++ rest)) in
       ap (value_at (suc d) n) (choose_words rest)
-      ∙ value_is d n (wanted 2 e (spelled e) ++ (w.Mark m.Question ∷ ws))
+      ∙ value_is d n (words_wanted 2 e (words_of_value e) ++ (w.Mark m.Question ∷ ws))
       ∙ ap (λ x. x >>= λ y. choice_at (value_at d) n y.0 y.1) (test_row d n ws (omega (arith, first, deep)) least)
-      ∙ choice_step (value_at d) n (placed e (behind_side 2 e (w.Mark m.Question ∷ ws))) (placed a (w.Mark m.Colon ∷ (spelled b ++ rest))) (placed b rest) ws (spelled b ++ rest) rest least
-      (one.value d 1 (w.Mark m.Colon ∷ (spelled b ++ rest)) (omega (arith, most, left, deep)) one.sort (stop_colon (spelled b ++ rest)))
+      ∙ choice_step (value_at d) n (value_with_places e (behind_side 2 e (w.Mark m.Question ∷ ws))) (value_with_places a (w.Mark m.Colon ∷ (words_of_value b ++ rest))) (value_with_places b rest) ws (words_of_value b ++ rest) rest least
+      (one.value d 1 (w.Mark m.Colon ∷ (words_of_value b ++ rest)) (omega (arith, most, left, deep)) one.sort (stop_colon (words_of_value b ++ rest)))
       (other.value d 1 rest (omega (arith, most, right, deep)) other.sort (looser n 1 rest least stops))
 
-  choose_no_cast : (ws : List Word) → cast_end (spelled (Choose l e a b) ++ ws) ≡ None
+  choose_no_cast : (ws : List Word) → cast_end (words_of_value (Choose l e a b) ++ ws) ≡ None
   choose_no_cast ws =
       ap cast_end (choose_words ws)
-      ∙ side_no_cast (nat_lt (sort_of e) 2) e (w.Mark m.Question ∷ (spelled a ++ (w.Mark m.Colon ∷ (spelled b ++ ws)))) test.uncast
+      ∙ side_no_cast (nat_lt (sort_of e) 2) e (w.Mark m.Question ∷ (words_of_value a ++ (w.Mark m.Colon ∷ (words_of_value b ++ ws)))) test.uncast
 
   back_choose : Back (Choose l e a b)
   back_choose =
-      let most = le-max_right (nested 2 e (depth e)) (max (depth a) (depth b) + 1) in
+      let most = le-max_right (depth_in_brackets 2 e (depth e)) (max (depth a) (depth b) + 1) in
       record {
         tall = omega (arith, most);
         sort = omega arith;
@@ -423,19 +423,19 @@ back_variable l x is = back_operand (Variable l x) (omega arith) (omega arith) r
 back_cell : (l : ℕ) (a : Name) (i : E) → IsName a → Back i → Back (CellAt l a i)
 back_cell l a i is inner =
     back_operand (CellAt l a i) (omega arith) (omega arith) refl (λ ws. no_cast a _ is.1)
-    (λ d rest deep alone. cell_back d a (placed i (w.Mark m.CloseIndex ∷ rest)) (spelled i) rest is.0 (inner.value d 1 (w.Mark m.CloseIndex ∷ rest) (omega (arith, deep)) inner.sort (stop_close_index rest)))
+    (λ d rest deep alone. cell_back d a (value_with_places i (w.Mark m.CloseIndex ∷ rest)) (words_of_value i) rest is.0 (inner.value d 1 (w.Mark m.CloseIndex ∷ rest) (omega (arith, deep)) inner.sort (stop_close_index rest)))
 
 back_cast : (e : E) → Back e → Back (Unsigned e)
 unfolding cast_end
 back_cast e inner =
     back_operand (Unsigned e) (omega arith) (omega arith) refl (λ ws. refl)
-    (λ d rest deep alone. cast_back d (placed e (behind_side 12 e rest)) (wanted 12 e (spelled e) ++ rest) rest (value_side (nat_lt (sort_of e) 12) e 12 d rest refl inner (omega (arith, deep)) (stop_tight rest alone)))
+    (λ d rest deep alone. cast_back d (value_with_places e (behind_side 12 e rest)) (words_wanted 12 e (words_of_value e) ++ rest) rest (value_side (nat_lt (sort_of e) 12) e 12 d rest refl inner (omega (arith, deep)) (stop_tight rest alone)))
 
 back_signed : (l : ℕ) (sign : Unary) (e : E) → Back e → Back (Signed l sign e)
 unfolding cast_end
 back_signed l sign e inner =
     back_operand (Signed l sign e) (omega arith) (omega arith) refl (λ ws. refl)
-    (λ d rest deep alone. signed_back d sign (placed e (behind_side 12 e rest)) (wanted 12 e (spelled e) ++ rest) rest (value_side (nat_lt (sort_of e) 12) e 12 d rest refl inner (omega (arith, deep)) (stop_tight rest alone)))
+    (λ d rest deep alone. signed_back d sign (value_with_places e (behind_side 12 e rest)) (words_wanted 12 e (words_of_value e) ++ rest) rest (value_side (nat_lt (sort_of e) 12) e 12 d rest refl inner (omega (arith, deep)) (stop_tight rest alone)))
 
 back_call : (l : ℕ) (call : Call) (a b : E) → Back a → Back b → Back (Called l call a b)
 unfolding cast_end
@@ -443,7 +443,7 @@ back_call l call a b one two =
     let left = le-max_left (depth a) (depth b) in
     let right = le-max_right (depth a) (depth b) in
     back_operand (Called l call a b) (omega arith) (omega arith) refl (λ ws. refl)
-    (λ d rest deep alone. call_back d call (placed a) (placed b (w.Mark m.Close ∷ rest)) (spelled a) (spelled b) rest
+    (λ d rest deep alone. call_back d call (value_with_places a) (value_with_places b (w.Mark m.Close ∷ rest)) (words_of_value a) (words_of_value b) rest
     (λ r. one.value d 1 (w.Mark m.Comma ∷ r) (omega (arith, left, deep)) one.sort (stop_comma r))
     (two.value d 1 (w.Mark m.Close ∷ rest) (omega (arith, right, deep)) two.sort (stop_close rest)))
 

@@ -153,9 +153,9 @@ unfoldable pub question_at : ℕ → List Word → Option (List Word)
 question_at least (w.Mark m.Question ∷ ws) = if nat_le least 1 then Some ws else None
 question_at least ws = None
 
-abbrev pub chosen : (ℕ → List Word → Read) → E → List Word → Option (List Word) → Read
-chosen inner test ws None = Ok (test, ws)
-chosen inner test ws (Some rest) = do
+abbrev pub choice_read : (ℕ → List Word → Read) → E → List Word → Option (List Word) → Read
+choice_read inner test ws None = Ok (test, ws)
+choice_read inner test ws (Some rest) = do
   one ← inner 1 rest
   behind ← colon_at one.1
   other ← inner 1 behind
@@ -163,7 +163,7 @@ chosen inner test ws (Some rest) = do
 
 -- a choice that a test begins, or the test alone
 unfoldable pub choice_at : (ℕ → List Word → Read) → ℕ → E → List Word → Read
-choice_at inner least test ws = chosen inner test ws (question_at least ws)
+choice_at inner least test ws = choice_read inner test ws (question_at least ws)
 
 unfoldable pub value_at : ℕ → ℕ → List Word → Read
 value_at zero least ws = Err (TooDeep (length ws))

@@ -10,9 +10,9 @@ use Rattle.ot_c_expressions.specs.declared.sign.Sign.{Sign}
 use Rattle.ot_c_expressions.specs.declared.sign.Sign.TheVariants as s
 use Rattle.ot_c_expressions.specs.declared.sign.Unary.TheVariants as u
 
-abbrev pub found : {X Y : Type 0} → (X → Y) → Option X → Option Y
-found view None = None
-found view (Some x) = Some (view x)
+abbrev pub view_of_found : {X Y : Type 0} → (X → Y) → Option X → Option Y
+view_of_found view None = None
+view_of_found view (Some x) = Some (view x)
 
 -- more loosely than all binds `?:`, by 1
 abbrev pub binds : Sign → ℕ
@@ -65,12 +65,12 @@ begin_of m.Invert = Some (b.Sign u.Invert)
 begin_of m.Not = Some (b.Sign u.Not)
 begin_of _ = None
 
-abbrev pub signed : List Word → Option Sign → Option (Sign × List Word)
-signed rest None = None
-signed rest (Some sign) = Some (sign, rest)
+abbrev pub sign_read : List Word → Option Sign → Option (Sign × List Word)
+sign_read rest None = None
+sign_read rest (Some sign) = Some (sign, rest)
 
 unfoldable pub any_sign : List Word → Option (Sign × List Word)
-any_sign (w.Mark mark ∷ rest) = signed rest (sign_of mark)
+any_sign (w.Mark mark ∷ rest) = sign_read rest (sign_of mark)
 any_sign _ = None
 
 abbrev pub if_tight : ℕ → Option (Sign × List Word) → Option (Sign × List Word)

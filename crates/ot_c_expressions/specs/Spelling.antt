@@ -122,23 +122,23 @@ abbrev pub call_name : Call → Name
 call_name c.Min = n.Known k.Min
 call_name c.Max = n.Known k.Max
 
-abbrev pub bracketed : List Word → List Word
-bracketed ws = w.Mark m.Open ∷ (ws ++ (w.Mark m.Close ∷ []))
+abbrev pub in_brackets : List Word → List Word
+in_brackets ws = w.Mark m.Open ∷ (ws ++ (w.Mark m.Close ∷ []))
 
 -- the words of a value where the grammar wants one of a sort: in brackets if it is none
-abbrev pub wanted : ℕ → E → List Word → List Word
-wanted sort e ws = if nat_lt (sort_of e) sort then bracketed ws else ws
+abbrev pub words_wanted : ℕ → E → List Word → List Word
+words_wanted sort e ws = if nat_lt (sort_of e) sort then in_brackets ws else ws
 
 -- the words of a value
-abbrev pub spelled : E → List Word
-spelled (Literal l n t) = w.Number n t ∷ []
-spelled (Variable l x) = w.Name x ∷ []
-spelled (CellAt l a i) = w.Name a ∷ w.Mark m.OpenIndex ∷ (spelled i ++ (w.Mark m.CloseIndex ∷ []))
-spelled (Unsigned e) = w.Mark m.Open ∷ w.Name (n.Known k.Word64) ∷ w.Mark m.Close ∷ wanted cast e (spelled e)
-spelled (Signed l sign e) = w.Mark (unary_mark sign) ∷ wanted cast e (spelled e)
-spelled (Called l call a b) = w.Name (call_name call) ∷ w.Mark m.Open ∷ (spelled a ++ (w.Mark m.Comma ∷ (spelled b ++ (w.Mark m.Close ∷ []))))
-spelled (Apply l sign a b) = wanted (sorts sign).0 a (spelled a) ++ (w.Mark (sign_mark sign) ∷ wanted (sorts sign).1 b (spelled b))
-spelled (Choose l t a b) = wanted logical_or t (spelled t) ++ (w.Mark m.Question ∷ (spelled a ++ (w.Mark m.Colon ∷ spelled b)))
+abbrev pub words_of_value : E → List Word
+words_of_value (Literal l n t) = w.Number n t ∷ []
+words_of_value (Variable l x) = w.Name x ∷ []
+words_of_value (CellAt l a i) = w.Name a ∷ w.Mark m.OpenIndex ∷ (words_of_value i ++ (w.Mark m.CloseIndex ∷ []))
+words_of_value (Unsigned e) = w.Mark m.Open ∷ w.Name (n.Known k.Word64) ∷ w.Mark m.Close ∷ words_wanted cast e (words_of_value e)
+words_of_value (Signed l sign e) = w.Mark (unary_mark sign) ∷ words_wanted cast e (words_of_value e)
+words_of_value (Called l call a b) = w.Name (call_name call) ∷ w.Mark m.Open ∷ (words_of_value a ++ (w.Mark m.Comma ∷ (words_of_value b ++ (w.Mark m.Close ∷ []))))
+words_of_value (Apply l sign a b) = words_wanted (sorts sign).0 a (words_of_value a) ++ (w.Mark (sign_mark sign) ∷ words_wanted (sorts sign).1 b (words_of_value b))
+words_of_value (Choose l t a b) = words_wanted logical_or t (words_of_value t) ++ (w.Mark m.Question ∷ (words_of_value a ++ (w.Mark m.Colon ∷ words_of_value b)))
 
 -- ---- the value that is read of them
 
@@ -147,22 +147,22 @@ abbrev pub behind_side : ℕ → E → List Word → List Word
 behind_side sort e ws = if nat_lt (sort_of e) sort then w.Mark m.Close ∷ ws else ws
 
 -- a value with the number of words that are left at each part of it, where these words stand behind it
-abbrev pub placed : E → List Word → E
-placed (Literal l n t) ws = Literal (length (w.Number n t ∷ ws)) n t
-placed (Variable l x) ws = Variable (length ws + 1) x
-placed (CellAt l a i) ws = CellAt (length (w.Mark m.OpenIndex ∷ (spelled i ++ (w.Mark m.CloseIndex ∷ ws))) + 1) a (placed i (w.Mark m.CloseIndex ∷ ws))
-placed (Unsigned e) ws = Unsigned (placed e (behind_side cast e ws))
-placed (Signed l sign e) ws = Signed (length (wanted cast e (spelled e) ++ ws) + 1) sign (placed e (behind_side cast e ws))
-placed (Called l call a b) ws =
-    Called (length (w.Mark m.Open ∷ (spelled a ++ (w.Mark m.Comma ∷ (spelled b ++ (w.Mark m.Close ∷ ws))))) + 1) call
-    (placed a (w.Mark m.Comma ∷ (spelled b ++ (w.Mark m.Close ∷ ws)))) (placed b (w.Mark m.Close ∷ ws))
-placed (Apply l sign a b) ws =
-    Apply (length (w.Mark (sign_mark sign) ∷ (wanted (sorts sign).1 b (spelled b) ++ ws))) sign
-    (placed a (behind_side (sorts sign).0 a (w.Mark (sign_mark sign) ∷ (wanted (sorts sign).1 b (spelled b) ++ ws)))) (placed b (behind_side (sorts sign).1 b ws))
-placed (Choose l t a b) ws =
-    Choose (length (w.Mark m.Question ∷ (spelled a ++ (w.Mark m.Colon ∷ (spelled b ++ ws)))))
-    (placed t (behind_side logical_or t (w.Mark m.Question ∷ (spelled a ++ (w.Mark m.Colon ∷ (spelled b ++ ws))))))
-    (placed a (w.Mark m.Colon ∷ (spelled b ++ ws))) (placed b ws)
+abbrev pub value_with_places : E → List Word → E
+value_with_places (Literal l n t) ws = Literal (length (w.Number n t ∷ ws)) n t
+value_with_places (Variable l x) ws = Variable (length ws + 1) x
+value_with_places (CellAt l a i) ws = CellAt (length (w.Mark m.OpenIndex ∷ (words_of_value i ++ (w.Mark m.CloseIndex ∷ ws))) + 1) a (value_with_places i (w.Mark m.CloseIndex ∷ ws))
+value_with_places (Unsigned e) ws = Unsigned (value_with_places e (behind_side cast e ws))
+value_with_places (Signed l sign e) ws = Signed (length (words_wanted cast e (words_of_value e) ++ ws) + 1) sign (value_with_places e (behind_side cast e ws))
+value_with_places (Called l call a b) ws =
+    Called (length (w.Mark m.Open ∷ (words_of_value a ++ (w.Mark m.Comma ∷ (words_of_value b ++ (w.Mark m.Close ∷ ws))))) + 1) call
+    (value_with_places a (w.Mark m.Comma ∷ (words_of_value b ++ (w.Mark m.Close ∷ ws)))) (value_with_places b (w.Mark m.Close ∷ ws))
+value_with_places (Apply l sign a b) ws =
+    Apply (length (w.Mark (sign_mark sign) ∷ (words_wanted (sorts sign).1 b (words_of_value b) ++ ws))) sign
+    (value_with_places a (behind_side (sorts sign).0 a (w.Mark (sign_mark sign) ∷ (words_wanted (sorts sign).1 b (words_of_value b) ++ ws)))) (value_with_places b (behind_side (sorts sign).1 b ws))
+value_with_places (Choose l t a b) ws =
+    Choose (length (w.Mark m.Question ∷ (words_of_value a ++ (w.Mark m.Colon ∷ (words_of_value b ++ ws)))))
+    (value_with_places t (behind_side logical_or t (w.Mark m.Question ∷ (words_of_value a ++ (w.Mark m.Colon ∷ (words_of_value b ++ ws))))))
+    (value_with_places a (w.Mark m.Colon ∷ (words_of_value b ++ ws))) (value_with_places b ws)
 
 -- ---- how deep it nests
 
@@ -178,19 +178,19 @@ row (Apply l sign a b) = (if nat_lt (sort_of a) (sorts sign).0 then 0 else row a
 row (Choose l t a b) = 0
 
 -- one deeper in brackets
-abbrev pub nested : ℕ → E → ℕ → ℕ
-nested sort e d = if nat_lt (sort_of e) sort then d + 1 else d
+abbrev pub depth_in_brackets : ℕ → E → ℕ → ℕ
+depth_in_brackets sort e d = if nat_lt (sort_of e) sort then d + 1 else d
 
 -- how deep a value nests
 abbrev pub depth : E → ℕ
 depth (Literal l n t) = 1
 depth (Variable l x) = 1
 depth (CellAt l a i) = depth i + 1
-depth (Unsigned e) = nested cast e (depth e) + 1
-depth (Signed l sign e) = nested cast e (depth e) + 1
+depth (Unsigned e) = depth_in_brackets cast e (depth e) + 1
+depth (Signed l sign e) = depth_in_brackets cast e (depth e) + 1
 depth (Called l call a b) = max (depth a) (depth b) + 1
-depth (Apply l sign a b) = max (nested (sorts sign).0 a (depth a)) (nested (sorts sign).1 b (depth b) + 1)
-depth (Choose l t a b) = max (nested logical_or t (depth t)) (max (depth a) (depth b) + 1)
+depth (Apply l sign a b) = max (depth_in_brackets (sorts sign).0 a (depth a)) (depth_in_brackets (sorts sign).1 b (depth b) + 1)
+depth (Choose l t a b) = max (depth_in_brackets logical_or t (depth t)) (max (depth a) (depth b) + 1)
 
 -- a name that is neither a function nor a type
 abbrev pub IsName : Name → Type 0

@@ -1,6 +1,6 @@
 //! Clauses of tasks, waits and groups.
 ghost use Rattle.std.specs.Prelude.{◌≡◌};
-ghost use Rattle.ot_c_expressions.specs.Signs.{found as seen};
+ghost use Rattle.ot_c_expressions.specs.Signs.{view_of_found as seen};
 ghost use Rattle.ot_c_expressions.specs.Tree.{expr_of, part_of, item_of, items_of, range_of, over_of, clause_of, clauses_of};
 ghost use Rattle.ot_c_expressions.specs.Reading.{Gives};
 ghost use Rattle.ot_c_expressions.specs.Clauses as read;

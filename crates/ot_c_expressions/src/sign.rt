@@ -112,7 +112,7 @@ pub(crate) fn begin_of(mark: Mark) -> Option<Begin>
 /// The sign at the front, and what is behind it.
 #[tactic(auto, unfolding(crate::specs::Signs::any_sign))]
 fn any_sign(words: &[Word]) -> Option<(Sign, &[Word])>
-    ensures { signs.found (λ x. (x.0, x.1.now)) result ≡ signs.any_sign words.now }
+    ensures { signs.view_of_found (λ x. (x.0, x.1.now)) result ≡ signs.any_sign words.now }
 {
     match words {
         [Word::Mark(mark), rest @ ..] => {
@@ -125,7 +125,7 @@ fn any_sign(words: &[Word]) -> Option<(Sign, &[Word])>
 
 /// The sign at the front, where it binds at least so tightly, and what is behind it.
 pub(crate) fn front_sign(least: u32, words: &[Word]) -> Option<(Sign, &[Word])>
-    ensures { signs.found (λ x. (x.0, x.1.now)) result ≡ signs.front_sign least words.now }
+    ensures { signs.view_of_found (λ x. (x.0, x.1.now)) result ≡ signs.front_sign least words.now }
 {
     let (sign, rest) = any_sign(words)?;
     if binds(sign) < least {

@@ -1,6 +1,6 @@
 //! Values, by how tightly signs bind.
 ghost use Rattle.std.specs.Prelude.{◌≡◌, ◌≤◌};
-ghost use Rattle.ot_c_expressions.specs.Signs.{found};
+ghost use Rattle.ot_c_expressions.specs.Signs.{view_of_found};
 ghost use Rattle.ot_c_expressions.specs.Tree.{expr_of};
 ghost use Rattle.ot_c_expressions.specs.Reading.{Gives, operand_at, named_at, called_at, bracket_at, prefixed_at, more_at, choice_at, value_at};
 ghost use Rattle.ot_c_expressions.specs.Reading as read;
@@ -42,7 +42,7 @@ fn is_unsigned(name: Name) -> bool
 /// Behind `uint64_t )`.
 #[tactic(auto, unfolding(crate::specs::Reading::cast_end))]
 fn cast_end(words: &[Word]) -> Option<&[Word]>
-    ensures { found (λ x. x.now) result ≡ read.cast_end words.now }
+    ensures { view_of_found (λ x. x.now) result ≡ read.cast_end words.now }
 {
     match words {
         [Word::Name(name), Word::Mark(Mark::Close), rest @ ..] => {
@@ -192,7 +192,7 @@ fn more(
 /// What stands behind `?`, where such a choice may stand.
 #[tactic(auto, unfolding(crate::specs::Reading::question_at))]
 fn question(least: u32, words: &[Word]) -> Option<&[Word]>
-    ensures { found (λ x. x.now) result ≡ read.question_at least words.now }
+    ensures { view_of_found (λ x. x.now) result ≡ read.question_at least words.now }
 {
     match words {
         [Word::Mark(Mark::Question), rest @ ..] => { if least <= 1 { Some(rest) } else { None } }

@@ -1,6 +1,6 @@
 //! Declarations of arrays and variables.
 ghost use Rattle.std.specs.Prelude.{◌≡◌};
-ghost use Rattle.ot_c_expressions.specs.Signs.{found as seen};
+ghost use Rattle.ot_c_expressions.specs.Signs.{view_of_found as seen};
 ghost use Rattle.ot_c_statements.specs.Reading.{Gives};
 ghost use Rattle.ot_c_statements.specs.Tree.{index_of};
 ghost use Rattle.ot_c_files.specs.Program.{initial_of, variable_of, variables_of, declaration_of};

@@ -1,7 +1,7 @@
 //! A file whole.
 ghost use Rattle.std.specs.Prelude.{◌≡◌};
 ghost use Rattle.ot_c_expressions.specs.Tree.{expr_of};
-ghost use Rattle.ot_c_expressions.specs.Signs.{found as seen};
+ghost use Rattle.ot_c_expressions.specs.Signs.{view_of_found as seen};
 ghost use Rattle.ot_c_statements.specs.Reading.{Gives};
 ghost use Rattle.ot_c_files.specs.Program.{top_of, tops_of, file_of};
 ghost use Rattle.ot_c_files.specs.Files as read;

@@ -1,7 +1,7 @@
 //! Functions that are known by their bodies: what `min` and `max` give, and what `show` prints. They read so but for
 //! their parameters' names.
 ghost use Rattle.std.specs.Prelude.{◌≡◌};
-ghost use Rattle.ot_c_expressions.specs.Signs.{found as seen};
+ghost use Rattle.ot_c_expressions.specs.Signs.{view_of_found as seen};
 ghost use Rattle.ot_c_statements.specs.Reading.{Gives};
 ghost use Rattle.ot_c_files.specs.Known as read;
 

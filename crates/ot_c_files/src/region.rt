@@ -1,6 +1,6 @@
 //! A parallel region around what one thread does (OpenMP API 5.2, sections 10.1, 10.5 and 11.1).
 ghost use Rattle.std.specs.Prelude.{◌≡◌};
-ghost use Rattle.ot_c_expressions.specs.Signs.{found as seen};
+ghost use Rattle.ot_c_expressions.specs.Signs.{view_of_found as seen};
 ghost use Rattle.ot_c_expressions.specs.Tree.{clauses_of};
 ghost use Rattle.ot_c_statements.specs.Reading.{Gives};
 ghost use Rattle.ot_c_statements.specs.Tree.{body_of, list_of};

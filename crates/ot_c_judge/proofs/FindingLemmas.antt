@@ -19,7 +19,7 @@ use Rattle.ot_race_ways.specs.Verdicts.{AreFew, NoWayRaces, Tells}
 use Rattle.ot_race_ways.specs.declared.verdict.Verdict.{Verdict}
 use Rattle.ot_race_ways.specs.declared.verdict.Verdict.TheVariants.{RacesOnNoWay, RacesOnWay, TooManyWays}
 use Rattle.ot_c_judge.specs.declared.finding.Finding.TheVariants.{Nowhere}
-use Rattle.ot_c_judge.specs.Findings.{Finds, IsAccepted, AreKnown, events_by, is_clean, finding_of}
+use Rattle.ot_c_judge.specs.Findings.{Finds, IsAccepted, AreWaysKnown, events_by, is_clean, finding_of}
 
 -- where no way races, neither does the run, which goes one
 pub run_races_not : (order : Order) (body : Body) (cells : List (List ℕ)) → RunsAreWays → NamedIn (lengths cells) body → NoWayRaces order body → NothingRaces (events_by order body cells)
@@ -31,7 +31,7 @@ finds_nowhere order body cells RacesOnNoWay laws named tells is = (run_races_not
 finds_nowhere order body cells (RacesOnWay taken race) laws named tells is = absurd (both_ways false refl is)
 finds_nowhere order body cells TooManyWays laws named tells is = absurd (both_ways false refl is)
 
-unknown : (order : Order) (body : Body) → is_straight body ≡ false → (AreFew body → ⊥) → (IsAccepted order body → ⊥) → AreKnown order body → ⊥
+unknown : (order : Order) (body : Body) → is_straight body ≡ false → (AreFew body → ⊥) → (IsAccepted order body → ⊥) → AreWaysKnown order body → ⊥
 unknown order body bends many refused (inl few) = many few
 unknown order body bends many refused (inr (inl accepted)) = refused accepted
 unknown order body bends many refused (inr (inr straight)) = true≢false (sym straight ∙ bends)

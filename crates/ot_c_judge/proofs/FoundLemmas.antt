@@ -8,7 +8,7 @@ use Rattle.ot_model.specs.Names.{NamedIn, OneNamedIn}
 use Rattle.ot_parts.proofs.FitLemmas.{value-fits}
 use Rattle.ot_check.specs.Offences.{Declared}
 use Rattle.ot_c_judge.specs.Fits.{Fits, FitsOne}
-use Rattle.ot_c_judge.specs.Lacks.{Stood, stood, found, found_one, found_inside}
+use Rattle.ot_c_judge.specs.Lacks.{Stood, stood_at, stood_in_body, found_one, found_inside}
 use Rattle.ot_c_judge.specs.FoundView.{Follows}
 use Rattle.ot_c_judge.specs.declared.found.Stood.{Stood as CodeStood}
 
@@ -32,11 +32,11 @@ here-is k place is = grind (arith, nat_tests)
 here-not : (k place : ℕ) → k ≢ place → (k == place) ≡ false
 here-not k place other = grind (arith, nat_tests)
 
-pub found-here : (place : ℕ) (own : Declared) (k : ℕ) (x : S) → k ≡ place → found_one place own k x ≡ Some (stood own x)
-found-here place own k x is = ap (λ b. if b then Some (stood own x) else found_inside place own k x) (here-is k place is)
+pub found-here : (place : ℕ) (own : Declared) (k : ℕ) (x : S) → k ≡ place → found_one place own k x ≡ Some (stood_at own x)
+found-here place own k x is = ap (λ b. if b then Some (stood_at own x) else found_inside place own k x) (here-is k place is)
 
 found-past : (place : ℕ) (own : Declared) (k : ℕ) (x : S) → k ≢ place → found_one place own k x ≡ found_inside place own k x
-found-past place own k x other = ap (λ b. if b then Some (stood own x) else found_inside place own k x) (here-not k place other)
+found-past place own k x other = ap (λ b. if b then Some (stood_at own x) else found_inside place own k x) (here-not k place other)
 
 follows_as : (one two : Option Stood) (r : Result ℕ CodeStood) → one ≡ two → Follows two r → Follows one r
 follows_as one two (Ok next) is h = is ∙ h
@@ -47,19 +47,19 @@ pub follows_past : (place : ℕ) (own : Declared) (k : ℕ) (x y : S) (r : Resul
 follows_past place own k x y r other is h = follows_as (found_one place own k x) (found_inside place own k y) r (ap (found_one place own k) is ∙ found-past place own k y other) h
 
 -- an `if` whose first body was walked, and then the second
-pub follows_other : (place : ℕ) (own : Declared) (k n : ℕ) (e : E) (a b : Body) (r : Result ℕ CodeStood) → n ≡ k + 1 + size a → found place own (k + 1) a ≡ None →
-    Follows (found place own n b) r → Follows (found_inside place own k (If e a b)) r
+pub follows_other : (place : ℕ) (own : Declared) (k n : ℕ) (e : E) (a b : Body) (r : Result ℕ CodeStood) → n ≡ k + 1 + size a → stood_in_body place own (k + 1) a ≡ None →
+    Follows (stood_in_body place own n b) r → Follows (found_inside place own k (If e a b)) r
 follows_other place own k n e a b r at none h =
-    follows_as (found_inside place own k (If e a b)) (found place own n b) r
-    (ap (λ o. option_or o (found place own (k + 1 + size a) b)) none ∙ ap (λ m. found place own m b) (sym at)) h
+    follows_as (found_inside place own k (If e a b)) (stood_in_body place own n b) r
+    (ap (λ o. option_or o (stood_in_body place own (k + 1 + size a) b)) none ∙ ap (λ m. stood_in_body place own m b) (sym at)) h
 
-pub found-first : (place : ℕ) (own : Declared) (k : ℕ) (e : E) (a b : Body) (at : Stood) → found place own (k + 1) a ≡ Some at → found_inside place own k (If e a b) ≡ Some at
-found-first place own k e a b at h = ap (λ o. option_or o (found place own (k + 1 + size a) b)) h
+pub found-first : (place : ℕ) (own : Declared) (k : ℕ) (e : E) (a b : Body) (at : Stood) → stood_in_body place own (k + 1) a ≡ Some at → found_inside place own k (If e a b) ≡ Some at
+found-first place own k e a b at h = ap (λ o. option_or o (stood_in_body place own (k + 1 + size a) b)) h
 
 -- ---- a body
 
-pub found-next : (place : ℕ) (own : Declared) (k n : ℕ) (x : S) (more : Body) → n ≡ k + size_one x → found_one place own k x ≡ None → found place own k (Next x more) ≡ found place own n more
-found-next place own k n x more at none = ap (λ o. option_or o (found place own (k + size_one x) more)) none ∙ ap (λ m. found place own m more) (sym at)
+pub found-next : (place : ℕ) (own : Declared) (k n : ℕ) (x : S) (more : Body) → n ≡ k + size_one x → found_one place own k x ≡ None → stood_in_body place own k (Next x more) ≡ stood_in_body place own n more
+found-next place own k n x more at none = ap (λ o. option_or o (stood_in_body place own (k + size_one x) more)) none ∙ ap (λ m. stood_in_body place own m more) (sym at)
 
-pub found-now : (place : ℕ) (own : Declared) (k : ℕ) (x : S) (more : Body) (at : Stood) → found_one place own k x ≡ Some at → found place own k (Next x more) ≡ Some at
-found-now place own k x more at h = ap (λ o. option_or o (found place own (k + size_one x) more)) h
+pub found-now : (place : ℕ) (own : Declared) (k : ℕ) (x : S) (more : Body) (at : Stood) → found_one place own k x ≡ Some at → stood_in_body place own k (Next x more) ≡ Some at
+found-now place own k x more at h = ap (λ o. option_or o (stood_in_body place own (k + size_one x) more)) h

@@ -8,7 +8,7 @@ use Rattle.ot_check.specs.declared.fault.Offence.{Offence}
 use Rattle.ot_check.specs.declared.fault.Offence.TheVariants.{NotDeclared, ChildBeyond, ReductionMisuse, ConflictsWithChild, EndsWithChildren}
 use Rattle.ot_race_order.specs.declared.order.Order.{Order}
 use Rattle.ot_program.specs.declared.fault.Refusal.{Refusal}
-use Rattle.ot_c_judge.specs.Start.{numbers_of, shape_of, cells_of}
+use Rattle.ot_c_judge.specs.Start.{numbers_of, shape_of, starting_cells}
 use Rattle.ot_c_judge.specs.Sites.{Source}
 use Rattle.ot_c_judge.specs.Lacks.{lacks_by}
 use Rattle.ot_c_judge.specs.Reports.{ReportsRead, Told}
@@ -18,7 +18,7 @@ pub if_both : {A E : Type 0} (r : Result A E) (P Q R : A → Type 0) → ((x : A
 if_both (Ok x) P Q R f h k = f x h k
 if_both (Err e) P Q R f h k = h
 
-pub same_lengths : (arrays : List CArray) → lengths (cells_of arrays) ≡ array_lengths (shape_of arrays)
+pub same_lengths : (arrays : List CArray) → lengths (starting_cells arrays) ≡ array_lengths (shape_of arrays)
 same_lengths [] = refl
 same_lengths (a ∷ others) = ap (λ ls. length (numbers_of a) ∷ ls) (same_lengths others)
 

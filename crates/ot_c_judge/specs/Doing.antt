@@ -3,7 +3,7 @@ use Rattle.std.specs.Prelude.{ℕ, List, codes, if◌then◌else◌, Option, Som
 use Rattle.ot_model.specs.Cells.{same_cell}
 use Rattle.ot_model.specs.Tree.{S, Set, Fold, If, Task, Wait, Group, Body}
 use Rattle.ot_model.specs.declared.expr.Cell.{Cell}
-use Rattle.ot_c_judge.specs.Lacks.{Stood, found}
+use Rattle.ot_c_judge.specs.Lacks.{Stood, stood_in_body}
 
 abbrev pub written_if : Cell → Cell → List ℕ
 written_if target cell = if same_cell target cell then codes "written" else codes "read"
@@ -23,4 +23,4 @@ done_by (Some at) cell = does at.statement cell
 
 -- what the statement at a place of a program does
 abbrev pub done_at : Body → ℕ → Cell → List ℕ
-done_at body place cell = done_by (found place None 1 body) cell
+done_at body place cell = done_by (stood_in_body place None 1 body) cell

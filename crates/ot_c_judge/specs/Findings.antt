@@ -29,8 +29,8 @@ abbrev pub IsStraight : Body → Type 0
 IsStraight body = is_straight body ≡ true
 
 -- all its ways are known: they are few, or it is accepted, so that none of them races, or it is straight
-abbrev pub AreKnown : Order → Body → Type 0
-AreKnown order body = AreFew body ⊎ (IsAccepted order body ⊎ IsStraight body)
+abbrev pub AreWaysKnown : Order → Body → Type 0
+AreWaysKnown order body = AreFew body ⊎ (IsAccepted order body ⊎ IsStraight body)
 
 -- of a list of events all races are told, but no more than 20, and how many more there are; or nothing races
 abbrev pub TellsRun : List Event → Option Races → Type 0
@@ -43,8 +43,8 @@ abbrev pub Finds : Order → Body → List (List ℕ) → Finding → Type 0
 Finds order body cells (InRun races) = TellsRun (events_by order body cells) (Some races)
 Finds order body cells (OnWay race) =
     NothingRaces (events_by order body cells) × AreFew body × (taken : List Turn) × ((from : List (List ℕ)) → IsRaceOn order body taken race from)
-Finds order body cells Nowhere = NothingRaces (events_by order body cells) × AreKnown order body × NoWayRaces order body
-Finds order body cells OnlyRun = NothingRaces (events_by order body cells) × (AreKnown order body → ⊥)
+Finds order body cells Nowhere = NothingRaces (events_by order body cells) × AreWaysKnown order body × NoWayRaces order body
+Finds order body cells OnlyRun = NothingRaces (events_by order body cells) × (AreWaysKnown order body → ⊥)
 
 -- that no way races
 abbrev pub is_clean : Verdict → Bool

@@ -5,7 +5,7 @@ use Rattle.ot_c_judge.specs.Lacks as l
 use Rattle.ot_c_judge.specs.declared.found.Stood.{Stood}
 
 abbrev pub stood_by : Stood → l.Stood
-stood_by at = l.stood (option_map (λ d. d.now) at.own) (stmt_of at.statement.now)
+stood_by at = l.stood_at (option_map (λ d. d.now) at.own) (stmt_of at.statement.now)
 
 -- it came to what is found, or behind where nothing is
 abbrev pub Follows : Option l.Stood → Result ℕ Stood → Type 0

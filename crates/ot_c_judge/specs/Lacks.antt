@@ -12,27 +12,27 @@ pub record Stood : Type 0 where
   pub own : Declared
   pub statement : S
 
-abbrev pub stood : Declared → S → Stood
-stood own x = record { own = own; statement = x }
+abbrev pub stood_at : Declared → S → Stood
+stood_at own x = record { own = own; statement = x }
 
 -- what stands at a place in the bodies of a statement, in a body, whose place is k, in a task that declares this
 abbrev mutual
   pub found_inside : ℕ → Declared → ℕ → S → Option Stood
   found_inside place own k (Set c e) = None
   found_inside place own k (Fold o c e) = None
-  found_inside place own k (If e a b) = option_or (found place own (k + 1) a) (found place own (k + 1 + size a) b)
-  found_inside place own k (Task d b) = found place (Some d) (k + 1) b
+  found_inside place own k (If e a b) = option_or (stood_in_body place own (k + 1) a) (stood_in_body place own (k + 1 + size a) b)
+  found_inside place own k (Task d b) = stood_in_body place (Some d) (k + 1) b
   found_inside place own k (Wait w) = None
-  found_inside place own k (Group o cs b) = found place own (k + 1) b
+  found_inside place own k (Group o cs b) = stood_in_body place own (k + 1) b
 
-  pub found : ℕ → Declared → ℕ → Body → Option Stood
-  found place own k End = None
-  found place own k (Next x rest) =
-      option_or (if k == place then Some (stood own x) else found_inside place own k x) (found place own (k + size_one x) rest)
+  pub stood_in_body : ℕ → Declared → ℕ → Body → Option Stood
+  stood_in_body place own k End = None
+  stood_in_body place own k (Next x rest) =
+      option_or (if k == place then Some (stood_at own x) else found_inside place own k x) (stood_in_body place own (k + size_one x) rest)
 
 -- a statement itself, or what stands in its bodies
 abbrev pub found_one : ℕ → Declared → ℕ → S → Option Stood
-found_one place own k x = if k == place then Some (stood own x) else found_inside place own k x
+found_one place own k x = if k == place then Some (stood_at own x) else found_inside place own k x
 
 -- the first use of a statement that the task around it doesn't allow
 abbrev pub lacks_to : Declared → S → Option Use
@@ -51,4 +51,4 @@ lacks_by offence at = None
 
 -- the same of the statement at a place of a program
 abbrev pub lacks : Body → ℕ → Offence → Option Use
-lacks body place offence = lacks_by offence (found place None 1 body)
+lacks body place offence = lacks_by offence (stood_in_body place None 1 body)

@@ -30,9 +30,9 @@ use Rattle.ot_c_overlap.specs.Items.{items_of, ground}
 use Rattle.ot_c_overlap.specs.Overlaps.{IsFirst}
 use Rattle.ot_race_order.specs.declared.order.Order.{Order}
 use Rattle.ot_race_order.specs.declared.order.Order.TheVariants.{OfLanguage, OfC, OfCByPointers}
-use Rattle.ot_c_judge.specs.Start.{named, shape_of, cells_of}
+use Rattle.ot_c_judge.specs.Start.{array_names_of, shape_of, starting_cells}
 use Rattle.ot_c_judge.specs.Sites.{Source, Site, site_of}
-use Rattle.ot_c_judge.specs.Lines.{turns_text, cell_text}
+use Rattle.ot_c_judge.specs.Lines.{turns_text, c_cell_text}
 use Rattle.ot_c_judge.specs.Lacks.{lacks}
 use Rattle.ot_c_judge.specs.Findings.{Finds}
 use Rattle.ot_c_judge.specs.declared.finding.Finding.{Finding}
@@ -49,8 +49,8 @@ abbrev pub at_site : Site → List ℕ → Remark
 at_site site message = record { place = Some site.place; file = None; turns = reverse site.turns; message = message }
 
 -- what has no notes
-abbrev pub alone : Severity → Code → Remark → Diagnosis
-alone severity kind told = record { severity = severity; code = kind; told = told; notes = [] }
+abbrev pub without_notes : Severity → Code → Remark → Diagnosis
+without_notes severity kind told = record { severity = severity; code = kind; told = told; notes = [] }
 
 -- `m[5] is written here while it may be read at NAME:LINE:COLUMN (i = 1, j = 2)`, with the turns of the touch here
 abbrev pub here_words : List ℕ → List ℕ → Site → List ℕ → Site → List ℕ → List ℕ
@@ -74,18 +74,18 @@ other_told other known = at_site other (codes "the other touch" ++ (turns_text o
 -- what is said of a race whose touches stand at these sites
 abbrev pub race_told : Source → Body → Site → Site → Race → Remark
 race_told s body here other told =
-    here_told s.name (cell_text s.arrays told.cell) here (done_at body told.later told.cell) other (done_at body told.place told.cell)
+    here_told s.name (c_cell_text s.arrays told.cell) here (done_at body told.later told.cell) other (done_at body told.place told.cell)
 
 -- the touch that comes later in the serial run, and the other one as its note
-abbrev pub raced : Remark → Site → List ℕ → Diagnosis
-raced told other known = record { severity = Error; code = code.Race; told = told; notes = other_told other known ∷ [] }
+abbrev pub race_diagnosis : Remark → Site → List ℕ → Diagnosis
+race_diagnosis told other known = record { severity = Error; code = code.Race; told = told; notes = other_told other known ∷ [] }
 
 abbrev pub race_found : Source → Body → List ℕ → Race → Diagnosis
-race_found s body known told = raced (race_told s body (site_of s told.later) (site_of s told.place) told) (site_of s told.place) known
+race_found s body known told = race_diagnosis (race_told s body (site_of s told.later) (site_of s told.place) told) (site_of s told.place) known
 
 -- words about the whole file
 abbrev pub of_file : Code → List ℕ → Diagnosis
-of_file kind message = alone Note kind (record { place = None; file = None; turns = []; message = message })
+of_file kind message = without_notes Note kind (record { place = None; file = None; turns = []; message = message })
 
 -- `3 more races`, where they aren't told
 abbrev pub is_none : More → Bool
@@ -111,14 +111,14 @@ kind_text Writes = codes "out"
 kind_text (Folds o) = codes "inout"
 
 -- `depend(in: m[5])`
-abbrev pub clause_text : List (List ℕ × ℕ) → Option Use → List ℕ
-clause_text arrays None = codes "a clause"
-clause_text arrays (Some u) = codes "depend(" ++ (kind_text u.mode ++ (codes ": " ++ (cell_text arrays u.cell ++ codes ")")))
+abbrev pub lacking_clause : List (List ℕ × ℕ) → Option Use → List ℕ
+lacking_clause arrays None = codes "a clause"
+lacking_clause arrays (Some u) = codes "depend(" ++ (kind_text u.mode ++ (codes ": " ++ (c_cell_text arrays u.cell ++ codes ")")))
 
 -- what is to be done about it
 abbrev pub advice : List (List ℕ × ℕ) → Offence → Option Use → List ℕ
-advice arrays NotDeclared lacking = codes "the task lacks " ++ clause_text arrays lacking
-advice arrays ChildBeyond lacking = codes "the task around this one lacks " ++ clause_text arrays lacking
+advice arrays NotDeclared lacking = codes "the task lacks " ++ lacking_clause arrays lacking
+advice arrays ChildBeyond lacking = codes "the task around this one lacks " ++ lacking_clause arrays lacking
 advice arrays ReductionMisuse lacking = codes "a reduction is misused"
 advice arrays ConflictsWithChild lacking = codes "a taskwait is missing before this, for a child that may use the same"
 advice arrays EndsWithChildren lacking = codes "a taskwait is missing at the end of the task, for a child of it"
@@ -134,14 +134,14 @@ none_in_run = codes "with these numbers nothing races"
 abbrev pub refused_words : Site → List ℕ → List ℕ → List ℕ
 refused_words site known words = known ++ (codes ", but omptaskd refuses it: " ++ (words ++ turns_text site.turns))
 
-abbrev pub refused : Site → List ℕ → List ℕ → ℕ → Diagnosis
-refused site known words number = alone Note (code.Refused number) (at_site site (refused_words site known words))
+abbrev pub refusal_note : Site → List ℕ → List ℕ → ℕ → Diagnosis
+refusal_note site known words number = without_notes Note (code.Refused number) (at_site site (refused_words site known words))
 
 -- of the first offence; nothing where there is none
 abbrev pub refusals : Source → Body → List ℕ → Option (ℕ × Offence) → List Diagnosis
 refusals s body known None = []
 refusals s body known (Some first) =
-    refused (site_of s first.0) known (advice s.arrays first.1 (lacks body first.0 first.1)) (code_of first.1) ∷ []
+    refusal_note (site_of s first.0) known (advice s.arrays first.1 (lacks body first.0 first.1)) (code_of first.1) ∷ []
 
 abbrev pub TellsRefusal : Source → Body → List ℕ → List Diagnosis → Type 0
 TellsRefusal s body known found = (first : Option (ℕ × Offence)) × IsFirstOf (Offends body) first × (found ≡ refusals s body known first)
@@ -153,8 +153,8 @@ only_run = of_file code.OnlyRun (codes "only the run with these numbers was judg
 
 -- ---- what isn't judged
 
-abbrev pub outside : Place → List ℕ → Diagnosis
-outside place reason = alone Error code.Outside (record { place = Some place; file = None; turns = []; message = reason })
+abbrev pub outside_error : Place → List ℕ → Diagnosis
+outside_error place reason = without_notes Error code.Outside (record { place = Some place; file = None; turns = []; message = reason })
 
 -- ---- the whole
 
@@ -184,14 +184,14 @@ abbrev pub told_by : Option Report → Told
 told_by told = option_map (λ report. (report.verdict, map diagnosis_by report.found.items)) told
 
 -- a verdict is told, and what is found, and they are so
-abbrev pub Tells : (Verdict → List Diagnosis → Type 0) → Told → Type 0
-Tells are_so None = ⊥
-Tells are_so (Some told) = are_so told.0 told.1
+abbrev pub TellsReport : (Verdict → List Diagnosis → Type 0) → Told → Type 0
+TellsReport are_so None = ⊥
+TellsReport are_so (Some told) = are_so told.0 told.1
 
 -- Of one of which an item of a `depend` clause overlaps in part with one that writes nothing is told: C doesn't say how they order.
 abbrev pub ReportsItems : Source → List (List ℕ) → Body → Option ℕ → Told → Type 0
 ReportsItems s cells body (Some entry) told = told ≡ None
-ReportsItems s cells body None told = Tells (ReportsRun s cells body) told
+ReportsItems s cells body None told = TellsReport (ReportsRun s cells body) told
 
 abbrev pub ReportsProgram : Source → List (List ℕ) → Body → Told → Type 0
 ReportsProgram s cells body told =
@@ -208,9 +208,9 @@ ReportsRead s cells (Err refusal) told = told ≡ None
 
 abbrev pub source_of : List ℕ → List ℕ → Lowered → Source
 source_of name text lowered =
-    record { name = name; text = text; request = run_of (view lowered.program); arrays = named lowered.arrays.items; bytes = lowered.places.items; order = lowered.order }
+    record { name = name; text = text; request = run_of (view lowered.program); arrays = array_names_of lowered.arrays.items; bytes = lowered.places.items; order = lowered.order }
 
 -- of what stands for a C text
 abbrev pub Reports : List ℕ → List ℕ → Lowered → Told → Type 0
 Reports name text lowered told =
-    ReportsRead (source_of name text lowered) (cells_of lowered.arrays.items) (program_of (shape_of lowered.arrays.items) (view lowered.program)) told
+    ReportsRead (source_of name text lowered) (starting_cells lowered.arrays.items) (program_of (shape_of lowered.arrays.items) (view lowered.program)) told

@@ -5,7 +5,7 @@ use Rattle.ot_race_order.specs.declared.order.Order.{Order}
 use Rattle.ot_file_diagnosis.specs.Diagnoses.{place_in}
 use Rattle.ot_file_diagnosis.specs.declared.diagnosis.Place.{Place}
 use Rattle.ot_program.specs.Meanings.{Bindings}
-use Rattle.ot_why_place.specs.Spots.{Path, place_at, statements_of, numbered}
+use Rattle.ot_why_place.specs.Spots.{Path, place_at, statements_of, item_numbered}
 use Rattle.ot_c_judge.specs.TextOrder.{told_of}
 
 -- A C text, its name, and what stands for it: a request that runs a program over arrays with these names and lengths. For each
@@ -30,4 +30,4 @@ site_at s (Some place) = record { place = place_in s.text (unwrap_or (told_of s.
 
 -- that of the C statement that stands for the statement of this number
 abbrev pub site_of : Source → ℕ → Site
-site_of s number = site_at s (option_map place_at (numbered number (statements_of s.request)))
+site_of s number = site_at s (option_map place_at (item_numbered number (statements_of s.request)))

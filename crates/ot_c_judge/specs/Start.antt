@@ -8,13 +8,13 @@ abbrev pub numbers_of : CArray → List ℕ
 numbers_of a = a.cells.items ++ replicate a.zeros 0
 
 -- names and lengths
-abbrev pub named : List CArray → List (List ℕ × ℕ)
-named arrays = map (λ a. (string_bytes a.name, length (numbers_of a))) arrays
+abbrev pub array_names_of : List CArray → List (List ℕ × ℕ)
+array_names_of arrays = map (λ a. (string_bytes a.name, length (numbers_of a))) arrays
 
 -- what its program may name, by names and lengths; of tasks it may have as many as it may have statements
 abbrev pub shape_of : List CArray → Arrays
-shape_of arrays = record { arrays = named arrays; tasks = 20000 }
+shape_of arrays = record { arrays = array_names_of arrays; tasks = 20000 }
 
 -- the numbers at the start
-abbrev pub cells_of : List CArray → List (List ℕ)
-cells_of arrays = map numbers_of arrays
+abbrev pub starting_cells : List CArray → List (List ℕ)
+starting_cells arrays = map numbers_of arrays

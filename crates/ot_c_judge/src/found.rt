@@ -2,7 +2,7 @@
 ghost use Rattle.std.specs.Prelude.{◌≡◌, ◌+◌, ◌<◌, ◌^◌, IfOk, IfErr, option_map};
 ghost use Rattle.ot_model.specs.View.{stmt_of, stmts_of};
 ghost use Rattle.ot_model.specs.Tree.{size, size_one};
-ghost use Rattle.ot_c_judge.specs.Lacks.{found, found_one};
+ghost use Rattle.ot_c_judge.specs.Lacks.{stood_in_body, found_one};
 ghost use Rattle.ot_c_judge.specs.Fits.{Fits, FitsOne};
 ghost use Rattle.ot_c_judge.specs.FoundView.{Follows};
 
@@ -28,7 +28,7 @@ pub(crate) fn find_in<'a>(
     requires fits { Fits (stmts_of body.now.items) }
     ensures next { IfOk result (λ next. next ≡ place + size (stmts_of body.now.items)) }
     ensures fits { IfErr result (λ at. FitsOne (stmt_of at.statement.now)) }
-    ensures found { Follows (found goal (option_map (λ d. d.now) own.entry) place (stmts_of body.now.items)) result }
+    ensures found { Follows (stood_in_body goal (option_map (λ d. d.now) own.entry) place (stmts_of body.now.items)) result }
 {
     let mut next = place;
     for stmt in body {

@@ -10,7 +10,7 @@ ghost use Rattle.ot_program.specs.Returned.{Gives};
 ghost use Rattle.ot_program.specs.declared.fault.Refusal.{Refusal};
 ghost use Rattle.ot_c_judge.specs.SiteView.{site_by, source_by};
 ghost use Rattle.ot_c_judge.specs.Fits.{Fits};
-ghost use Rattle.ot_c_judge.specs.Start.{cells_of as begun};
+ghost use Rattle.ot_c_judge.specs.Start.{starting_cells as begun};
 ghost use Rattle.ot_c_judge.specs.Lacks.{lacks};
 ghost use Rattle.ot_c_judge.specs.Reports.{Reports, ReportsRead, ReportsProgram, ReportsRun, ReportsFinding, has_red_items, run_of, told_by};
 ghost use Rattle.ot_c_judge.specs.Reports as meant;

@@ -4,7 +4,7 @@ ghost use Rattle.ot_file_diagnosis.specs.DiagnosisView.{turn_by as told_by};
 ghost use Rattle.ot_model.specs.Programs.{arrays_of};
 ghost use Rattle.ot_why_place.specs.Spots.{turn_by};
 ghost use Rattle.ot_c_judge.specs.SiteView.{site_by};
-ghost use Rattle.ot_c_judge.specs.Lines.{turn_text, listed, turns_text, cell_text, cell_by};
+ghost use Rattle.ot_c_judge.specs.Lines.{turn_text, turns_listed, turns_text, c_cell_text, cell_by};
 
 use crate::source::Site;
 use ot_model::{ArrayShape, Cell};
@@ -27,7 +27,7 @@ pub(crate) fn turns_text(alloc: Global, site: &Site<'_>) -> Result<String, Alloc
 
 /// The turns with commas between them, the outermost first.
 fn put_listed(alloc: Global, turns: &[Turn<'_>], out: &mut String) -> Result<(), AllocError>
-    ensures { OnOk result (string_bytes out.new ≡ string_bytes out.old ++ listed (map turn_by turns.now)) }
+    ensures { OnOk result (string_bytes out.new ≡ string_bytes out.old ++ turns_listed (map turn_by turns.now)) }
 {
     match turns {
         [] => Ok(()),
@@ -93,7 +93,7 @@ pub(crate) fn cell_text(
     arrays: &[ArrayShape],
     cell: Cell,
 ) -> Result<String, AllocError>
-    ensures { IfOk result (λ text. string_bytes text ≡ cell_text (arrays_of arrays.now) cell) }
+    ensures { IfOk result (λ text. string_bytes text ≡ c_cell_text (arrays_of arrays.now) cell) }
 {
     match arrays.get(cell.array as usize) {
         Some(array) => cell_of(alloc, array, cell.index),

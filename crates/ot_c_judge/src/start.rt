@@ -1,6 +1,6 @@
 //! What a C program begins with.
 ghost use Rattle.std.specs.Prelude.{◌≡◌, length, IfOk};
-ghost use Rattle.ot_c_judge.specs.Start.{cells_of, numbers_of, shape_of};
+ghost use Rattle.ot_c_judge.specs.Start.{starting_cells, numbers_of, shape_of};
 
 use crate::lowered::CArray;
 use ot_model::{ArrayShape, Cells, Shape};
@@ -46,7 +46,7 @@ fn all_numbers(alloc: Global, array: CArray) -> Result<Vec<u64>, AllocError>
 
 /// The numbers at the start. Only here are their zeros made.
 pub(crate) fn cells_of(alloc: Global, arrays: Vec<CArray>) -> Result<Cells, AllocError>
-    ensures { IfOk result (λ cells. cells ≡ cells_of arrays.items) }
+    ensures { IfOk result (λ cells. cells ≡ starting_cells arrays.items) }
 {
     let mut cells = Vec::new(alloc);
     for array in arrays {

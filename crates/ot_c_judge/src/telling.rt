@@ -137,7 +137,7 @@ pub(crate) fn refused(
     words: &str,
     code: u32,
 ) -> Result<Diagnosis, AllocError>
-    ensures { IfOk result (λ found. diagnosis_by found ≡ meant.refused (site_by site.now) known.now words.now code) }
+    ensures { IfOk result (λ found. diagnosis_by found ≡ meant.refusal_note (site_by site.now) known.now words.now code) }
 {
     let message = refused_words(alloc, site, known, words)?;
     Ok(Diagnosis {
@@ -192,7 +192,7 @@ fn lack(
     arrays: &[ArrayShape],
     lacking: Option<Use>,
 ) -> Result<String, AllocError>
-    ensures { IfOk result (λ words. string_bytes words ≡ who.now ++ meant.clause_text (arrays_of arrays.now) lacking) }
+    ensures { IfOk result (λ words. string_bytes words ≡ who.now ++ meant.lacking_clause (arrays_of arrays.now) lacking) }
 {
     match lacking {
         Some(used) => {
@@ -218,7 +218,7 @@ fn kind_text(mode: Mode) -> &'static str
 
 /// That a text isn't judged, for this reason, at a place.
 pub fn outside(alloc: Global, place: Place, reason: &str) -> Result<Diagnosis, AllocError>
-    ensures { IfOk result (λ found. diagnosis_by found ≡ meant.outside place reason.now) }
+    ensures { IfOk result (λ found. diagnosis_by found ≡ meant.outside_error place reason.now) }
 {
     Ok(Diagnosis {
         severity: Severity::Error,

@@ -10,12 +10,12 @@ use Rattle.ot_c_scope.specs.declared.reason.Reason.TheVariants as why
 use Rattle.ot_c_scope.specs.declared.scope.Sense.{Sense}
 use Rattle.ot_c_scope.specs.declared.scope.Sense.TheVariants as s
 use Rattle.ot_c_scope.specs.Constants.{both, constant}
-use Rattle.ot_c_scope.specs.Forms.{nat, form, listed}
+use Rattle.ot_c_scope.specs.Forms.{nat, form, list_form}
 use Rattle.ot_c_scope.specs.Results.{Refusal, ◌>>=◌}
-use Rattle.ot_c_scope.specs.Runs.{untouched}
+use Rattle.ot_c_scope.specs.Runs.{is_run_untouched}
 use Rattle.ot_c_scope.specs.Scopes.{Around, sense, name_text}
 use Rattle.ot_c_scope.specs.Sizes.{size}
-use Rattle.ot_c_meaning.specs.Arithmetic.{W, Valued, word, whole, held, way_of, signed, has_rest, by_way, choice_of, called}
+use Rattle.ot_c_meaning.specs.Arithmetic.{W, Valued, word_value, whole, held_value, way_of, sign_value, has_rest, by_way, choice_of, value_of_call}
 
 -- ---- names and cells
 
@@ -51,38 +51,38 @@ array_name a at x = array_by at (name_text a x) (sense a x)
 
 -- `a[size]`
 abbrev pub cell : Around → ℕ → Name → E → Valued
-cell a at x i = array_name a at x >>= λ r. size a i >>= λ p. Ok (held (form (codes "c") (r.0 ∷ p.0 ∷ [])) r.1)
+cell a at x i = array_name a at x >>= λ r. size a i >>= λ p. Ok (held_value (form (codes "c") (r.0 ∷ p.0 ∷ [])) r.1)
 
 -- the only cell of a variable
 abbrev pub only_cell : List ℕ → Data
 only_cell name = form (codes "c") (string name ∷ nat 0 ∷ [])
 
-abbrev pub named_by : ℕ → List ℕ → Sense → Valued
-named_by at name (s.Constant n k) = Ok (whole (nat n) k)
-named_by at name (s.Turn k) = Ok (whole (string name) k)
-named_by at name (s.Cells k None) = Ok (held (only_cell name) k)
-named_by at name (s.Cells k (Some n)) = Err (at, why.WholeArray)
-named_by at name s.Nothing = Err (at, why.Unknown)
-named_by at name s.Begins = Err (at, why.OwnBound)
-named_by at name (s.Combined c k length) = Err (at, why.Combined)
-named_by at name (s.Pointer x p) = Err (at, why.Pointer)
-named_by at name (s.Function i) = Err (at, why.Function)
+abbrev pub name_value_by : ℕ → List ℕ → Sense → Valued
+name_value_by at name (s.Constant n k) = Ok (whole (nat n) k)
+name_value_by at name (s.Turn k) = Ok (whole (string name) k)
+name_value_by at name (s.Cells k None) = Ok (held_value (only_cell name) k)
+name_value_by at name (s.Cells k (Some n)) = Err (at, why.WholeArray)
+name_value_by at name s.Nothing = Err (at, why.Unknown)
+name_value_by at name s.Begins = Err (at, why.OwnBound)
+name_value_by at name (s.Combined c k length) = Err (at, why.Combined)
+name_value_by at name (s.Pointer x p) = Err (at, why.Pointer)
+name_value_by at name (s.Function i) = Err (at, why.Function)
 
 -- a constant, a loop's variable, or a variable
-abbrev pub named : Around → ℕ → Name → Valued
-named a at x = named_by at (name_text a x) (sense a x)
+abbrev pub name_value : Around → ℕ → Name → Valued
+name_value a at x = name_value_by at (name_text a x) (sense a x)
 
 -- ---- values
 
 -- `a[first + value % count]`
-abbrev pub picked : ℕ → Row → Data → Data × IntegerType → W → Valued
-picked at r first count x = if has_rest x count.1 then Ok (held (form (codes "pick") (listed (r.0 ∷ first ∷ count.0 ∷ []) ∷ x.text ∷ [])) r.1) else Err (at, why.Signed)
+abbrev pub pick_value : ℕ → Row → Data → Data × IntegerType → W → Valued
+pick_value at r first count x = if has_rest x count.1 then Ok (held_value (form (codes "pick") (list_form (r.0 ∷ first ∷ count.0 ∷ []) ∷ x.text ∷ [])) r.1) else Err (at, why.Signed)
 
 abbrev pub pick : Around → ℕ → Row → Data → Valued → E → Valued
-pick a at r first chosen count = size a count >>= λ n. chosen >>= λ x. picked at r first n x
+pick a at r first chosen count = size a count >>= λ n. chosen >>= λ x. pick_value at r first n x
 
-abbrev pub summed : Around → Row → Data → E → Valued
-summed a r first more = size a more >>= λ m. Ok (held (form (codes "c") (r.0 ∷ form (codes "+") (first ∷ m.0 ∷ []) ∷ [])) r.1)
+abbrev pub sum_value : Around → Row → Data → E → Valued
+sum_value a r first more = size a more >>= λ m. Ok (held_value (form (codes "c") (r.0 ∷ form (codes "+") (first ∷ m.0 ∷ []) ∷ [])) r.1)
 
 -- whether a name is no cell
 abbrev pub is_no_cell : Sense → Bool
@@ -109,20 +109,20 @@ is_settled a (Choose l t x y) = false
 unfoldable mutual
   pub value : Around → E → Valued
   value a (Literal l n k) = Ok (whole (nat n) k)
-  value a (Variable l x) = named a l x
-  value a (CellAt l x i) = untouched a l x i >>= λ u. indexed a l x i
-  value a (Unsigned e) = value a e >>= λ x. Ok (word x.text)
-  value a (Signed l sign e) = value a e >>= λ x. signed l sign x
+  value a (Variable l x) = name_value a l x
+  value a (CellAt l x i) = is_run_untouched a l x i >>= λ u. indexed_value a l x i
+  value a (Unsigned e) = value a e >>= λ x. Ok (word_value x.text)
+  value a (Signed l sign e) = value a e >>= λ x. sign_value l sign x
   value a (Choose l t x y) = choice_of l (value a t) (value a x) (value a y) (is_settled a x && is_settled a y)
-  value a (Called l f x y) = called l f (value a x) (value a y)
+  value a (Called l f x y) = value_of_call l f (value a x) (value a y)
   value a (Apply l sign x y) = by_way l (way_of sign) (value a x) (value a y) (constant a y) (both sign (constant a x) (constant a y)) (is_settled a y)
 
   -- a place in an array whose name stands there: a value `%` a size, alone or behind a size and `+`; or a size
-  pub indexed : Around → ℕ → Name → E → Valued
-  indexed a at x (Apply l o.Rest chosen count) = array_name a at x >>= λ r. pick a l r (nat 0) (value a chosen) count
-  indexed a at x (Apply l o.Plus first more) = array_name a at x >>= λ r. size a first >>= λ f. behind a r f.0 more
-  indexed a at x i = cell a at x i
+  pub indexed_value : Around → ℕ → Name → E → Valued
+  indexed_value a at x (Apply l o.Rest chosen count) = array_name a at x >>= λ r. pick a l r (nat 0) (value a chosen) count
+  indexed_value a at x (Apply l o.Plus first more) = array_name a at x >>= λ r. size a first >>= λ f. pick_behind a r f.0 more
+  indexed_value a at x i = cell a at x i
 
-  pub behind : Around → Row → Data → E → Valued
-  behind a r first (Apply l o.Rest chosen count) = pick a l r first (value a chosen) count
-  behind a r first more = summed a r first more
+  pub pick_behind : Around → Row → Data → E → Valued
+  pick_behind a r first (Apply l o.Rest chosen count) = pick a l r first (value a chosen) count
+  pick_behind a r first more = sum_value a r first more

@@ -1,7 +1,7 @@
 //! Arithmetic: operations of values, in the types that they have in C.
 ghost use Rattle.std.specs.Prelude.{◌≡◌, true, false};
 ghost use Rattle.serde_json.specs.View.{view};
-ghost use Rattle.ot_c_scope.specs.Results.{Gives};
+ghost use Rattle.ot_c_scope.specs.Results.{GivesAs};
 ghost use Rattle.ot_c_meaning.specs.Arithmetic.{Valued, worth_of};
 ghost use Rattle.ot_c_meaning.specs.Arithmetic as meant;
 
@@ -24,7 +24,7 @@ pub struct Worth {
 
 /// A value of type `uint64_t`.
 pub(crate) fn word(value: Value) -> Worth
-    ensures { worth_of result ≡ meant.word (view value) }
+    ensures { worth_of result ≡ meant.word_value (view value) }
 {
     Worth {
         value,
@@ -46,7 +46,7 @@ pub(crate) fn whole(value: Value, kind: IntegerType) -> Worth
 
 /// A number of a type, as cells hold them.
 pub(crate) fn held(value: Value, kind: IntegerType) -> Worth
-    ensures { worth_of result ≡ meant.held (view value) kind }
+    ensures { worth_of result ≡ meant.held_value (view value) kind }
 {
     Worth {
         value,
@@ -195,14 +195,14 @@ fn is_raised(basic: Basic, kind: IntegerType, whole: bool) -> bool
 
 /// A number and 2^63.
 fn raised(alloc: Global, value: Value) -> Result<Value, CFault>
-    ensures { Gives (λ v. view v) result (Ok (meant.raised (view value))) }
+    ensures { GivesAs (λ v. view v) result (Ok (meant.raised_form (view value))) }
 {
     Ok(form2(alloc, "+", value, Value::from(1u64 << 63))?)
 }
 
 /// Whether a number of a signed type is less than another: with 2^63 more both are, in their order, from 0 to 2^64 - 1.
 fn raised_less(alloc: Global, one: Value, two: Value) -> Result<Worth, CFault>
-    ensures { Gives worth_of result (Ok (meant.raised_less (view one) (view two))) }
+    ensures { GivesAs worth_of result (Ok (meant.raised_less (view one) (view two))) }
 {
     let one = raised(alloc, one)?;
     let two = raised(alloc, two)?;
@@ -217,7 +217,7 @@ fn applied(
     one: Worth,
     two: Worth,
 ) -> Result<Worth, CFault>
-    ensures { Gives worth_of result (meant.applied left basic (worth_of one) (worth_of two)) }
+    ensures { GivesAs worth_of result (meant.operation_value left basic (worth_of one) (worth_of two)) }
 {
     let kind = joined(one.kind, two.kind);
     let both = one.whole && two.whole;
@@ -243,14 +243,14 @@ fn int(number: u64) -> Worth
 
 /// Whether a value is 0.
 fn denied(alloc: Global, left: usize, one: Worth) -> Result<Worth, CFault>
-    ensures { Gives worth_of result (meant.denied left (worth_of one)) }
+    ensures { GivesAs worth_of result (meant.denial_value left (worth_of one)) }
 {
     applied(alloc, left, Basic::Equal, one, int(0))
 }
 
 /// Whether a value isn't 0.
 fn truth(alloc: Global, left: usize, one: Worth) -> Result<Worth, CFault>
-    ensures { Gives worth_of result (meant.truth left (worth_of one)) }
+    ensures { GivesAs worth_of result (meant.truth left (worth_of one)) }
 {
     let none = denied(alloc, left, one)?;
     denied(alloc, left, none)
@@ -265,7 +265,7 @@ fn meant(
     one: Worth,
     two: Worth,
 ) -> Result<Worth, CFault>
-    ensures { Gives worth_of result (meant.meant left manner basic (worth_of one) (worth_of two)) }
+    ensures { GivesAs worth_of result (meant.manner_value left manner basic (worth_of one) (worth_of two)) }
 {
     match manner {
         Manner::Is => applied(alloc, left, basic, one, two),
@@ -283,7 +283,7 @@ fn meant(
 
 /// A value with a sign before it.
 pub(crate) fn signed(alloc: Global, left: usize, sign: Unary, one: Worth) -> Result<Worth, CFault>
-    ensures { Gives worth_of result (meant.signed left sign (worth_of one)) }
+    ensures { GivesAs worth_of result (meant.sign_value left sign (worth_of one)) }
 {
     match sign {
         Unary::Plus => Ok(one),
@@ -298,7 +298,7 @@ pub(crate) fn signed(alloc: Global, left: usize, sign: Unary, one: Worth) -> Res
 
 /// Two values, of which C may leave out the second.
 fn lazily(alloc: Global, left: usize, basic: Basic, one: Worth, two: Worth) -> Result<Worth, CFault>
-    ensures { Gives worth_of result (meant.lazily left basic (worth_of one) (worth_of two)) }
+    ensures { GivesAs worth_of result (meant.lazily left basic (worth_of one) (worth_of two)) }
 {
     let one = truth(alloc, left, one)?;
     let two = truth(alloc, left, two)?;
@@ -314,7 +314,7 @@ fn chosen(
     other: Worth,
     again: Worth,
 ) -> Result<Worth, CFault>
-    ensures { Gives worth_of result (meant.chosen left (worth_of test) (worth_of one) (worth_of other) (worth_of again)) }
+    ensures { GivesAs worth_of result (meant.choice_value left (worth_of test) (worth_of one) (worth_of other) (worth_of again)) }
 {
     let whole = one.whole && other.whole;
     let test = truth(alloc, left, test)?;
@@ -330,7 +330,7 @@ fn chosen(
 
 /// A number that is known.
 fn known(left: usize, number: Option<(u64, IntegerType)>, why: Reason) -> Result<Worth, CFault>
-    ensures { Gives worth_of result (meant.known left number why) }
+    ensures { GivesAs worth_of result (meant.number_known left number why) }
 {
     match number {
         Some((number, kind)) => Ok(whole(Value::from(number), kind)),
@@ -354,7 +354,7 @@ fn shifted(
     by: Option<(u64, IntegerType)>,
     all: Option<(u64, IntegerType)>,
 ) -> Result<Worth, CFault>
-    ensures { Gives worth_of result (meant.shifted left (worth_of one) by all) }
+    ensures { GivesAs worth_of result (meant.shift_value left (worth_of one) by all) }
 {
     if !is_word(one.kind) {
         return known(left, all, Reason::Shift);
@@ -386,7 +386,7 @@ fn rest(
     by: Option<(u64, IntegerType)>,
     all: Option<(u64, IntegerType)>,
 ) -> Result<Worth, CFault>
-    ensures { Gives worth_of result (meant.rest left (worth_of one) by all) }
+    ensures { GivesAs worth_of result (meant.rest left (worth_of one) by all) }
 {
     let Some((number, kind)) = by else {
         return Err(CFault::Outside(left, Reason::Rest));
@@ -401,8 +401,8 @@ fn rest(
 
 /// A choice by a test, where what C leaves out may not be computed.
 pub(crate) fn left_out(left: usize, test: Result<Worth, CFault>) -> Result<Worth, CFault>
-    ensures { (t r s : Valued) → Gives worth_of test t
-        → Gives worth_of result (meant.choice_of left t r s false) }
+    ensures { (t r s : Valued) → GivesAs worth_of test t
+        → GivesAs worth_of result (meant.choice_of left t r s false) }
 {
     test?;
     Err(CFault::Outside(left, Reason::LeftOut))
@@ -417,8 +417,8 @@ pub(crate) fn choice(
     other: Result<Worth, CFault>,
     again: Result<Worth, CFault>,
 ) -> Result<Worth, CFault>
-    ensures { (t r s : Valued) → Gives worth_of test t → Gives worth_of one r → Gives worth_of other s
-        → Gives worth_of again s → Gives worth_of result (meant.choice_of left t r s true) }
+    ensures { (t r s : Valued) → GivesAs worth_of test t → GivesAs worth_of one r → GivesAs worth_of other s
+        → GivesAs worth_of again s → GivesAs worth_of result (meant.choice_of left t r s true) }
 {
     chosen(alloc, left, test?, one?, other?, again?)
 }
@@ -432,7 +432,7 @@ pub(crate) fn is_counted(worth: &Worth) -> bool
 
 /// `min` or `max` of two numbers of type `uint64_t`.
 fn extreme(alloc: Global, left: usize, call: Call, one: Worth, two: Worth) -> Result<Worth, CFault>
-    ensures { Gives worth_of result (meant.extreme left call (worth_of one) (worth_of two)) }
+    ensures { GivesAs worth_of result (meant.extreme left call (worth_of one) (worth_of two)) }
 {
     if is_counted(&one) && is_counted(&two) {
         Ok(word(form2(alloc, call_word(call), one.value, two.value)?))
@@ -449,8 +449,8 @@ pub(crate) fn called(
     one: Result<Worth, CFault>,
     two: Result<Worth, CFault>,
 ) -> Result<Worth, CFault>
-    ensures { (r s : Valued) → Gives worth_of one r → Gives worth_of two s
-        → Gives worth_of result (meant.called left call r s) }
+    ensures { (r s : Valued) → GivesAs worth_of one r → GivesAs worth_of two s
+        → GivesAs worth_of result (meant.value_of_call left call r s) }
 {
     extreme(alloc, left, call, one?, two?)
 }
@@ -466,8 +466,8 @@ pub(crate) fn by_way(
     all: Option<(u64, IntegerType)>,
     settled: bool,
 ) -> Result<Worth, CFault>
-    ensures { (r s : Valued) → Gives worth_of one r → Gives worth_of two s
-        → Gives worth_of result (meant.by_way left way r s by all settled) }
+    ensures { (r s : Valued) → GivesAs worth_of one r → GivesAs worth_of two s
+        → GivesAs worth_of result (meant.by_way left way r s by all settled) }
 {
     match way {
         Way::Known => known(left, all, Reason::Quotient),

@@ -2,7 +2,7 @@
 ghost use Rattle.std.specs.Prelude.{◌≡◌};
 ghost use Rattle.serde_json.specs.View.{view};
 ghost use Rattle.ot_c_expressions.specs.Tree.{expr_of};
-ghost use Rattle.ot_c_scope.specs.Results.{Gives};
+ghost use Rattle.ot_c_scope.specs.Results.{GivesAs};
 ghost use Rattle.ot_c_meaning.specs.Arithmetic.{worth_of};
 ghost use Rattle.ot_c_meaning.specs.Stores as stores;
 
@@ -32,7 +32,7 @@ pub fn assigned(
     kind: IntegerType,
     expr: &Expr,
 ) -> Result<Value, CFault>
-    ensures { Gives (λ v. view v) result (stores.assigned scope.now kind (expr_of expr.now)) }
+    ensures { GivesAs (λ v. view v) result (stores.value_assigned scope.now kind (expr_of expr.now)) }
 {
     let worth = value(alloc, scope, expr)?;
     if keeps(kind, worth.kind, worth.whole) || fits(kind, constant(scope, expr)) {
@@ -50,7 +50,7 @@ fn kept_in(
     kind: IntegerType,
     whole: bool,
 ) -> Result<(), CFault>
-    ensures { Gives (λ x. x) result (stores.kept_in left basic target kind whole) }
+    ensures { GivesAs (λ x. x) result (stores.kept_in left basic target kind whole) }
 {
     if !agrees(basic, kind, whole) {
         return Err(CFault::Outside(left, disagrees(basic)));
@@ -65,7 +65,7 @@ fn kept_in(
 
 /// Whether a cell of a type and a value with a sign between go into the cell.
 fn kept(left: usize, basic: Basic, kind: IntegerType, worth: &Worth) -> Result<(), CFault>
-    ensures { Gives (λ x. x) result (stores.kept left basic kind (worth_of worth.now)) }
+    ensures { GivesAs (λ x. x) result (stores.value_kept left basic kind (worth_of worth.now)) }
 {
     let whole = !is_signed(kind) && worth.whole;
     kept_in(left, basic, kind, joined(kind, worth.kind), whole)
@@ -73,7 +73,7 @@ fn kept(left: usize, basic: Basic, kind: IntegerType, worth: &Worth) -> Result<(
 
 /// Whether the `min` or `max` of a cell of a type and a value goes into the cell.
 fn kept_extreme(left: usize, kind: IntegerType, worth: &Worth) -> Result<(), CFault>
-    ensures { Gives (λ x. x) result (stores.kept_extreme left kind (worth_of worth.now)) }
+    ensures { GivesAs (λ x. x) result (stores.kept_extreme left kind (worth_of worth.now)) }
 {
     if is_signed(kind) || !is_counted(worth) {
         return Err(CFault::Outside(left, Reason::Signed));
@@ -100,7 +100,7 @@ fn folded(
     minus: bool,
     worth: &Worth,
 ) -> Result<(), CFault>
-    ensures { Gives (λ x. x) result (stores.folded left kind operation minus (worth_of worth.now)) }
+    ensures { GivesAs (λ x. x) result (stores.value_folded left kind operation minus (worth_of worth.now)) }
 {
     match operation {
         Operation::Plus => kept(left, sum(minus), kind, worth),
@@ -122,7 +122,7 @@ pub fn changed(
     minus: bool,
     expr: &Expr,
 ) -> Result<Value, CFault>
-    ensures { Gives (λ v. view v) result (stores.changed scope.now kind operation minus (expr_of expr.now)) }
+    ensures { GivesAs (λ v. view v) result (stores.value_changed scope.now kind operation minus (expr_of expr.now)) }
 {
     let worth = value(alloc, scope, expr)?;
     folded(left_of(expr), kind, operation, minus, &worth)?;

@@ -2,7 +2,7 @@
 ghost use Rattle.std.specs.Prelude.{◌≡◌, ◌&&◌};
 ghost use Rattle.serde_json.specs.View.{view};
 ghost use Rattle.ot_c_expressions.specs.Tree.{expr_of};
-ghost use Rattle.ot_c_scope.specs.Results.{Gives};
+ghost use Rattle.ot_c_scope.specs.Results.{GivesAs};
 ghost use Rattle.ot_c_meaning.specs.Arithmetic.{worth_of};
 ghost use Rattle.ot_c_meaning.specs.Values as values;
 
@@ -23,7 +23,7 @@ fn array_name(
     left: usize,
     array: Name,
 ) -> Result<(Value, IntegerType), CFault>
-    ensures { Gives (λ x. (view x.0, x.1)) result (values.array_name scope.now left array) }
+    ensures { GivesAs (λ x. (view x.0, x.1)) result (values.array_name scope.now left array) }
 {
     match scope.sense(array) {
         Sense::Cells(kind, Some(_)) => Ok((scope.named(alloc, array)?, kind)),
@@ -52,7 +52,7 @@ fn cell(
     array: Name,
     index: &Expr,
 ) -> Result<Worth, CFault>
-    ensures { Gives worth_of result (values.cell scope.now left array (expr_of index.now)) }
+    ensures { GivesAs worth_of result (values.cell scope.now left array (expr_of index.now)) }
 {
     let (name, kind) = array_name(alloc, scope, left, array)?;
     let (index, _) = size(alloc, scope, index)?;
@@ -60,7 +60,7 @@ fn cell(
 }
 
 fn named(alloc: Global, scope: &Scope<'_>, left: usize, name: Name) -> Result<Worth, CFault>
-    ensures { Gives worth_of result (values.named scope.now left name) }
+    ensures { GivesAs worth_of result (values.name_value scope.now left name) }
 {
     match scope.sense(name) {
         Sense::Constant(number, kind) => Ok(whole(Value::from(number), kind)),
@@ -105,7 +105,7 @@ fn picked(
     count: (Value, IntegerType),
     chosen: Worth,
 ) -> Result<Worth, CFault>
-    ensures { Gives worth_of result (values.picked left (view array.0, array.1) (view first) (view count.0, count.1) (worth_of chosen)) }
+    ensures { GivesAs worth_of result (values.pick_value left (view array.0, array.1) (view first) (view count.0, count.1) (worth_of chosen)) }
 {
     if !has_rest(&chosen, count.1) {
         return Err(CFault::Outside(left, Reason::Signed));
@@ -122,7 +122,7 @@ fn summed(
     first: Value,
     more: &Expr,
 ) -> Result<Worth, CFault>
-    ensures { Gives worth_of result (values.summed scope.now (view array.0, array.1) (view first) (expr_of more.now)) }
+    ensures { GivesAs worth_of result (values.sum_value scope.now (view array.0, array.1) (view first) (expr_of more.now)) }
 {
     let (more, _) = size(alloc, scope, more)?;
     let index = form2(alloc, "+", first, more)?;
@@ -131,7 +131,7 @@ fn summed(
 
 /// `a[index]`, where the name of the array stands where so many words are left.
 #[cycle(value)]
-#[tactic(auto, unfolding(crate::specs::Values::indexed, crate::specs::Values::behind))]
+#[tactic(auto, unfolding(crate::specs::Values::indexed_value, crate::specs::Values::pick_behind))]
 fn indexed(
     alloc: Global,
     scope: &Scope<'_>,
@@ -139,7 +139,7 @@ fn indexed(
     array: Name,
     index: &Expr,
 ) -> Result<Worth, CFault>
-    ensures { Gives worth_of result (values.indexed scope.now left array (expr_of index.now)) }
+    ensures { GivesAs worth_of result (values.indexed_value scope.now left array (expr_of index.now)) }
 {
     match index {
         Expr::Op(sign, Sign::Rest, chosen, count) => {
@@ -175,7 +175,7 @@ fn are_settled(scope: &Scope<'_>, one: &Expr, other: &Expr) -> bool
 #[cycle(value)]
 #[tactic(auto, unfolding(crate::specs::Values::value))]
 pub fn value(alloc: Global, scope: &Scope<'_>, expr: &Expr) -> Result<Worth, CFault>
-    ensures { Gives worth_of result (values.value scope.now (expr_of expr.now)) }
+    ensures { GivesAs worth_of result (values.value scope.now (expr_of expr.now)) }
 {
     match expr {
         Expr::Number(_, number, kind) => Ok(whole(Value::from(*number), *kind)),

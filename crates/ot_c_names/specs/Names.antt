@@ -7,8 +7,8 @@ abbrev pub Text : Type 0
 Text = List ℕ
 
 -- keywords of C and of its compilers, what the headers name, what a program calls by itself, and words of directives
-abbrev pub taken : List Text
-taken =
+abbrev pub taken_names : List Text
+taken_names =
     codes "alignas" ∷ codes "alignof" ∷ codes "asm" ∷ codes "at" ∷ codes "auto" ∷ codes "bool" ∷ codes "break" ∷ codes "case" ∷ codes "char" ∷ codes "const" ∷
     codes "constexpr" ∷ codes "continue" ∷ codes "default" ∷ codes "define" ∷ codes "depend" ∷ codes "do" ∷ codes "double" ∷ codes "else" ∷ codes "enum" ∷
     codes "extern" ∷ codes "false" ∷ codes "firstprivate" ∷ codes "float" ∷ codes "for" ∷ codes "goto" ∷ codes "i386" ∷ codes "if" ∷ codes "in" ∷ codes "in_reduction" ∷
@@ -21,7 +21,7 @@ taken =
 
 -- words that no array is called by
 abbrev pub is_taken : Text → Bool
-is_taken word = list_any (λ one. bytes_eq one word) taken
+is_taken word = list_any (λ one. bytes_eq one word) taken_names
 
 -- an array's name in C: its own, behind `A_` where that is taken
 abbrev pub name_in_c : Text → Text

@@ -8,7 +8,7 @@ use Rattle.std.specs.declared.cmp.Ordering.TheVariants.{Less, Equal, Greater}
 use Rattle.std.proofs.lemmas.Bool.{cases_eq, cases_lt}
 use Rattle.std.proofs.lemmas.Bool.Decides.{nat_tests}
 use Rattle.ot_model.specs.declared.expr.Section.{Section}
-use Rattle.ot_c_overlap.specs.Claims.{Key, key_cmp, claimed, Clashes, AreWhole, is_here, is_taken, AreClaims}
+use Rattle.ot_c_overlap.specs.Claims.{Key, key_cmp, claimed_section, Clashes, AreWhole, is_here, is_taken, AreClaims}
 use Rattle.ot_c_overlap.specs.Overlaps.{Covers, IsOverlap, IsFirstIn}
 use Rattle.ot_c_overlap.specs.declared.claims.Claims.{Claims}
 use Rattle.ot_c_overlap.specs.declared.item.Item.{Item}
@@ -59,26 +59,26 @@ and_false true = refl
 and_false false = refl
 
 pub entered_none : (it : Item) (old : Claims) (n : ℕ) → n ≡ it.section.start → (parent array index : ℕ)
-    → claimed old parent array index ≡ cond (is_upto it n parent array index) (Some it.section) (claimed old parent array index)
+    → claimed_section old parent array index ≡ cond (is_upto it n parent array index) (Some it.section) (claimed_section old parent array index)
 entered_none it old n first parent array index =
     let p = it.parent == parent in
     let a = it.section.array == array in
     let none : is_upto it n parent array index ≡ false =
     ap (λ m. is_upto it m parent array index) first ∙ ap (λ b. p && (a && b)) (upto_none it.section.start index) ∙ ap (λ b. p && b) (and_false a) ∙ and_false p in
-    sym (ap (λ b. cond b (Some it.section) (claimed old parent array index)) none)
+    sym (ap (λ b. cond b (Some it.section) (claimed_section old parent array index)) none)
 
 pub entered_next : (it : Item) (n : ℕ) (base old new : Claims) → it.section.start ≤ n
-    → ((parent array index : ℕ) → claimed old parent array index ≡ cond (is_upto it n parent array index) (Some it.section) (claimed base parent array index))
+    → ((parent array index : ℕ) → claimed_section old parent array index ≡ cond (is_upto it n parent array index) (Some it.section) (claimed_section base parent array index))
     → Updates key_cmp old.sections new.sections (it.parent, it.section.array, n) (Some it.section)
-    → (parent array index : ℕ) → claimed new parent array index ≡ cond (is_upto it (n + 1) parent array index) (Some it.section) (claimed base parent array index)
+    → (parent array index : ℕ) → claimed_section new parent array index ≡ cond (is_upto it (n + 1) parent array index) (Some it.section) (claimed_section base parent array index)
 entered_next it n base old new from before updates parent array index =
     let p = it.parent == parent in
     let a = it.section.array == array in
     let l = nat_le it.section.start index && nat_lt index n in
     let x = Some it.section in
-    let y = claimed base parent array index in
+    let y = claimed_section base parent array index in
     updates.0 (parent, array, index)
-    ∙ ap (λ b. cond b x (claimed old parent array index)) (key_is (it.parent, it.section.array, n) (parent, array, index))
+    ∙ ap (λ b. cond b x (claimed_section old parent array index)) (key_is (it.parent, it.section.array, n) (parent, array, index))
     ∙ ap (λ z. cond ((p && a) && (n == index)) x z) (before parent array index)
     ∙ pick p a (n == index) l x y
     ∙ ap (λ b. cond (p && (a && b)) x y) (sym (upto_next it.section.start index n from))
@@ -166,36 +166,36 @@ are_whole items n claims are parent array index s claim k covers =
     let found = are.sound parent array index s claim in
     let it = found.1 in
     let all = are.complete found.0 it found.2 found.3 found.8 k (subst (λ (t : Section). Covers t k) (sym found.6) covers) in
-    ap (λ p. claimed claims p array k) (sym found.4) ∙ ap (λ a. claimed claims it.parent a k) (sym found.5) ∙ all ∙ ap Some found.6
+    ap (λ p. claimed_section claims p array k) (sym found.4) ∙ ap (λ a. claimed_section claims it.parent a k) (sym found.5) ∙ all ∙ ap Some found.6
 
-pub whole_here : (it : Item) (claims : Claims) → AreWhole claims → claimed claims it.parent it.section.array it.section.start ≡ Some it.section
-    → (parent array index : ℕ) → claimed claims parent array index ≡ cond (is_here it parent array index) (Some it.section) (claimed claims parent array index)
+pub whole_here : (it : Item) (claims : Claims) → AreWhole claims → claimed_section claims it.parent it.section.array it.section.start ≡ Some it.section
+    → (parent array index : ℕ) → claimed_section claims parent array index ≡ cond (is_here it parent array index) (Some it.section) (claimed_section claims parent array index)
 whole_here it claims whole first parent array index =
     elim (true_or_false (is_here it parent array index)) [
       | inl here ↦
           let is = here_is it parent array index here in
-          ap (λ p. claimed claims p array index) (sym is.0) ∙ ap (λ a. claimed claims it.parent a index) (sym is.1)
+          ap (λ p. claimed_section claims p array index) (sym is.0) ∙ ap (λ a. claimed_section claims it.parent a index) (sym is.1)
           ∙ whole it.parent it.section.array it.section.start it.section first index is.2
-          ∙ sym (ap (λ b. cond b (Some it.section) (claimed claims parent array index)) here)
-      | inr away ↦ sym (ap (λ b. cond b (Some it.section) (claimed claims parent array index)) away)
+          ∙ sym (ap (λ b. cond b (Some it.section) (claimed_section claims parent array index)) here)
+      | inr away ↦ sym (ap (λ b. cond b (Some it.section) (claimed_section claims parent array index)) away)
     ]
 
-pub whole_free : (it : Item) (claims : Claims) → AreWhole claims → claimed claims it.parent it.section.array it.section.start ≡ Some it.section → Clashes claims it → ⊥
+pub whole_free : (it : Item) (claims : Claims) → AreWhole claims → claimed_section claims it.parent it.section.array it.section.start ≡ Some it.section → Clashes claims it → ⊥
 whole_free it claims whole first clash =
     clash.2.2 (some_same clash.2.0 it.section (sym clash.2.1 ∙ whole it.parent it.section.array it.section.start it.section first clash.0 clash.1))
 
 abbrev Entered : Claims → Item → Claims → Type 0
-Entered old it new = (parent array index : ℕ) → claimed new parent array index ≡ cond (is_taken it parent array index) (Some it.section) (claimed old parent array index)
+Entered old it new = (parent array index : ℕ) → claimed_section new parent array index ≡ cond (is_taken it parent array index) (Some it.section) (claimed_section old parent array index)
 
 at_here : (old new : Claims) (it : Item) (parent array index : ℕ) → Entered old it new → is_taken it parent array index ≡ true
-    → claimed new parent array index ≡ Some it.section
+    → claimed_section new parent array index ≡ Some it.section
 at_here old new it parent array index entered here =
-    entered parent array index ∙ ap (λ b. cond b (Some it.section) (claimed old parent array index)) here
+    entered parent array index ∙ ap (λ b. cond b (Some it.section) (claimed_section old parent array index)) here
 
 at_other : (old new : Claims) (it : Item) (parent array index : ℕ) → Entered old it new → is_taken it parent array index ≡ false
-    → claimed new parent array index ≡ claimed old parent array index
+    → claimed_section new parent array index ≡ claimed_section old parent array index
 at_other old new it parent array index entered away =
-    entered parent array index ∙ ap (λ b. cond b (Some it.section) (claimed old parent array index)) away
+    entered parent array index ∙ ap (λ b. cond b (Some it.section) (claimed_section old parent array index)) away
 
 module _ (items : List Item) (n : ℕ) (it : Item) (old : Claims) (there : slice_get items n ≡ Some it) (are : AreClaims items n old) where
   pub overlaps : Clashes old it → IsFirstIn items (Some it.entry)
@@ -228,7 +228,7 @@ module _ (items : List Item) (n : ℕ) (it : Item) (old : Claims) (there : slice
       )
 
   module _ (new : Claims) (free : Clashes old it → ⊥) (entered : Entered old it new) where
-    kept_sound : (parent array index : ℕ) (s : Section) → claimed new parent array index ≡ Some s
+    kept_sound : (parent array index : ℕ) (s : Section) → claimed_section new parent array index ≡ Some s
         → (i : ℕ) × (jt : Item) × (i < n + 1) × (slice_get items i ≡ Some jt) × (jt.parent ≡ parent) × (jt.section.array ≡ array) × (jt.section ≡ s) × Covers s index × (jt.writes ≡ true)
     kept_sound parent array index s claim =
         elim (true_or_false (is_taken it parent array index)) [
@@ -242,7 +242,7 @@ module _ (items : List Item) (n : ℕ) (it : Item) (old : Claims) (there : slice
         ]
 
     earlier_kept : (i : ℕ) (jt : Item) → i < n → slice_get items i ≡ Some jt → jt.writes ≡ true → (index : ℕ) → Covers jt.section index
-        → claimed new jt.parent jt.section.array index ≡ Some jt.section
+        → claimed_section new jt.parent jt.section.array index ≡ Some jt.section
     earlier_kept i jt less at_i writes index covers =
         let claim = are.complete i jt less at_i writes index covers in
         elim (true_or_false (is_taken it jt.parent jt.section.array index)) [
@@ -251,20 +251,20 @@ module _ (items : List Item) (n : ℕ) (it : Item) (old : Claims) (there : slice
               elim (sections_equal jt.section it.section) [
                 | inl same ↦ at_here old new it jt.parent jt.section.array index entered here ∙ ap Some (sym same)
                 | inr apart ↦
-                    let moved : claimed old it.parent it.section.array index ≡ Some jt.section =
-                    ap (λ p. claimed old p it.section.array index) is.0 ∙ ap (λ a. claimed old jt.parent a index) is.1 ∙ claim in
+                    let moved : claimed_section old it.parent it.section.array index ≡ Some jt.section =
+                    ap (λ p. claimed_section old p it.section.array index) is.0 ∙ ap (λ a. claimed_section old jt.parent a index) is.1 ∙ claim in
                     absurd (free (index, is.2, (jt.section, moved, apart)))
               ]
           | inr away ↦ at_other old new it jt.parent jt.section.array index entered away ∙ claim
         ]
 
     kept_complete : (i : ℕ) (jt : Item) → i < n + 1 → slice_get items i ≡ Some jt → jt.writes ≡ true → (index : ℕ) → Covers jt.section index
-        → claimed new jt.parent jt.section.array index ≡ Some jt.section
+        → claimed_section new jt.parent jt.section.array index ≡ Some jt.section
     kept_complete i jt less at_i writes index covers =
         elim (cases_eq i n) [
           | inl last ↦
               let same : jt ≡ it = some_same jt it (sym at_i ∙ ap (λ k. slice_get items k) last ∙ there) in
-              subst (λ (x : Item). x.writes ≡ true → Covers x.section index → claimed new x.parent x.section.array index ≡ Some x.section) (sym same)
+              subst (λ (x : Item). x.writes ≡ true → Covers x.section index → claimed_section new x.parent x.section.array index ≡ Some x.section) (sym same)
               (λ ws cs. at_here old new it it.parent it.section.array index entered (both_of it.writes _ ws (is_there it it.parent it.section.array index refl refl cs))) writes covers
           | inr before ↦ earlier_kept i jt (omega (arith, less, before)) at_i writes index covers
         ]
@@ -275,9 +275,9 @@ module _ (items : List Item) (n : ℕ) (it : Item) (old : Claims) (there : slice
           | inl last ↦
               let same : o.other ≡ it = some_same o.other it (sym o.later ∙ ap (λ k. slice_get items k) last ∙ there) in
               let claim = are.complete i o.one (omega (arith, o.order, last)) o.earlier o.writes o.index o.here in
-              let moved : claimed old it.parent it.section.array o.index ≡ Some o.one.section =
-              ap (λ (x : Item). claimed old x.parent x.section.array o.index) (sym same)
-              ∙ ap (λ p. claimed old p o.other.section.array o.index) (sym o.siblings) ∙ ap (λ a. claimed old o.one.parent a o.index) (sym o.array) ∙ claim in
+              let moved : claimed_section old it.parent it.section.array o.index ≡ Some o.one.section =
+              ap (λ (x : Item). claimed_section old x.parent x.section.array o.index) (sym same)
+              ∙ ap (λ p. claimed_section old p o.other.section.array o.index) (sym o.siblings) ∙ ap (λ a. claimed_section old o.one.parent a o.index) (sym o.array) ∙ claim in
               free (
                 o.index,
                 subst (λ (x : Item). Covers x.section o.index) same o.there,
@@ -294,7 +294,7 @@ module _ (items : List Item) (n : ℕ) (it : Item) (old : Claims) (there : slice
 none_some : {A : Type 0} (x : A) → None ≡ Some x → ⊥
 none_some x h = cc
 
-pub are_none : (items : List Item) (claims : Claims) → ((parent array index : ℕ) → claimed claims parent array index ≡ None) → AreClaims items 0 claims
+pub are_none : (items : List Item) (claims : Claims) → ((parent array index : ℕ) → claimed_section claims parent array index ≡ None) → AreClaims items 0 claims
 are_none items claims none =
     record {
       sound = λ parent array index s claim. absurd (none_some s (sym (none parent array index) ∙ claim));

@@ -9,10 +9,10 @@ use Rattle.ot_program.specs.Programs.{program_copy}
 use Rattle.ot_c_overlap.specs.declared.item.Item.{Item}
 
 -- a list item that a clause names: whether it writes there, and the section
-abbrev pub Named : Type 0
-Named = Bool × Section
+abbrev pub ListItem : Type 0
+ListItem = Bool × Section
 
-abbrev pub item_of : ℕ → ℕ → Named → Item
+abbrev pub item_of : ℕ → ℕ → ListItem → Item
 item_of parent entry named = record { parent = parent; entry = entry; writes = named.0; section = named.1 }
 
 -- ---- list items: a section is one, and so is each cell that an iterator names (OpenMP API 5.2, sections 3.2.5 and 3.2.6)
@@ -28,11 +28,11 @@ is_iterated (array (item name (item first (item length no_items)))) = is_differe
 is_iterated _ = false
 
 -- so many cells of an array from an index on, one by one
-abbrev pub each_cell : Bool → ℕ → ℕ → ℕ → List Named
+abbrev pub each_cell : Bool → ℕ → ℕ → ℕ → List ListItem
 each_cell writing a index zero = []
 each_cell writing a index (suc n) = (writing, record { array = a; start = index; len = 1 }) ∷ each_cell writing a (index + 1) n
 
-abbrev pub list_items : Bool → Bool → Section → List Named
+abbrev pub list_items : Bool → Bool → Section → List ListItem
 list_items writing true s = each_cell writing s.array s.start s.len
 list_items writing false s = (writing, s) ∷ []
 
@@ -62,21 +62,21 @@ pub record Ground : Type 0 where
 abbrev pub ground : List (List ℕ × ℕ) → Bool → Ground
 ground arrays reds = record { arrays = arrays; reds = reds }
 
-abbrev pub section_by : Ground → Bindings → Bool → Option Data → List Named
+abbrev pub section_by : Ground → Bindings → Bool → Option Data → List ListItem
 section_by ground variables writing None = []
 section_by ground variables writing (Some named) = list_items writing (is_iterated named) (section (over ground.arrays) variables named)
 
-abbrev pub section_as : Ground → Bindings → Data → List Named
+abbrev pub section_as : Ground → Bindings → Data → List ListItem
 section_as ground variables clause = section_by ground variables (writes clause) (depends ground.reds clause)
 
-abbrev pub sections_among : Ground → Bindings → List Data → List Named
+abbrev pub sections_among : Ground → Bindings → List Data → List ListItem
 sections_among ground variables clauses = flat_map (section_as ground variables) clauses
 
-abbrev pub sections_in : Ground → Bindings → Data → List Named
+abbrev pub sections_in : Ground → Bindings → Data → List ListItem
 sections_in ground variables clauses = sections_among ground variables (items clauses)
 
 -- A wait with clauses waits as an empty task that has them (OpenMP API 5.2, section 15.5).
-abbrev pub sections_at : Ground → Bindings → Text → List Named
+abbrev pub sections_at : Ground → Bindings → Text → List ListItem
 sections_at ground variables (TaskText profile clauses body) = sections_in ground variables clauses
 sections_at ground variables (WaitForText clauses) = sections_in ground variables clauses
 sections_at ground variables text = []
@@ -109,11 +109,11 @@ abbrev mutual
   -- a statement, then those in its bodies
   pub met_one : Ground → ℕ → Copy → Met → Met
   met_one ground parent (At p one two) m =
-      met_in ground (task_of parent m.entries p.text) two (met_in ground (task_of parent m.entries p.text) one (met_at ground parent p m))
+      items_met_in ground (task_of parent m.entries p.text) two (items_met_in ground (task_of parent m.entries p.text) one (met_at ground parent p m))
 
-  pub met_in : Ground → ℕ → Copies → Met → Met
-  met_in ground parent Done m = m
-  met_in ground parent (Then c rest) m = met_in ground parent rest (met_one ground parent c m)
+  pub items_met_in : Ground → ℕ → Copies → Met → Met
+  items_met_in ground parent Done m = m
+  items_met_in ground parent (Then c rest) m = items_met_in ground parent rest (met_one ground parent c m)
 
 abbrev pub none_met : Met
 none_met = record { entries = 0; items = [] }

@@ -1,6 +1,6 @@
 //! Which items claim which cells.
 ghost use Rattle.std.specs.Prelude.{◌≡◌, ℕ, OnOk, true, false, if◌then◌else◌, Some, None, ◌≢◌};
-ghost use Rattle.ot_c_overlap.specs.Claims.{claimed, Clashes, DiffersAt, AreWhole, is_here, is_taken};
+ghost use Rattle.ot_c_overlap.specs.Claims.{claimed_section, Clashes, DiffersAt, AreWhole, is_here, is_taken};
 
 use crate::item::Item;
 use ot_model::Section;
@@ -16,7 +16,7 @@ pub(crate) struct Claims {
 impl Claims {
     /// No claim. It takes no memory.
     pub(crate) fn new(alloc: Global) -> Claims
-        ensures { (parent array index : ℕ) → claimed result parent array index ≡ None }
+        ensures { (parent array index : ℕ) → claimed_section result parent array index ≡ None }
     {
         Claims {
             sections: BTreeMap::new(alloc),
@@ -25,7 +25,7 @@ impl Claims {
 
     /// Whether the section of an item claims its first cell, and so each of its cells.
     fn has_claimed(&self, item: &Item) -> bool
-        ensures { result ≡ true → claimed self.now item.now.parent item.now.section.array item.now.section.start ≡ Some item.now.section }
+        ensures { result ≡ true → claimed_section self.now item.now.parent item.now.section.array item.now.section.start ≡ Some item.now.section }
     {
         let start = u64::from(item.section.start);
         match self.sections.get(&(item.parent, item.section.array, start)) {
@@ -67,8 +67,8 @@ impl Claims {
     /// An item that writes claims its cells.
     pub(crate) fn take(&mut self, item: &Item) -> Result<(), AllocError>
         requires { AreWhole self.old }
-        ensures { OnOk result ((parent array index : ℕ) → claimed self.new parent array index
-            ≡ (if is_taken item.now parent array index then Some item.now.section else claimed self.old parent array index)) }
+        ensures { OnOk result ((parent array index : ℕ) → claimed_section self.new parent array index
+            ≡ (if is_taken item.now parent array index then Some item.now.section else claimed_section self.old parent array index)) }
     {
         if item.writes {
             self.claim(item)
@@ -80,8 +80,8 @@ impl Claims {
     /// An item claims its cells, where its section doesn't yet.
     fn claim(&mut self, item: &Item) -> Result<(), AllocError>
         requires { AreWhole self.old }
-        ensures { OnOk result ((parent array index : ℕ) → claimed self.new parent array index
-            ≡ (if is_here item.now parent array index then Some item.now.section else claimed self.old parent array index)) }
+        ensures { OnOk result ((parent array index : ℕ) → claimed_section self.new parent array index
+            ≡ (if is_here item.now parent array index then Some item.now.section else claimed_section self.old parent array index)) }
     {
         if self.has_claimed(item) {
             return Ok(());
@@ -91,8 +91,8 @@ impl Claims {
 
     /// An item claims its cells.
     fn enter(&mut self, item: &Item) -> Result<(), AllocError>
-        ensures { OnOk result ((parent array index : ℕ) → claimed self.new parent array index
-            ≡ (if is_here item.now parent array index then Some item.now.section else claimed self.old parent array index)) }
+        ensures { OnOk result ((parent array index : ℕ) → claimed_section self.new parent array index
+            ≡ (if is_here item.now parent array index then Some item.now.section else claimed_section self.old parent array index)) }
     {
         let start = u64::from(item.section.start);
         let len = u64::from(item.section.len);

@@ -124,7 +124,7 @@ fn is_difference_in(items: &[Value]) -> bool
     }
 }
 
-ghost use Rattle.ot_why_place.specs.Spots.{bindings_of};
+ghost use Rattle.ot_why_place.specs.Spots.{trail_bindings};
 ghost use Rattle.ot_program.specs.Meanings.{section};
 
 /// What a section denotes over these arrays, in these turns.
@@ -133,7 +133,7 @@ pub(crate) fn section_of(
     part: &Value,
     trail: &Trail<'_, '_>,
 ) -> Result<Section, AllocError>
-    ensures { IfOk result (λ denoted. denoted ≡ section (over names.now) (bindings_of trail.now) (view part.now)) }
+    ensures { IfOk result (λ denoted. denoted ≡ section (over names.now) (trail_bindings trail.now) (view part.now)) }
 {
     match part {
         Value::Array(items) => section_in(names, items, trail),
@@ -153,7 +153,7 @@ fn section_in(
     items: &[Value],
     trail: &Trail<'_, '_>,
 ) -> Result<Section, AllocError>
-    ensures { IfOk result (λ denoted. denoted ≡ section (over names.now) (bindings_of trail.now) (array (items_view items.now))) }
+    ensures { IfOk result (λ denoted. denoted ≡ section (over names.now) (trail_bindings trail.now) (array (items_view items.now))) }
 {
     if items.len() != 3 {
         return Ok(NOWHERE);

@@ -5,8 +5,8 @@ ghost use Rattle.ot_program.specs.Copies.{copies, copies_of, copy, turns as each
 ghost use Rattle.ot_program.specs.Programs.{program_copy};
 ghost use Rattle.ot_program.specs.declared.profile.Profile.{Profile as Defined};
 ghost use Rattle.ot_why_place.specs.Texts.{text_by, first_copies, second_copies};
-ghost use Rattle.ot_why_place.specs.Spots.{bindings_of};
-ghost use Rattle.ot_c_overlap.specs.Items.{met_at, met_one, met_in, task_of, region_of, item_of, sections_at, sections_in, sections_among, section_as};
+ghost use Rattle.ot_why_place.specs.Spots.{trail_bindings};
+ghost use Rattle.ot_c_overlap.specs.Items.{met_at, met_one, items_met_in, task_of, region_of, item_of, sections_at, sections_in, sections_among, section_as};
 ghost use Rattle.ot_c_overlap.specs.View.{met_by, ground_by};
 
 use crate::clause::{depends, is_iterated, section_of, writes};
@@ -66,7 +66,7 @@ impl Walk<'_, '_> {
         met: &mut Met,
     ) -> Result<(), AllocError>
         ensures { (level : ℕ) → OnOk result (met_by met.new
-            ≡ met_in (ground_by self.now) parent (copies self.now.profile level (view body.now) (bindings_of trail.now)) (met_by met.old)) }
+            ≡ items_met_in (ground_by self.now) parent (copies self.now.profile level (view body.now) (trail_bindings trail.now)) (met_by met.old)) }
     {
         match body {
             Value::Array(items) => self.items(items, &*trail, parent, met),
@@ -83,7 +83,7 @@ impl Walk<'_, '_> {
         met: &mut Met,
     ) -> Result<(), AllocError>
         ensures { (level : ℕ) → OnOk result (met_by met.new
-            ≡ met_in (ground_by self.now) parent (copies_of self.now.profile level (items_view items.now) (bindings_of trail.now)) (met_by met.old)) }
+            ≡ items_met_in (ground_by self.now) parent (copies_of self.now.profile level (items_view items.now) (trail_bindings trail.now)) (met_by met.old)) }
     {
         for item in items {
             self.statement(item, &*trail, parent, met)?;
@@ -101,7 +101,7 @@ impl Walk<'_, '_> {
         met: &mut Met,
     ) -> Result<(), AllocError>
         ensures { (level : ℕ) → OnOk result (met_by met.new
-            ≡ met_one (ground_by self.now) parent (copy self.now.profile level (view statement.now) (bindings_of trail.now)) (met_by met.old)) }
+            ≡ met_one (ground_by self.now) parent (copy self.now.profile level (view statement.now) (trail_bindings trail.now)) (met_by met.old)) }
     {
         let text = text_of(self.profile, statement);
         let task = task_of(parent, met.entries, &text);
@@ -119,8 +119,8 @@ impl Walk<'_, '_> {
         met: &mut Met,
     ) -> Result<(), AllocError>
         ensures { (level : ℕ) → OnOk result (met_by met.new
-            ≡ met_in (ground_by self.now) task (second_copies self.now.profile level (bindings_of trail.now) (text_by self.now.profile text.entry))
-            (met_in (ground_by self.now) task (first_copies self.now.profile level (bindings_of trail.now) (text_by self.now.profile text.entry)) (met_by met.old))) }
+            ≡ items_met_in (ground_by self.now) task (second_copies self.now.profile level (trail_bindings trail.now) (text_by self.now.profile text.entry))
+            (items_met_in (ground_by self.now) task (first_copies self.now.profile level (trail_bindings trail.now) (text_by self.now.profile text.entry)) (met_by met.old))) }
     {
         match text {
             Text::If(_, one, two) => {
@@ -152,8 +152,8 @@ impl Walk<'_, '_> {
         met: &mut Met,
     ) -> Result<(), AllocError>
         ensures { (level : ℕ) → OnOk result (met_by met.new
-            ≡ met_in (ground_by self.now) parent (each_turn level (bindings_of trail.now)
-            (λ n. copies self.now.profile (level + 1) (view body.now) ((turns.entry.variable.now, n) ∷ bindings_of trail.now))
+            ≡ items_met_in (ground_by self.now) parent (each_turn level (trail_bindings trail.now)
+            (λ n. copies self.now.profile (level + 1) (view body.now) ((turns.entry.variable.now, n) ∷ trail_bindings trail.now))
             turns.entry.first (turns.entry.behind - turns.entry.first)) (met_by met.old)) }
     {
         for number in turns.first..turns.behind {
@@ -176,8 +176,8 @@ impl Walk<'_, '_> {
         met: &mut Met,
     ) -> Result<(), AllocError>
         ensures { (level : ℕ) → OnOk result (met_by met.new
-            ≡ met_one (ground_by self.now) parent (at level (bindings_of trail.now) OneTurn
-            (copies self.now.profile (level + 1) (view body.now) ((turn.entry.name.now, turn.entry.number) ∷ bindings_of trail.now)) Done) (met_by met.old)) }
+            ≡ met_one (ground_by self.now) parent (at level (trail_bindings trail.now) OneTurn
+            (copies self.now.profile (level + 1) (view body.now) ((turn.entry.name.now, turn.entry.number) ∷ trail_bindings trail.now)) Done) (met_by met.old)) }
     {
         self.enter(&Text::Turn, trail, parent, met)?;
         let inner = Trail::Turn(turn, &*trail);
@@ -193,7 +193,7 @@ impl Walk<'_, '_> {
         met: &mut Met,
     ) -> Result<(), AllocError>
         ensures { (defined : Defined) (level : ℕ) → OnOk result (met_by met.new
-            ≡ met_at (ground_by self.now) parent (record { level = level; variables = bindings_of trail.now; text = text_by defined text.now }) (met_by met.old)) }
+            ≡ met_at (ground_by self.now) parent (record { level = level; variables = trail_bindings trail.now; text = text_by defined text.now }) (met_by met.old)) }
     {
         let entry = met.entries;
         let Some(next) = entry.checked_add(1) else {
@@ -235,7 +235,7 @@ impl Walk<'_, '_> {
         noted: &mut Vec<Item>,
     ) -> Result<(), AllocError>
         ensures { (defined : Defined) → OnOk result (noted.new.items
-            ≡ noted.old.items ++ map (item_of parent entry) (sections_at (ground_by self.now) (bindings_of trail.now) (text_by defined text.now))) }
+            ≡ noted.old.items ++ map (item_of parent entry) (sections_at (ground_by self.now) (trail_bindings trail.now) (text_by defined text.now))) }
     {
         match text {
             Text::Task(clauses, _) => self.note_clauses(clauses, trail, parent, entry, noted),
@@ -253,7 +253,7 @@ impl Walk<'_, '_> {
         noted: &mut Vec<Item>,
     ) -> Result<(), AllocError>
         ensures { OnOk result (noted.new.items
-            ≡ noted.old.items ++ map (item_of parent entry) (sections_in (ground_by self.now) (bindings_of trail.now) (view clauses.now))) }
+            ≡ noted.old.items ++ map (item_of parent entry) (sections_in (ground_by self.now) (trail_bindings trail.now) (view clauses.now))) }
     {
         match clauses {
             Value::Array(items) => self.note_each(items, trail, parent, entry, noted),
@@ -270,7 +270,7 @@ impl Walk<'_, '_> {
         noted: &mut Vec<Item>,
     ) -> Result<(), AllocError>
         ensures { OnOk result (noted.new.items
-            ≡ noted.old.items ++ map (item_of parent entry) (sections_among (ground_by self.now) (bindings_of trail.now) (each (items_view clauses.now)))) }
+            ≡ noted.old.items ++ map (item_of parent entry) (sections_among (ground_by self.now) (trail_bindings trail.now) (each (items_view clauses.now)))) }
     {
         for clause in clauses {
             self.note_clause(clause, trail, parent, entry, noted)?;
@@ -287,7 +287,7 @@ impl Walk<'_, '_> {
         noted: &mut Vec<Item>,
     ) -> Result<(), AllocError>
         ensures { OnOk result (noted.new.items
-            ≡ noted.old.items ++ map (item_of parent entry) (section_as (ground_by self.now) (bindings_of trail.now) (view clause.now))) }
+            ≡ noted.old.items ++ map (item_of parent entry) (section_as (ground_by self.now) (trail_bindings trail.now) (view clause.now))) }
     {
         let Some(named) = depends(clause, self.reds) else {
             return Ok(());

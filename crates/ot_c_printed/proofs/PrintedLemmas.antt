@@ -8,14 +8,14 @@ use Rattle.ot_program.specs.Programs.{program_of}
 use Rattle.ot_c_program.specs.Files.{Program}
 use Rattle.ot_c_text.specs.Reading.{Means}
 use Rattle.ot_model.specs.Tree.{Body}
-use Rattle.ot_c_printed.specs.Apart.{ApartBy, ComparesBy, ComparesWhole, TellsOne, has_group, told_by}
-use Rattle.ot_c_printed.specs.Printed.{Differs, IsPrinted, IsSame, NotBack, ReadsBack, WhyNot, named, over}
+use Rattle.ot_c_printed.specs.Apart.{ApartBy, ComparesBy, ComparesWhole, TellsOne, body_has_group, returned_body}
+use Rattle.ot_c_printed.specs.Printed.{Differs, IsPrinted, IsSame, NotBack, ReadsBack, WhyNot, named_arrays, arrays_shape}
 use Rattle.ot_c_printed.specs.declared.fault.NoC.{NoC}
 use Rattle.ot_c_printed.specs.declared.fault.NoC.TheVariants as no
 
 -- what is told of a body, whether its region becomes a group or doesn't
 Tells : Bool → Body → Body → Result (Unit {0}) NoC → Type 0
-Tells group b back (Ok u) = back ≡ told_by group b
+Tells group b back (Ok u) = back ≡ returned_body group b
 Tells group b back (Err fault) = TellsOne (ApartBy group b back) fault
 
 tells : (group : Bool) (b back : Body) (result : Result (Unit {0}) NoC) → ComparesBy group b back result → Tells group b back result
@@ -25,8 +25,8 @@ tells true b back (Err fault) m = m
 tells false b back (Ok u) m = sym m
 tells false b back (Err fault) m = m
 
-read_compared : (arrays : List (Text × ℕ)) (numbers : List (List ℕ)) (p : Expanded) (back : Program) (read : Expanded) (result : Result (Unit {0}) NoC) → back.arrays ≡ named arrays numbers p
-    → program_of (over arrays) back.program ≡ Ok read → Tells (has_group p.body) p.body read.body result
+read_compared : (arrays : List (Text × ℕ)) (numbers : List (List ℕ)) (p : Expanded) (back : Program) (read : Expanded) (result : Result (Unit {0}) NoC) → back.arrays ≡ named_arrays arrays numbers p
+    → program_of (arrays_shape arrays) back.program ≡ Ok read → Tells (body_has_group p.body) p.body read.body result
     → MatchResult result (λ u. IsSame arrays numbers p back) (λ fault. Differs arrays numbers p back fault)
 unfolding Tells
 read_compared arrays numbers p back read (Ok u) same reads m = record { named = same; read = read; reads = reads; body = m }
@@ -37,10 +37,10 @@ read_compared arrays numbers p back read (Err (no.Refused refusal)) same reads m
 read_compared arrays numbers p back read (Err no.OtherArrays) same reads m = absurd m
 
 -- a program that was read, compared
-pub whole_compared : (arrays : List (Text × ℕ)) (numbers : List (List ℕ)) (p : Expanded) (back : Program) (read : Expanded) (result : Result (Unit {0}) NoC) → back.arrays ≡ named arrays numbers p
-    → program_of (over arrays) back.program ≡ Ok read → ComparesWhole p.body read.body result
+pub whole_compared : (arrays : List (Text × ℕ)) (numbers : List (List ℕ)) (p : Expanded) (back : Program) (read : Expanded) (result : Result (Unit {0}) NoC) → back.arrays ≡ named_arrays arrays numbers p
+    → program_of (arrays_shape arrays) back.program ≡ Ok read → ComparesWhole p.body read.body result
     → MatchResult result (λ u. IsSame arrays numbers p back) (λ fault. Differs arrays numbers p back fault)
-whole_compared arrays numbers p back read result same reads m = read_compared arrays numbers p back read result same reads (tells (has_group p.body) p.body read.body result m)
+whole_compared arrays numbers p back read result same reads m = read_compared arrays numbers p back read result same reads (tells (body_has_group p.body) p.body read.body result m)
 
 -- what a text means, compared
 pub meaning_compared : (arrays : List (Text × ℕ)) (numbers : List (List ℕ)) (p : Expanded) (text : Text) (back : Program) (result : Result (Unit {0}) NoC) → Means text (Ok back)

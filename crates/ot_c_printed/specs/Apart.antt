@@ -16,10 +16,10 @@ use Rattle.ot_c_printed.specs.declared.fault.NoC.TheVariants as no
 -- ---- what comes back of a program
 
 -- the operation of a fold that is a function
-unfoldable pub fold_of : Op → Option Operation
-fold_of o.Min = Some Min
-fold_of o.Max = Some Max
-fold_of _ = None
+unfoldable pub function_fold : Op → Option Operation
+function_fold o.Min = Some Min
+function_fold o.Max = Some Max
+function_fold _ = None
 
 -- by which operation a value is folded into a cell, unless the task only folds into its own copy by it
 abbrev pub unless_own : List Use → Cell → E → Option Operation → Option (Operation × E)
@@ -28,9 +28,9 @@ unless_own own c e (Some op) = if only_folds own op c then None else Some (op, e
 
 -- What is folded into a cell that is set to the least or greatest of itself and a value: C has one text for that and for the fold
 -- that does the same, which is read as the fold.
-unfoldable pub fold_in : List Use → Cell → E → Option (Operation × E)
-fold_in own c (Apply op (CellAt d) e) = if same_cell c d then unless_own own c e (fold_of op) else None
-fold_in own c e = None
+unfoldable pub extreme_fold : List Use → Cell → E → Option (Operation × E)
+extreme_fold own c (Apply op (CellAt d) e) = if same_cell c d then unless_own own c e (function_fold op) else None
+extreme_fold own c e = None
 
 abbrev pub set_told : Cell → E → Option (Operation × E) → S
 set_told c e None = Set c e
@@ -39,89 +39,89 @@ set_told c e (Some x) = Fold x.0 c x.1
 -- what comes back of a statement, or of a body, of a task with this declaration
 abbrev mutual
   pub told_statement : List Use → S → S
-  told_statement own (Set c e) = set_told c e (fold_in own c e)
+  told_statement own (Set c e) = set_told c e (extreme_fold own c e)
   told_statement own (Fold op c e) = Fold op c e
-  told_statement own (If e a b) = If e (told own a) (told own b)
-  told_statement own (Task us b) = Task us (told us b)
-  told_statement own (Group op cs b) = normal_group op cs (told own b)
+  told_statement own (If e a b) = If e (told_body own a) (told_body own b)
+  told_statement own (Task us b) = Task us (told_body us b)
+  told_statement own (Group op cs b) = normal_group op cs (told_body own b)
   told_statement own (Wait w) = Wait w
 
-  pub told : List Use → Body → Body
-  told own End = End
-  told own (Next s rest) = if is_nothing s then told own rest else Next (told_statement own s) (told own rest)
+  pub told_body : List Use → Body → Body
+  told_body own End = End
+  told_body own (Next s rest) = if is_nothing s then told_body own rest else Next (told_statement own s) (told_body own rest)
 
 -- whether a group stands in a statement, in a body, outside of the tasks in it
 abbrev mutual
-  pub has_group_one : S → Bool
-  has_group_one (Set c e) = false
-  has_group_one (Fold op c e) = false
-  has_group_one (If e a b) = has_group a || has_group b
-  has_group_one (Task us b) = false
-  has_group_one (Wait w) = false
-  has_group_one (Group op cs b) = true
+  pub statement_has_group : S → Bool
+  statement_has_group (Set c e) = false
+  statement_has_group (Fold op c e) = false
+  statement_has_group (If e a b) = body_has_group a || body_has_group b
+  statement_has_group (Task us b) = false
+  statement_has_group (Wait w) = false
+  statement_has_group (Group op cs b) = true
 
-  pub has_group : Body → Bool
-  has_group End = false
-  has_group (Next s rest) = has_group_one s || has_group rest
+  pub body_has_group : Body → Bool
+  body_has_group End = false
+  body_has_group (Next s rest) = statement_has_group s || body_has_group rest
 
 -- a body in a group over nothing, at whose end all tasks have ended
 abbrev pub in_group : Body → Body
 in_group b = Next (Group Plus [] b) End
 
 -- what comes back of a program's body where its region becomes a group, where it doesn't
-abbrev pub told_by : Bool → Body → Body
-told_by true b = in_group (told [] b)
-told_by false b = told [] b
+abbrev pub returned_body : Bool → Body → Body
+returned_body true b = in_group (told_body [] b)
+returned_body false b = told_body [] b
 
 -- What comes back of a program's body. Nothing follows its region, which becomes a group only where a group stands in it.
 abbrev pub told_whole : Body → Body
-told_whole b = told_by (has_group b) b
+told_whole b = returned_body (body_has_group b) b
 
 -- ---- where that differs
 
 -- a statement but for its bodies
-abbrev pub head : S → S
-head (If e a b) = If e End End
-head (Task us b) = Task us End
-head (Group op cs b) = Group op cs End
-head s = s
+abbrev pub without_bodies : S → S
+without_bodies (If e a b) = If e End End
+without_bodies (Task us b) = Task us End
+without_bodies (Group op cs b) = Group op cs End
+without_bodies s = s
 
 -- Statement n is the first of a body, whose first one is number k, in a task with this declaration, that comes back as another one; or n
 -- is the number behind them all, where more came back. For some statements nothing stands in C.
 abbrev mutual
-  pub Apart : List Use → ℕ → Body → Body → ℕ → Type 0
-  Apart own k End End n = ⊥
-  Apart own k End (Next t others) n = n ≡ k
-  Apart own k (Next s rest) End n = ((is_nothing s ≡ true) × Apart own (k + 1) rest End n) ⊎ ((is_nothing s ≡ false) × (n ≡ k))
-  Apart own k (Next s rest) (Next t others) n =
-      ((is_nothing s ≡ true) × Apart own (k + 1) rest (Next t others) n)
+  pub BodiesApart : List Use → ℕ → Body → Body → ℕ → Type 0
+  BodiesApart own k End End n = ⊥
+  BodiesApart own k End (Next t others) n = n ≡ k
+  BodiesApart own k (Next s rest) End n = ((is_nothing s ≡ true) × BodiesApart own (k + 1) rest End n) ⊎ ((is_nothing s ≡ false) × (n ≡ k))
+  BodiesApart own k (Next s rest) (Next t others) n =
+      ((is_nothing s ≡ true) × BodiesApart own (k + 1) rest (Next t others) n)
       ⊎ ((is_nothing s ≡ false)
-      × ((((head (told_statement own s) ≢ head t) × (n ≡ k)) ⊎ ((head (told_statement own s) ≡ head t) × ApartWithin own (k + 1) s t n))
-      ⊎ ((told_statement own s ≡ t) × Apart own (k + size_one s) rest others n)))
+      × ((((without_bodies (told_statement own s) ≢ without_bodies t) × (n ≡ k)) ⊎ ((without_bodies (told_statement own s) ≡ without_bodies t) × ApartWithin own (k + 1) s t n))
+      ⊎ ((told_statement own s ≡ t) × BodiesApart own (k + size_one s) rest others n)))
 
   -- it is one in the bodies of a statement
   pub ApartWithin : List Use → ℕ → S → S → ℕ → Type 0
-  ApartWithin own k (If e a b) (If f x y) n = Apart own k a x n ⊎ ((told own a ≡ x) × Apart own (k + size a) b y n)
-  ApartWithin own k (Task us a) (Task vs x) n = Apart us k a x n
-  ApartWithin own k (Group op cs a) (Group o ds x) n = Apart own k a x n
+  ApartWithin own k (If e a b) (If f x y) n = BodiesApart own k a x n ⊎ ((told_body own a ≡ x) × BodiesApart own (k + size a) b y n)
+  ApartWithin own k (Task us a) (Task vs x) n = BodiesApart us k a x n
+  ApartWithin own k (Group op cs a) (Group o ds x) n = BodiesApart own k a x n
   ApartWithin own k s t n = ⊥
 
 -- it is statement k itself, or one in its bodies
 abbrev pub ApartAt : List Use → ℕ → S → S → ℕ → Type 0
-ApartAt own k s t n = ((head (told_statement own s) ≢ head t) × (n ≡ k)) ⊎ ((head (told_statement own s) ≡ head t) × ApartWithin own (k + 1) s t n)
+ApartAt own k s t n = ((without_bodies (told_statement own s) ≢ without_bodies t) × (n ≡ k)) ⊎ ((without_bodies (told_statement own s) ≡ without_bodies t) × ApartWithin own (k + 1) s t n)
 
 -- The same of whole bodies, of which the second is to be in a group; number 0 says that it isn't in one.
 abbrev pub ApartInGroup : Body → Body → ℕ → Type 0
-ApartInGroup b back n = ((n ≡ 0) × ((inside : Body) → back ≢ in_group inside)) ⊎ ((inside : Body) × (back ≡ in_group inside) × Apart [] 1 b inside n)
+ApartInGroup b back n = ((n ≡ 0) × ((inside : Body) → back ≢ in_group inside)) ⊎ ((inside : Body) × (back ≡ in_group inside) × BodiesApart [] 1 b inside n)
 
 -- the same where the region becomes a group, where it doesn't
 abbrev pub ApartBy : Bool → Body → Body → ℕ → Type 0
 ApartBy true b back n = ApartInGroup b back n
-ApartBy false b back n = Apart [] 1 b back n
+ApartBy false b back n = BodiesApart [] 1 b back n
 
 -- the same of a program's body
 abbrev pub ApartWhole : Body → Body → ℕ → Type 0
-ApartWhole b back n = ApartBy (has_group b) b back n
+ApartWhole b back n = ApartBy (body_has_group b) b back n
 
 -- ---- what is told of it
 
@@ -133,24 +133,24 @@ TellsOne these fault = ⊥
 
 -- where all comes back, the number behind it
 abbrev pub Compares : List Use → ℕ → Body → Body → Result ℕ NoC → Type 0
-Compares own k b back (Ok next) = (next ≡ k + size b) × (told own b ≡ back)
-Compares own k b back (Err fault) = TellsOne (Apart own k b back) fault
+Compares own k b back (Ok next) = (next ≡ k + size b) × (told_body own b ≡ back)
+Compares own k b back (Err fault) = TellsOne (BodiesApart own k b back) fault
 
 abbrev pub ComparesOne : List Use → ℕ → S → S → Result ℕ NoC → Type 0
 ComparesOne own k s t (Ok next) = (next ≡ k + size_one s) × (told_statement own s ≡ t)
 ComparesOne own k s t (Err fault) = TellsOne (ApartAt own k s t) fault
 
 abbrev pub ComparesGroup : Body → Body → Result (Unit {0}) NoC → Type 0
-ComparesGroup b back (Ok u) = back ≡ in_group (told [] b)
+ComparesGroup b back (Ok u) = back ≡ in_group (told_body [] b)
 ComparesGroup b back (Err fault) = TellsOne (ApartInGroup b back) fault
 
 abbrev pub ComparesFirst : Body → Body → Result (Unit {0}) NoC → Type 0
-ComparesFirst b back (Ok u) = told [] b ≡ back
-ComparesFirst b back (Err fault) = TellsOne (Apart [] 1 b back) fault
+ComparesFirst b back (Ok u) = told_body [] b ≡ back
+ComparesFirst b back (Err fault) = TellsOne (BodiesApart [] 1 b back) fault
 
 abbrev pub ComparesBy : Bool → Body → Body → Result (Unit {0}) NoC → Type 0
 ComparesBy true b back result = ComparesGroup b back result
 ComparesBy false b back result = ComparesFirst b back result
 
 abbrev pub ComparesWhole : Body → Body → Result (Unit {0}) NoC → Type 0
-ComparesWhole b back result = ComparesBy (has_group b) b back result
+ComparesWhole b back result = ComparesBy (body_has_group b) b back result

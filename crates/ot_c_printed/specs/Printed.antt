@@ -14,23 +14,23 @@ use Rattle.ot_c_printed.specs.declared.fault.NoC.TheVariants as no
 -- ---- what a program is to come back as
 
 -- an array with what it begins with
-abbrev pub begun : Declared → Arr
-begun d = record { name = d.name; cells = d.numbers }
+abbrev pub starting_array : Declared → Arr
+starting_array d = record { name = d.name; cells = d.numbers }
 
 -- the arrays that a program names, with their numbers
-abbrev pub named : List (Text × ℕ) → List (List ℕ) → Expanded → List Arr
-named arrays numbers p = map begun (declared_from p 0 arrays numbers)
+abbrev pub named_arrays : List (Text × ℕ) → List (List ℕ) → Expanded → List Arr
+named_arrays arrays numbers p = map starting_array (declared_from p 0 arrays numbers)
 
 -- a program over these arrays; of tasks it may have as many as it may have statements
-abbrev pub over : List (Text × ℕ) → Arrays
-over arrays = record { arrays = arrays; tasks = 20000 }
+abbrev pub arrays_shape : List (Text × ℕ) → Arrays
+arrays_shape arrays = record { arrays = arrays; tasks = 20000 }
 
 -- What a text means is this program, over arrays that begin with these numbers: its arrays are those that the program names, and its
 -- body is the program's as far as C tells it (`told`), in the region's group where the region becomes one.
 pub record IsSame (arrays : List (Text × ℕ)) (numbers : List (List ℕ)) (p : Expanded) (back : Program) : Type 0 where
-  pub named : back.arrays ≡ named arrays numbers p
+  pub named : back.arrays ≡ named_arrays arrays numbers p
   pub read : Expanded
-  pub reads : program_of (over arrays) back.program ≡ Ok read
+  pub reads : program_of (arrays_shape arrays) back.program ≡ Ok read
   pub body : read.body ≡ told_whole p.body
 
 pub record ReadsBack (arrays : List (Text × ℕ)) (numbers : List (List ℕ)) (p : Expanded) (text : Text) : Type 0 where
@@ -46,9 +46,9 @@ IsPrinted arrays numbers p text = IsProgram arrays numbers p text × ReadsBack a
 
 -- why what a text means isn't this program
 abbrev pub Differs : List (Text × ℕ) → List (List ℕ) → Expanded → Program → NoC → Type 0
-Differs arrays numbers p back no.OtherArrays = back.arrays ≢ named arrays numbers p
-Differs arrays numbers p back (no.Refused refusal) = program_of (over arrays) back.program ≡ Err refusal
-Differs arrays numbers p back (no.OtherProgram n) = (read : Expanded) × (program_of (over arrays) back.program ≡ Ok read) × ApartWhole p.body read.body n
+Differs arrays numbers p back no.OtherArrays = back.arrays ≢ named_arrays arrays numbers p
+Differs arrays numbers p back (no.Refused refusal) = program_of (arrays_shape arrays) back.program ≡ Err refusal
+Differs arrays numbers p back (no.OtherProgram n) = (read : Expanded) × (program_of (arrays_shape arrays) back.program ≡ Ok read) × ApartWhole p.body read.body n
 Differs arrays numbers p back (no.NotReadBack byte reason) = ⊥
 Differs arrays numbers p back no.Memory = Unit {0}
 

@@ -29,7 +29,7 @@ pub(crate) fn compare_whole(alloc: Global, body: &[Stmt], back: &[Stmt]) -> Resu
 /// Whether a group stands in a body outside of its tasks.
 #[cycle(groups)]
 fn has_group(stmts: &[Stmt]) -> bool
-    ensures { result ≡ meant.has_group (stmts_of stmts.now) }
+    ensures { result ≡ meant.body_has_group (stmts_of stmts.now) }
 {
     for stmt in stmts {
         if has_group_one(stmt) {
@@ -42,7 +42,7 @@ fn has_group(stmts: &[Stmt]) -> bool
 /// Whether one stands in a statement.
 #[cycle(groups)]
 fn has_group_one(stmt: &Stmt) -> bool
-    ensures { result ≡ meant.has_group_one (stmt_of stmt.now) }
+    ensures { result ≡ meant.statement_has_group (stmt_of stmt.now) }
 {
     match stmt {
         Stmt::If(_, one, two) => has_group(one) || has_group(two),
@@ -258,9 +258,9 @@ fn is_cell(cell: Cell, other: Cell) -> bool
 }
 
 /// The operation of a fold that is a function.
-#[tactic(auto, unfolding(crate::specs::Apart::fold_of))]
+#[tactic(auto, unfolding(crate::specs::Apart::function_fold))]
 fn fold_of(op: Op) -> Option<Fold>
-    ensures { result ≡ meant.fold_of op }
+    ensures { result ≡ meant.function_fold op }
 {
     match op {
         Op::Min => Some(Fold::Min),
@@ -288,9 +288,9 @@ fn unless_own<'a>(
 
 /// What is folded into a cell that is set to the least or greatest of itself and a value. C has one text for that and for the
 /// fold that does the same, which is read as the fold.
-#[tactic(auto, unfolding(crate::specs::Apart::fold_in))]
+#[tactic(auto, unfolding(crate::specs::Apart::extreme_fold))]
 fn fold_in<'a>(own: &Decl, cell: Cell, expr: &'a Expr) -> Option<(Fold, &'a Expr)>
-    ensures { option_map (λ x. (x.0, expr_of x.1.now)) result ≡ meant.fold_in own.now cell (expr_of expr.now) }
+    ensures { option_map (λ x. (x.0, expr_of x.1.now)) result ≡ meant.extreme_fold own.now cell (expr_of expr.now) }
 {
     match expr {
         Expr::Op(op, one, two) => match &**one {

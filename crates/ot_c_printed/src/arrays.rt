@@ -1,10 +1,10 @@
 //! The arrays that come back.
 ghost use Rattle.std.specs.Prelude.{◌≡◌, ◌<◌, ◌^◌, ◌↔◌, IfOk, IsTrue, length, map, replicate};
 ghost use Rattle.ot_model.specs.Programs.{arrays_of, expanded_of};
-ghost use Rattle.ot_show_c.specs.Programs.{declared, lists_of};
+ghost use Rattle.ot_show_c.specs.Programs.{c_declared, lists_of};
 ghost use Rattle.ot_show_c.specs.Programs as written;
-ghost use Rattle.ot_c_arrays.specs.Arrays.{array_of, with_zeros};
-ghost use Rattle.ot_c_printed.specs.Printed.{begun, named, over};
+ghost use Rattle.ot_c_arrays.specs.Arrays.{c_array, with_zeros};
+ghost use Rattle.ot_c_printed.specs.Printed.{starting_array, named_arrays, arrays_shape};
 
 use ot_c_program::CArray;
 use ot_model::{ArrayShape, Program, Shape};
@@ -18,7 +18,7 @@ pub(crate) fn same_arrays(
     before: &[Vec<u64>],
     back: &[CArray],
 ) -> bool
-    ensures { IsTrue result ↔ map array_of back.now ≡ named (arrays_of arrays.now) (lists_of before.now) (expanded_of program.now) }
+    ensures { IsTrue result ↔ map c_array back.now ≡ named_arrays (arrays_of arrays.now) (lists_of before.now) (expanded_of program.now) }
 {
     let mut rest = back;
     for number in 0..arrays.len().min(before.len()) {
@@ -42,7 +42,7 @@ pub(crate) fn same_arrays(
 
 /// Whether an array that came back has this name, and begins with these numbers.
 fn is_array(back: &CArray, array: &ArrayShape, numbers: &[u64]) -> bool
-    ensures { IsTrue result ↔ array_of back.now ≡ begun (declared (written.array_of array.now) numbers.now) }
+    ensures { IsTrue result ↔ c_array back.now ≡ starting_array (c_declared (written.array_of array.now) numbers.now) }
 {
     back.name.as_str() == array.name.as_str() && are_cells(&back.cells, back.zeros, numbers)
 }
@@ -78,7 +78,7 @@ const MAX_TASKS: u32 = 20_000;
 
 /// What a program over these arrays may name: fewer than 2^32 arrays.
 pub(crate) fn shape_of(alloc: Global, arrays: &[ArrayShape]) -> Result<Shape, AllocError>
-    ensures { IfOk result (λ shape. shape ≡ over (arrays_of arrays.now)) }
+    ensures { IfOk result (λ shape. shape ≡ arrays_shape (arrays_of arrays.now)) }
 {
     if arrays.len() > u32::MAX as usize {
         return Err(AllocError);

@@ -5,11 +5,11 @@ use Rattle.ot_c_files.specs.declared.program.Step.{Step}
 use Rattle.ot_c_files.specs.Program.{Act, step_of, main_of}
 use Rattle.ot_c_scope.specs.declared.fault.CFault.{CFault}
 use Rattle.ot_c_scope.specs.declared.fault.CFault.TheVariants as errors
-use Rattle.ot_c_scope.specs.Results.{Refusal, Fails}
+use Rattle.ot_c_scope.specs.Results.{Refusal, FailsAs}
 use Rattle.ot_c_arrays.proofs.EachLemmas.{front}
 use Rattle.ot_c_program.specs.Statements.{Origin}
-use Rattle.ot_c_program.specs.Regions.{Names}
-use Rattle.ot_c_program.specs.Files.{P, main_step, main_from}
+use Rattle.ot_c_program.specs.Regions.{SourceNames}
+use Rattle.ot_c_program.specs.Files.{P, main_act, main_from}
 
 -- a slice up to the end
 behind_all : (ss : List Step) (i : ℕ) → take (length ss - (i + 1)) (drop (i + 1) ss) ≡ drop (i + 1) ss
@@ -18,12 +18,12 @@ behind_all ss i = take_all (length ss - (i + 1)) (drop (i + 1) ss) (omega (arith
 viewed : (ss : List Step) (i : ℕ) (x : Step) → i < length ss → x ≡ get_or ss i x → main_of (drop i ss) ≡ step_of x ∷ main_of (drop (i + 1) ss)
 viewed ss i x h is = ap main_of (front ss i x h is)
 
-module _ (names : Names) (o : Origin) where
-  one_more : (p q : P) (a : Act) (acts : List Act) → main_step names o p a acts ≡ Ok q → main_from names o p (a ∷ acts) ≡ main_from names o q acts
+module _ (names : SourceNames) (o : Origin) where
+  one_more : (p q : P) (a : Act) (acts : List Act) → main_act names o p a acts ≡ Ok q → main_from names o p (a ∷ acts) ≡ main_from names o q acts
   unfolding main_from
   one_more p q a acts is = rw is refl
 
-  one_fails : (p : P) (a : Act) (acts : List Act) (e : Refusal) → main_step names o p a acts ≡ Err e → main_from names o p (a ∷ acts) ≡ Err e
+  one_fails : (p : P) (a : Act) (acts : List Act) (e : Refusal) → main_act names o p a acts ≡ Err e → main_from names o p (a ∷ acts) ≡ Err e
   unfolding main_from
   one_fails p a acts e is = rw is refl
 
@@ -32,16 +32,16 @@ module _ (names : Names) (o : Origin) where
   none_left p = refl
 
   pub main_more : (ss : List Step) (i : ℕ) (x : Step) (p q : P) (whole : Result P Refusal) → i < length ss → x ≡ get_or ss i x → main_from names o p (main_of (drop i ss)) ≡ whole
-      → main_step names o p (step_of x) (main_of (take (length ss - (i + 1)) (drop (i + 1) ss))) ≡ Ok q → main_from names o q (main_of (drop (i + 1) ss)) ≡ whole
+      → main_act names o p (step_of x) (main_of (take (length ss - (i + 1)) (drop (i + 1) ss))) ≡ Ok q → main_from names o q (main_of (drop (i + 1) ss)) ≡ whole
   main_more ss i x p q whole h at is done =
-      let next : main_step names o p (step_of x) (main_of (drop (i + 1) ss)) ≡ Ok q = subst (λ rest. main_step names o p (step_of x) (main_of rest) ≡ Ok q) (behind_all ss i) done in
+      let next : main_act names o p (step_of x) (main_of (drop (i + 1) ss)) ≡ Ok q = subst (λ rest. main_act names o p (step_of x) (main_of rest) ≡ Ok q) (behind_all ss i) done in
       sym (one_more p q (step_of x) (main_of (drop (i + 1) ss)) next) ∙ sym (ap (main_from names o p) (viewed ss i x h at)) ∙ is
 
   pub main_fails : (ss : List Step) (i : ℕ) (x : Step) (p : P) (whole : Result P Refusal) (e : CFault) → i < length ss → x ≡ get_or ss i x → main_from names o p (main_of (drop i ss)) ≡ whole
-      → Fails e (main_step names o p (step_of x) (main_of (take (length ss - (i + 1)) (drop (i + 1) ss)))) → Fails e whole
+      → FailsAs e (main_act names o p (step_of x) (main_of (take (length ss - (i + 1)) (drop (i + 1) ss)))) → FailsAs e whole
   main_fails ss i x p whole errors.Memory h at is fails = tt
   main_fails ss i x p whole (errors.Outside left why) h at is fails =
-      let next : main_step names o p (step_of x) (main_of (drop (i + 1) ss)) ≡ Err (left, why) = subst (λ rest. main_step names o p (step_of x) (main_of rest) ≡ Err (left, why)) (behind_all ss i) fails in
+      let next : main_act names o p (step_of x) (main_of (drop (i + 1) ss)) ≡ Err (left, why) = subst (λ rest. main_act names o p (step_of x) (main_of rest) ≡ Err (left, why)) (behind_all ss i) fails in
       sym is ∙ ap (main_from names o p) (viewed ss i x h at) ∙ one_fails p (step_of x) (main_of (drop (i + 1) ss)) (left, why) next
 
   pub main_last : (ss : List Step) (i : ℕ) (p : P) (whole : Result P Refusal) → length ss ≤ i → main_from names o p (main_of (drop i ss)) ≡ whole → whole ≡ Ok p

@@ -25,8 +25,8 @@ abbrev pub none : L
 none = record { texts = []; places = []; taking = [] }
 
 -- a statement that begins there, and has those that begin at these places in its bodies
-abbrev pub one : ℕ → Data → List ℕ → L
-one at d within = record { texts = d ∷ []; places = at ∷ within; taking = [] }
+abbrev pub one_statement : ℕ → Data → List ℕ → L
+one_statement at d within = record { texts = d ∷ []; places = at ∷ within; taking = [] }
 
 -- the same, of which tasks take part in reductions so
 abbrev pub one_with : ℕ → Data → List ℕ → List Took → L
@@ -40,7 +40,7 @@ abbrev pub first_place : L → ℕ
 first_place l = unwrap_or (slice_get l.places 0) 0
 
 -- the second behind the first, unless there are too many
-abbrev pub joined : L → L → Lowered
-joined a b =
+abbrev pub both_lines : L → L → Lowered
+both_lines a b =
     if nat_lt 20000 (length a.places + length b.places) then Err (first_place b, why.TooMany)
     else Ok (record { texts = a.texts ++ b.texts; places = a.places ++ b.places; taking = a.taking ++ b.taking })

@@ -18,11 +18,11 @@ use Rattle.ot_c_scope.specs.Results.{◌>>=◌}
 use Rattle.ot_c_clauses.specs.Clauses.{heading}
 use Rattle.ot_c_arrays.specs.Arrays.{outside}
 use Rattle.ot_c_program.specs.Lines.{L, Lowered}
-use Rattle.ot_c_program.specs.Statements.{Origin, name_at, group}
+use Rattle.ot_c_program.specs.Statements.{Origin, directive_name_at, group}
 use Rattle.ot_c_program.specs.Turns.{written_body}
 
-abbrev pub Names : Type 0
-Names = List (String Global)
+abbrev pub SourceNames : Type 0
+SourceNames = List (String Global)
 
 -- ---- `default(none)`: only what clauses list is named (OpenMP API 5.2, section 5.4.1)
 
@@ -38,22 +38,22 @@ abbrev pub are_strict : List Claim → Bool
 are_strict cs = list_any (λ c. is_strict c.role) cs
 
 -- arrays and variables mean nothing
-unfoldable pub hidden : Meaning → Meaning
-hidden (m.Cells k length) = m.Nothing
-hidden other = other
+unfoldable pub meaning_hidden : Meaning → Meaning
+meaning_hidden (m.Cells k length) = m.Nothing
+meaning_hidden other = other
 
 abbrev pub put_again : List Meaning → ℕ → Option Meaning → List Meaning
 put_again hs i None = hs
 put_again hs i (Some meaning) = if nat_lt i (length hs) then slice_set hs i meaning else hs
 
 -- but one that is listed means what it does
-abbrev pub shown : List Meaning → List Meaning → Name → List Meaning
-shown ms hs (n.Known k) = hs
-shown ms hs (n.Other i) = put_again hs i (slice_get ms i)
+abbrev pub meanings_shown : List Meaning → List Meaning → Name → List Meaning
+meanings_shown ms hs (n.Known k) = hs
+meanings_shown ms hs (n.Other i) = put_again hs i (slice_get ms i)
 
 abbrev pub shown_items : List Meaning → List Meaning → List Entry → List Meaning
 shown_items ms hs [] = hs
-shown_items ms hs (i ∷ is) = shown_items ms (shown ms hs i.array) is
+shown_items ms hs (i ∷ is) = shown_items ms (meanings_shown ms hs i.array) is
 
 abbrev pub shown_clause : List Meaning → List Meaning → Claim → List Meaning
 shown_clause ms hs c = if is_shared c.role then shown_items ms hs c.items else hs
@@ -63,29 +63,29 @@ shown_clauses ms hs [] = hs
 shown_clauses ms hs (c ∷ cs) = shown_clauses ms (shown_clause ms hs c) cs
 
 -- what names mean of which these clauses list some
-abbrev pub listed : List Meaning → List Claim → List Meaning
-listed ms cs = shown_clauses ms (map hidden ms) cs
+abbrev pub meanings_listed : List Meaning → List Claim → List Meaning
+meanings_listed ms cs = shown_clauses ms (map meaning_hidden ms) cs
 
-unfoldable pub unlisted : Reason → Reason
-unlisted why.Unknown = why.Unlisted
-unlisted other = other
+unfoldable pub reason_unlisted : Reason → Reason
+reason_unlisted why.Unknown = why.Unlisted
+reason_unlisted other = other
 
 abbrev pub strictly : Lowered → Lowered
 strictly (Ok l) = Ok l
-strictly (Err e) = Err (e.0, unlisted e.1)
+strictly (Err e) = Err (e.0, reason_unlisted e.1)
 
 -- ---- regions
 
 -- what one thread does in a region, where names mean this
-abbrev pub within : Names → Origin → List Meaning → Body → Lowered
+abbrev pub within : SourceNames → Origin → List Meaning → Body → Lowered
 within names o meanings b = written_body o (outside names meanings true) b
 
-abbrev pub within_by : Names → Origin → List Meaning → List Claim → Body → Lowered
-within_by names o meanings cs b = if are_strict cs then strictly (within names o (listed meanings cs) b) else within names o meanings b
+abbrev pub within_by : SourceNames → Origin → List Meaning → List Claim → Body → Lowered
+within_by names o meanings cs b = if are_strict cs then strictly (within names o (meanings_listed meanings cs) b) else within names o meanings b
 
-abbrev pub region : Names → Origin → List Meaning → ℕ → List Claim → Body → Lowered
+abbrev pub region : SourceNames → Origin → List Meaning → ℕ → List Claim → Body → Lowered
 region names o meanings at cs b =
-    heading (name_at at) (outside names meanings true) cs >>= λ h.
+    heading (directive_name_at at) (outside names meanings true) cs >>= λ h.
     within_by names o meanings cs b
 
 -- ---- the end of a region
@@ -112,5 +112,5 @@ abbrev mutual
 
 -- What becomes of a region that this stands in, which is the last of the program or isn't. A group of the program's own body stands
 -- for a region, whose tasks are no siblings of others: so a region in which a taskgroup may stand is a group even if it is the last.
-abbrev pub ended : ℕ → Bool → Body → L → L
-ended at last b x = if last && not (has_group b) then x else group at op.Plus [] x
+abbrev pub region_ended : ℕ → Bool → Body → L → L
+region_ended at last b x = if last && not (has_group b) then x else group at op.Plus [] x

@@ -3,7 +3,7 @@ ghost use Rattle.std.specs.Prelude.{◌≡◌, option_map};
 ghost use Rattle.serde_json.specs.View.{view};
 ghost use Rattle.ot_c_expressions.specs.Tree.{expr_of};
 ghost use Rattle.ot_c_statements.specs.Tree.{aim_of, index_of};
-ghost use Rattle.ot_c_scope.specs.Results.{Gives};
+ghost use Rattle.ot_c_scope.specs.Results.{GivesAs};
 ghost use Rattle.ot_c_program.specs.Assignments.{place_of};
 ghost use Rattle.ot_c_program.specs.Assignments as meant;
 
@@ -26,7 +26,7 @@ fn cell_of(
     length: Option<usize>,
     index: &Option<Expr>,
 ) -> Result<Value, CFault>
-    ensures { Gives (λ v. view v) result (meant.cell_of scope.now left array length (index_of index.now)) }
+    ensures { GivesAs (λ v. view v) result (meant.own_cell scope.now left array length (index_of index.now)) }
 {
     let name = scope.named(alloc, array)?;
     match (length, index) {
@@ -58,7 +58,7 @@ fn pointed_cell(
     cell: Pointee,
     index: &Option<Expr>,
 ) -> Result<Value, CFault>
-    ensures { Gives (λ v. view v) result (meant.pointed_cell scope.now left cell (index_of index.now)) }
+    ensures { GivesAs (λ v. view v) result (meant.pointed_cell scope.now left cell (index_of index.now)) }
 {
     if !is_start(index) {
         return Err(CFault::Outside(left, Reason::Pointee));
@@ -78,7 +78,7 @@ pub(crate) struct Placed {
 }
 
 pub(crate) fn aimed(left: usize, sense: Sense) -> Result<Placed, CFault>
-    ensures { Gives place_of result (meant.aimed left sense) }
+    ensures { GivesAs place_of result (meant.aimed_place left sense) }
 {
     match sense {
         Sense::Cells(kind, length) => {
@@ -107,7 +107,7 @@ pub(crate) fn aimed(left: usize, sense: Sense) -> Result<Placed, CFault>
 
 /// No open group combines by a pointer over an array's cell that is assigned to.
 fn free(scope: &Scope<'_>, left: usize, array: Name, index: &Option<Expr>) -> Result<(), CFault>
-    ensures { Gives (λ x. x) result (meant.free scope.now left array (index_of index.now)) }
+    ensures { GivesAs (λ x. x) result (meant.free scope.now left array (index_of index.now)) }
 {
     match index {
         Some(index) => untouched(scope, left, array, index),
@@ -132,7 +132,7 @@ pub(crate) fn cell_aimed(
     target: &Target,
     placed: Placed,
 ) -> Result<Value, CFault>
-    ensures { Gives (λ v. view v) result (meant.cell_aimed scope.now (aim_of target.now) (place_of placed)) }
+    ensures { GivesAs (λ v. view v) result (meant.cell_aimed scope.now (aim_of target.now) (place_of placed)) }
 {
     let left = target.left;
     match placed.pointee {
@@ -150,7 +150,7 @@ pub(crate) fn cell_aimed(
 
 /// The cell folded into by a value.
 fn fold(alloc: Global, operation: Operation, cell: Value, value: Value) -> Result<Value, CFault>
-    ensures { Gives (λ v. view v) result (Ok (meant.fold operation (view cell) (view value))) }
+    ensures { GivesAs (λ v. view v) result (Ok (meant.fold operation (view cell) (view value))) }
 {
     let word = json::text(alloc, operation_word(operation))?;
     Ok(json::form3(alloc, "fold", word, cell, value)?)
@@ -158,7 +158,7 @@ fn fold(alloc: Global, operation: Operation, cell: Value, value: Value) -> Resul
 
 /// A value, or where it is taken away the same below zero.
 fn taken(alloc: Global, minus: bool, value: Value) -> Result<Value, CFault>
-    ensures { Gives (λ v. view v) result (Ok (meant.taken minus (view value))) }
+    ensures { GivesAs (λ v. view v) result (Ok (meant.taken_away minus (view value))) }
 {
     if minus {
         Ok(json::form2(alloc, "-", Value::from(0u64), value)?)
@@ -188,7 +188,7 @@ pub(crate) fn change(
     folds: (Option<Operation>, bool),
     expr: &Expr,
 ) -> Result<Value, CFault>
-    ensures { Gives (λ v. view v) result (meant.change scope.now left own kind (view cell) folds (expr_of expr.now)) }
+    ensures { GivesAs (λ v. view v) result (meant.changed_cell scope.now left own kind (view cell) folds (expr_of expr.now)) }
 {
     let (Some(operation), minus) = folds else {
         return Err(CFault::Outside(left, Reason::OwnCopy));
@@ -246,7 +246,7 @@ fn own_set(
     target: &Target,
     expr: &Expr,
 ) -> Result<Value, CFault>
-    ensures { Gives (λ v. view v) result (meant.own_set scope.now left own kind (view cell) (aim_of target.now) (expr_of expr.now)) }
+    ensures { GivesAs (λ v. view v) result (meant.own_set scope.now left own kind (view cell) (aim_of target.now) (expr_of expr.now)) }
 {
     let own = Some(own);
     match expr {
@@ -303,7 +303,7 @@ fn set(
     target: &Target,
     expr: &Expr,
 ) -> Result<Value, CFault>
-    ensures { Gives (λ v. view v) result (meant.set scope.now kind (view cell) (aim_of target.now) (expr_of expr.now)) }
+    ensures { GivesAs (λ v. view v) result (meant.set_cell_form scope.now kind (view cell) (aim_of target.now) (expr_of expr.now)) }
 {
     match called_fold(kind, target, expr) {
         Some((operation, more)) => {
@@ -325,7 +325,7 @@ pub(crate) fn assignment(
     sign: Option<Sign>,
     expr: &Expr,
 ) -> Result<Value, CFault>
-    ensures { Gives (λ v. view v) result (meant.assignment scope.now (aim_of target.now) sign (expr_of expr.now)) }
+    ensures { GivesAs (λ v. view v) result (meant.assignment scope.now (aim_of target.now) sign (expr_of expr.now)) }
 {
     let left = target.left;
     let placed = aimed(left, scope.sense(target.array))?;

@@ -4,7 +4,7 @@ ghost use Rattle.std.specs.Prelude.{◌≡◌, option_map};
 ghost use Rattle.serde_json.specs.View.{view};
 ghost use Rattle.ot_c_expressions.specs.Tree.{expr_of};
 ghost use Rattle.ot_c_statements.specs.Tree.{aim_of, stmt_of, list_of, body_of};
-ghost use Rattle.ot_c_scope.specs.Results.{Gives};
+ghost use Rattle.ot_c_scope.specs.Results.{GivesAs};
 ghost use Rattle.ot_c_program.specs.Extremes.{kept_of};
 ghost use Rattle.ot_c_program.specs.Extremes as meant;
 
@@ -127,7 +127,7 @@ pub(crate) fn folded(
     scope: &Scope<'_>,
     extreme: &Extreme<'_>,
 ) -> Result<Value, CFault>
-    ensures { Gives (λ v. view v) result (meant.folded scope.now (kept_of extreme.now)) }
+    ensures { GivesAs (λ v. view v) result (meant.extreme_folded scope.now (kept_of extreme.now)) }
 {
     let target = extreme.target;
     let left = target.left;

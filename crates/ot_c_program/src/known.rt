@@ -3,7 +3,7 @@ ghost use Rattle.std.specs.Prelude.{◌≡◌};
 ghost use Rattle.serde_json.specs.Data.{array};
 ghost use Rattle.serde_json.specs.View.{view, items_view};
 ghost use Rattle.ot_model.specs.Tree.{applied};
-ghost use Rattle.ot_why_place.specs.Spots.{bindings_of};
+ghost use Rattle.ot_why_place.specs.Spots.{trail_bindings};
 ghost use Rattle.ot_c_program.specs.Turns as meant;
 
 use ot_model::Op;
@@ -14,7 +14,7 @@ use serde_json::Value;
 #[cycle(known)]
 #[tactic(auto, using(crate::proofs::KnownLemmas::numbers))]
 pub(crate) fn known(value: &Value, numbers: &Trail<'_, '_>) -> Option<u64>
-    ensures { result ≡ meant.known (bindings_of numbers.now) (view value.now) }
+    ensures { result ≡ meant.number_at_turn (trail_bindings numbers.now) (view value.now) }
 {
     match value {
         Value::Number(number) => number.as_u64(),
@@ -27,7 +27,7 @@ pub(crate) fn known(value: &Value, numbers: &Trail<'_, '_>) -> Option<u64>
 #[cycle(known)]
 #[tactic(auto, using(crate::proofs::KnownLemmas::numbers))]
 fn known_of_items(items: &[Value], numbers: &Trail<'_, '_>) -> Option<u64>
-    ensures { result ≡ meant.known (bindings_of numbers.now) (array (items_view items.now)) }
+    ensures { result ≡ meant.number_at_turn (trail_bindings numbers.now) (array (items_view items.now)) }
 {
     if items.len() != 3 {
         return None;
@@ -40,7 +40,7 @@ fn known_of_items(items: &[Value], numbers: &Trail<'_, '_>) -> Option<u64>
 
 /// The operation of values that a word names.
 fn op_of(sign: &Value) -> Option<Op>
-    ensures { result ≡ meant.op_of (view sign.now) }
+    ensures { result ≡ meant.word_operation (view sign.now) }
 {
     match sign {
         Value::String(text) => Op::of_word(text.as_str()),
@@ -50,7 +50,7 @@ fn op_of(sign: &Value) -> Option<Op>
 
 /// The result of an operation on two numbers, where all are known.
 fn computed(op: Option<Op>, one: Option<u64>, two: Option<u64>) -> Option<u64>
-    ensures { result ≡ meant.computed op one two }
+    ensures { result ≡ meant.operation_number op one two }
 {
     Some(applied(op?, one?, two?))
 }

@@ -1,7 +1,7 @@
 //! Statements of the language, and where they stand in the text.
 ghost use Rattle.std.specs.Prelude.{◌≡◌, IfOk, map};
 ghost use Rattle.serde_json.specs.View.{view};
-ghost use Rattle.ot_c_scope.specs.Results.{Gives};
+ghost use Rattle.ot_c_scope.specs.Results.{GivesAs};
 ghost use Rattle.ot_c_program.specs.Lines.{lines_of};
 ghost use Rattle.ot_c_program.specs.Lines as meant;
 
@@ -38,7 +38,7 @@ pub(crate) fn one_line(
     statement: Value,
     within: Vec<usize>,
 ) -> Result<Lines, AllocError>
-    ensures { IfOk result (λ l. lines_of l ≡ meant.one left (view statement) within.items) }
+    ensures { IfOk result (λ l. lines_of l ≡ meant.one_statement left (view statement) within.items) }
 {
     one_line_with(alloc, left, statement, within, Vec::new(alloc))
 }
@@ -81,7 +81,7 @@ pub(crate) fn first_place(lines: &Lines) -> usize
 
 /// The second behind the first, unless there are too many.
 pub(crate) fn joined(one: Lines, two: Lines) -> Result<Lines, CFault>
-    ensures { Gives lines_of result (meant.joined (lines_of one) (lines_of two)) }
+    ensures { GivesAs lines_of result (meant.both_lines (lines_of one) (lines_of two)) }
 {
     if one.places.len() + two.places.len() > MAX_STATEMENTS {
         return Err(CFault::Outside(first_place(&two), Reason::TooMany));

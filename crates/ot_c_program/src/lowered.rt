@@ -4,9 +4,9 @@ ghost use Rattle.serde_json.specs.View.{view, items_view};
 ghost use Rattle.ot_c_expressions.specs.Tree.{expr_of};
 ghost use Rattle.ot_c_statements.specs.Tree.{list_of, body_of, stmt_of};
 ghost use Rattle.ot_c_files.specs.Program.{top_of, tops_of, step_of, main_of, file_of};
-ghost use Rattle.ot_c_scope.specs.Results.{Gives};
+ghost use Rattle.ot_c_scope.specs.Results.{GivesAs};
 ghost use Rattle.ot_c_scope.specs.Constants as constants;
-ghost use Rattle.ot_c_arrays.specs.Arrays.{declared_of, array_of, outside};
+ghost use Rattle.ot_c_arrays.specs.Arrays.{declared_view, c_array, outside};
 ghost use Rattle.ot_c_arrays.specs.Places as sites;
 ghost use Rattle.ot_c_program.specs.Lines.{lines_of};
 ghost use Rattle.ot_c_program.specs.Statements.{became_of, called_of, source_of};
@@ -91,7 +91,7 @@ fn define(
     name: usize,
     expr: &Expr,
 ) -> Result<Declared, CFault>
-    ensures { Gives declared_of result (meant.define words.now.names.keys left (declared_of declared) name (expr_of expr.now)) }
+    ensures { GivesAs declared_view result (meant.define words.now.names.keys left (declared_view declared) name (expr_of expr.now)) }
 {
     let Some((number, kind)) = fixed(alloc, words, &declared.meanings, expr) else {
         return Err(CFault::Outside(left_of(expr), Reason::NoConstant));
@@ -107,7 +107,7 @@ fn function_body(
     inside: bool,
     stmts: &[Stmt],
 ) -> Result<Became, CFault>
-    ensures { Gives (λ b. became_of b) result (Ok (meant.function_body words.now.names.keys (length words.now.starts.items) (before_of before.now) inside (body_of (list_of stmts.now)))) }
+    ensures { GivesAs (λ b. became_of b) result (Ok (meant.function_body words.now.names.keys (length words.now.starts.items) (before_of before.now) inside (body_of (list_of stmts.now)))) }
 {
     let source = Source {
         words: words.starts.len(),
@@ -124,7 +124,7 @@ fn function_body(
 
 /// How many statements a function has.
 fn count_of(became: &Became) -> usize
-    ensures counts { result ≡ meant.length_of (became_of became.now) }
+    ensures counts { result ≡ meant.lines_length (became_of became.now) }
     ensures bounded { result < 2 ^ 63 }
 {
     match became {
@@ -135,7 +135,7 @@ fn count_of(became: &Became) -> usize
 
 /// How many statements functions have with one more, both in regions and outside of them.
 fn counted(left: usize, count: usize, called: &Called) -> Result<usize, CFault>
-    ensures { Gives (λ n. n) result (meant.counted left count (called_of called.now)) }
+    ensures { GivesAs (λ n. n) result (meant.statement_count left count (called_of called.now)) }
 {
     let more = count_of(&called.inside) + count_of(&called.outside);
     if count > MAX_TOGETHER || more > MAX_TOGETHER || count + more > MAX_TOGETHER {
@@ -147,7 +147,7 @@ fn counted(left: usize, count: usize, called: &Called) -> Result<usize, CFault>
 
 /// A function, behind others.
 fn with_function(left: usize, before: Before, name: usize, called: Called) -> Result<Before, CFault>
-    ensures { Gives before_of result (meant.with_function left (before_of before) name (called_of called)) }
+    ensures { GivesAs before_of result (meant.with_function left (before_of before) name (called_of called)) }
 {
     let count = counted(left, before.count, &called)?;
     let meaning = Meaning::Function(before.functions.len());
@@ -171,7 +171,7 @@ fn function(
     name: Name,
     stmts: &[Stmt],
 ) -> Result<Before, CFault>
-    ensures { Gives before_of result (meant.function words.now.names.keys (length words.now.starts.items) left (before_of before) name (body_of (list_of stmts.now))) }
+    ensures { GivesAs before_of result (meant.function words.now.names.keys (length words.now.starts.items) left (before_of before) name (body_of (list_of stmts.now))) }
 {
     let number = number_of(left, name)?;
     let before = Before {
@@ -187,7 +187,7 @@ fn function(
 
 /// What stands before `main`, behind others.
 fn top_step(alloc: Global, words: &Words, before: Before, top: &Top) -> Result<Before, CFault>
-    ensures { Gives before_of result (meant.top_step words.now.names.keys (length words.now.starts.items) (before_of before) (top_of top.now)) }
+    ensures { GivesAs before_of result (meant.top_step words.now.names.keys (length words.now.starts.items) (before_of before) (top_of top.now)) }
 {
     match top {
         Top::Constant(left, name, expr) => {
@@ -213,7 +213,7 @@ fn top_step(alloc: Global, words: &Words, before: Before, top: &Top) -> Result<B
 }
 
 fn tops(alloc: Global, words: &Words, loops: Loops, tops: &[Top]) -> Result<Before, CFault>
-    ensures { Gives before_of result (meant.tops loops words.now.names.keys (length words.now.starts.items) (tops_of tops.now)) }
+    ensures { GivesAs before_of result (meant.tops loops words.now.names.keys (length words.now.starts.items) (tops_of tops.now)) }
 {
     let mut before = Before {
         declared: Declared {
@@ -238,7 +238,7 @@ fn alone(
     meanings: &[Meaning],
     stmt: &Stmt,
 ) -> Result<Lines, CFault>
-    ensures { Gives lines_of result (meant.alone words.now.names.keys (source_of source.now) meanings.now (stmt_of stmt.now)) }
+    ensures { GivesAs lines_of result (meant.outside_regions words.now.names.keys (source_of source.now) meanings.now (stmt_of stmt.now)) }
 {
     let scope = Scope::new(alloc, &words.names, meanings, false);
     written(alloc, source, &scope, stmt)
@@ -246,7 +246,7 @@ fn alone(
 
 /// Statements behind others.
 fn behind(declared: Declared, lines: Lines, more: Lines) -> Result<Progress, CFault>
-    ensures { Gives progress_of result (meant.put (declared_of declared) (lines_of lines) (lines_of more)) }
+    ensures { GivesAs progress_of result (meant.put_lines (declared_view declared) (lines_of lines) (lines_of more)) }
 {
     Ok(Progress {
         declared,
@@ -297,7 +297,7 @@ fn main_step(
     step: &Step,
     rest: &[Step],
 ) -> Result<Progress, CFault>
-    ensures { Gives progress_of result (meant.main_step words.now.names.keys (source_of source.now) (progress_of progress) (step_of step.now) (main_of rest.now)) }
+    ensures { GivesAs progress_of result (meant.main_act words.now.names.keys (source_of source.now) (progress_of progress) (step_of step.now) (main_of rest.now)) }
 {
     match step {
         Step::Declares(given) => {
@@ -335,7 +335,7 @@ fn main_body(
     declared: Declared,
     steps: &[Step],
 ) -> Result<Progress, CFault>
-    ensures { Gives progress_of result (meant.main_body words.now.names.keys (source_of source.now) (declared_of declared) (main_of steps.now)) }
+    ensures { GivesAs progress_of result (meant.main_body words.now.names.keys (source_of source.now) (declared_view declared) (main_of steps.now)) }
 {
     let mut progress = Progress {
         declared,
@@ -350,7 +350,7 @@ fn main_body(
 
 /// An array is shown whole.
 fn shown(alloc: Global, array: &CArray) -> Result<Value, CFault>
-    ensures { Gives (λ v. view v) result (Ok (meant.shown (array_of array.now))) }
+    ensures { GivesAs (λ v. view v) result (Ok (meant.array_shown (c_array array.now))) }
 {
     let name = json::text(alloc, array.name.as_str())?;
     let count = Value::from(cell_count(array));
@@ -358,7 +358,7 @@ fn shown(alloc: Global, array: &CArray) -> Result<Value, CFault>
 }
 
 fn shows(alloc: Global, arrays: &[CArray]) -> Result<Vec<Value>, CFault>
-    ensures { Gives (λ v. items_view v.items) result (meant.shows (map array_of arrays.now)) }
+    ensures { GivesAs (λ v. items_view v.items) result (meant.shows (map c_array arrays.now)) }
 {
     let mut shows = Vec::new(alloc);
     for array in arrays {
@@ -424,7 +424,7 @@ fn bytes_of(alloc: Global, starts: &[usize], places: &[usize]) -> Result<Vec<usi
 
 /// The program of a file that these words say.
 pub fn lower(alloc: Global, words: &Words, file: &File) -> Result<Lowered, CFault>
-    ensures { Gives lowered_of result (meant.lowered words.now.names.keys words.now.starts.items (file_of file.now)) }
+    ensures { GivesAs lowered_of result (meant.file_lowered words.now.names.keys words.now.starts.items (file_of file.now)) }
 {
     lower_with(alloc, words, Loops::AsTheyStand, file)
 }
@@ -432,14 +432,14 @@ pub fn lower(alloc: Global, words: &Words, file: &File) -> Result<Lowered, CFaul
 /// The same, with its loops written out turn by turn where an `if` stands in them. In each turn an `if` whose condition names no cell
 /// has only the body that it takes.
 pub fn lower_by_turns(alloc: Global, words: &Words, file: &File) -> Result<Lowered, CFault>
-    ensures { Gives lowered_of result (meant.lowered_by_turns words.now.names.keys words.now.starts.items (file_of file.now)) }
+    ensures { GivesAs lowered_of result (meant.lowered_by_turns words.now.names.keys words.now.starts.items (file_of file.now)) }
 {
     lower_with(alloc, words, Loops::ByTurns, file)
 }
 
 /// The program of a file whose loops are written so.
 fn lower_with(alloc: Global, words: &Words, loops: Loops, file: &File) -> Result<Lowered, CFault>
-    ensures { Gives lowered_of result (meant.lowered_with loops words.now.names.keys words.now.starts.items (file_of file.now)) }
+    ensures { GivesAs lowered_of result (meant.lowered_with loops words.now.names.keys words.now.starts.items (file_of file.now)) }
 {
     let Before {
         declared,

@@ -3,7 +3,7 @@ ghost use Rattle.std.specs.Prelude.{◌≡◌, IfOk, Ok, map};
 ghost use Rattle.std.specs.List.{list_any};
 ghost use Rattle.ot_c_expressions.specs.Tree.{items_of, clause_of, clauses_of};
 ghost use Rattle.ot_c_statements.specs.Tree.{stmt_of, list_of, body_of};
-ghost use Rattle.ot_c_scope.specs.Results.{Gives};
+ghost use Rattle.ot_c_scope.specs.Results.{GivesAs};
 ghost use Rattle.ot_c_program.specs.Lines.{lines_of};
 ghost use Rattle.ot_c_program.specs.Statements.{source_of};
 ghost use Rattle.ot_c_program.specs.Regions as meant;
@@ -45,9 +45,9 @@ fn are_strict(clauses: &[Clause]) -> bool
 }
 
 /// Arrays and variables mean nothing.
-#[tactic(auto, unfolding(crate::specs::Regions::hidden))]
+#[tactic(auto, unfolding(crate::specs::Regions::meaning_hidden))]
 fn hidden(meaning: Meaning) -> Meaning
-    ensures { result ≡ meant.hidden meaning }
+    ensures { result ≡ meant.meaning_hidden meaning }
 {
     match meaning {
         Meaning::Cells(_, _) => Meaning::Nothing,
@@ -56,7 +56,7 @@ fn hidden(meaning: Meaning) -> Meaning
 }
 
 fn all_hidden(alloc: Global, meanings: &[Meaning]) -> Result<Vec<Meaning>, AllocError>
-    ensures { IfOk result (λ v. v.items ≡ map meant.hidden meanings.now) }
+    ensures { IfOk result (λ v. v.items ≡ map meant.meaning_hidden meanings.now) }
 {
     let mut all = Vec::new(alloc);
     for meaning in meanings {
@@ -67,7 +67,7 @@ fn all_hidden(alloc: Global, meanings: &[Meaning]) -> Result<Vec<Meaning>, Alloc
 
 /// What is listed means what it does.
 fn shown(meanings: &[Meaning], mut seen: Vec<Meaning>, name: Name) -> Vec<Meaning>
-    ensures { result.items ≡ meant.shown meanings.now seen.items name }
+    ensures { result.items ≡ meant.meanings_shown meanings.now seen.items name }
 {
     let Name::Other(number) = name else {
         return seen;
@@ -106,7 +106,7 @@ fn listed(
     meanings: &[Meaning],
     clauses: &[Clause],
 ) -> Result<Vec<Meaning>, AllocError>
-    ensures { IfOk result (λ v. v.items ≡ meant.listed meanings.now (clauses_of clauses.now)) }
+    ensures { IfOk result (λ v. v.items ≡ meant.meanings_listed meanings.now (clauses_of clauses.now)) }
 {
     let mut seen = all_hidden(alloc, meanings)?;
     for clause in clauses {
@@ -116,9 +116,9 @@ fn listed(
 }
 
 /// What is unknown in such a region isn't listed.
-#[tactic(auto, unfolding(crate::specs::Regions::unlisted))]
+#[tactic(auto, unfolding(crate::specs::Regions::reason_unlisted))]
 fn unlisted(reason: Reason) -> Reason
-    ensures { result ≡ meant.unlisted reason }
+    ensures { result ≡ meant.reason_unlisted reason }
 {
     match reason {
         Reason::Unknown => Reason::Unlisted,
@@ -134,7 +134,7 @@ fn within(
     meanings: &[Meaning],
     stmts: &[Stmt],
 ) -> Result<Lines, CFault>
-    ensures { Gives lines_of result (meant.within words.now.names.keys (source_of source.now) meanings.now (body_of (list_of stmts.now))) }
+    ensures { GivesAs lines_of result (meant.within words.now.names.keys (source_of source.now) meanings.now (body_of (list_of stmts.now))) }
 {
     let scope = Scope::new(alloc, &words.names, meanings, true);
     written_body(alloc, source, &scope, stmts)
@@ -148,7 +148,7 @@ fn strictly(
     meanings: &[Meaning],
     stmts: &[Stmt],
 ) -> Result<Lines, CFault>
-    ensures { Gives lines_of result (meant.strictly (meant.within words.now.names.keys (source_of source.now) meanings.now (body_of (list_of stmts.now)))) }
+    ensures { GivesAs lines_of result (meant.strictly (meant.within words.now.names.keys (source_of source.now) meanings.now (body_of (list_of stmts.now)))) }
 {
     match within(alloc, words, source, meanings, stmts) {
         Ok(lines) => Ok(lines),
@@ -165,7 +165,7 @@ fn within_by(
     clauses: &[Clause],
     stmts: &[Stmt],
 ) -> Result<Lines, CFault>
-    ensures { Gives lines_of result (meant.within_by words.now.names.keys (source_of source.now) meanings.now (clauses_of clauses.now) (body_of (list_of stmts.now))) }
+    ensures { GivesAs lines_of result (meant.within_by words.now.names.keys (source_of source.now) meanings.now (clauses_of clauses.now) (body_of (list_of stmts.now))) }
 {
     if are_strict(clauses) {
         let listed = listed(alloc, meanings, clauses)?;
@@ -185,7 +185,7 @@ pub(crate) fn region(
     clauses: &[Clause],
     stmts: &[Stmt],
 ) -> Result<Lines, CFault>
-    ensures { Gives lines_of result (meant.region words.now.names.keys (source_of source.now) meanings.now left (clauses_of clauses.now) (body_of (list_of stmts.now))) }
+    ensures { GivesAs lines_of result (meant.region words.now.names.keys (source_of source.now) meanings.now left (clauses_of clauses.now) (body_of (list_of stmts.now))) }
 {
     let scope = Scope::new(alloc, &words.names, meanings, true);
     let _heading = headed(alloc, name_at(left), scope, clauses)?;
@@ -229,7 +229,7 @@ pub(crate) fn ended(
     stmts: &[Stmt],
     inner: Lines,
 ) -> Result<Lines, CFault>
-    ensures { Gives lines_of result (Ok (meant.ended left last (body_of (list_of stmts.now)) (lines_of inner))) }
+    ensures { GivesAs lines_of result (Ok (meant.region_ended left last (body_of (list_of stmts.now)) (lines_of inner))) }
 {
     if last && !has_group(stmts) {
         Ok(inner)

@@ -3,7 +3,7 @@ ghost use Rattle.std.specs.Prelude.{◌≡◌, ◌++◌, map, IfOk};
 ghost use Rattle.serde_json.specs.View.{view};
 ghost use Rattle.ot_c_expressions.specs.Tree.{expr_of, clauses_of};
 ghost use Rattle.ot_c_statements.specs.Tree.{aim_of, course_of, exprs_of, site_of, stmt_of, list_of, body_of};
-ghost use Rattle.ot_c_scope.specs.Results.{Gives};
+ghost use Rattle.ot_c_scope.specs.Results.{GivesAs};
 ghost use Rattle.ot_c_clauses.specs.Clauses.{head_of};
 ghost use Rattle.ot_c_program.specs.Extremes.{kept_of};
 ghost use Rattle.ot_c_program.specs.Lines.{lines_of};
@@ -57,7 +57,7 @@ pub(crate) struct Source<'a> {
 
 /// A value is read: `["if", value, [], []]`.
 fn read(alloc: Global, scope: &Scope<'_>, left: usize, expr: &Expr) -> Result<Lines, CFault>
-    ensures { Gives lines_of result (meant.read scope.now left (expr_of expr.now)) }
+    ensures { GivesAs lines_of result (meant.value_read scope.now left (expr_of expr.now)) }
 {
     let worth = value(alloc, scope, expr)?;
     let none = json::list(Vec::new(alloc));
@@ -74,7 +74,7 @@ fn read_step(
     lines: Lines,
     expr: &Expr,
 ) -> Result<Lines, CFault>
-    ensures { Gives lines_of result (meant.read_step scope.now left (lines_of lines) (expr_of expr.now)) }
+    ensures { GivesAs lines_of result (meant.read_step scope.now left (lines_of lines) (expr_of expr.now)) }
 {
     let more = read(alloc, scope, left, expr)?;
     joined(lines, more)
@@ -82,7 +82,7 @@ fn read_step(
 
 /// Values that are printed are read.
 fn print(alloc: Global, scope: &Scope<'_>, left: usize, exprs: &[Expr]) -> Result<Lines, CFault>
-    ensures { Gives lines_of result (meant.print scope.now left (exprs_of exprs.now)) }
+    ensures { GivesAs lines_of result (meant.print scope.now left (exprs_of exprs.now)) }
 {
     let mut lines = no_lines(alloc);
     for expr in exprs {
@@ -98,7 +98,7 @@ fn wait<'a>(
     left: usize,
     clauses: &'a [Clause],
 ) -> Result<Lines, CFault>
-    ensures { Gives lines_of result (meant.wait scope.now left (clauses_of clauses.now)) }
+    ensures { GivesAs lines_of result (meant.wait scope.now left (clauses_of clauses.now)) }
 {
     region_at(scope, name_at(left))?;
     waits(alloc, scope, left, clauses)
@@ -111,7 +111,7 @@ fn waits<'a>(
     left: usize,
     clauses: &'a [Clause],
 ) -> Result<Lines, CFault>
-    ensures { Gives lines_of result (meant.waits scope.now left (clauses_of clauses.now)) }
+    ensures { GivesAs lines_of result (meant.waits scope.now left (clauses_of clauses.now)) }
 {
     match clauses {
         [] => wait_for_all(alloc, left),
@@ -120,7 +120,7 @@ fn waits<'a>(
 }
 
 fn wait_for_all(alloc: Global, left: usize) -> Result<Lines, CFault>
-    ensures { Gives lines_of result (meant.wait_for_all left) }
+    ensures { GivesAs lines_of result (meant.wait_for_all left) }
 {
     let statement = json::form0(alloc, "wait")?;
     Ok(one_line(alloc, left, statement, Vec::new(alloc))?)
@@ -132,7 +132,7 @@ fn wait_for<'a>(
     left: usize,
     clauses: &'a [Clause],
 ) -> Result<Lines, CFault>
-    ensures { Gives lines_of result (meant.wait_for scope.now left (clauses_of clauses.now)) }
+    ensures { GivesAs lines_of result (meant.wait_for scope.now left (clauses_of clauses.now)) }
 {
     let heading = headed(alloc, name_at(left), scope.again(alloc)?, clauses)?;
     let statement = json::form1(alloc, "wait", json::list(heading.clauses))?;
@@ -141,14 +141,14 @@ fn wait_for<'a>(
 
 /// Where the name of a directive stands that begins where so many words are left, with the one word `#pragma omp`.
 pub(crate) fn name_at(left: usize) -> usize
-    ensures { result ≡ meant.name_at left }
+    ensures { result ≡ meant.directive_name_at left }
 {
     left.saturating_sub(1)
 }
 
 /// Tasks, waits and groups stand in a parallel region.
 fn region_at(scope: &Scope<'_>, left: usize) -> Result<(), CFault>
-    ensures { Gives (λ x. x) result (meant.region_at scope.now left) }
+    ensures { GivesAs (λ x. x) result (meant.within_region scope.now left) }
 {
     if scope.inside() {
         Ok(())
@@ -177,7 +177,7 @@ fn may_begin(kind: IntegerType, first: IntegerType) -> bool
 
 /// The end of a loop, or where it has a turn too the number behind it.
 fn end_of(alloc: Global, through: bool, end: Value) -> Result<Value, CFault>
-    ensures { Gives (λ v. view v) result (Ok (meant.end_of through (view end))) }
+    ensures { GivesAs (λ v. view v) result (Ok (meant.end_of_range through (view end))) }
 {
     if through {
         Ok(json::form2(alloc, "+", end, Value::from(1u64))?)
@@ -188,7 +188,7 @@ fn end_of(alloc: Global, through: bool, end: Value) -> Result<Value, CFault>
 
 /// The place in a loop's body, or in its bounds.
 pub(crate) fn turn_of(turns: &Turns, begun: bool) -> Turn
-    ensures { result ≡ meant.turn (course_of turns.now) begun }
+    ensures { result ≡ meant.loop_turn (course_of turns.now) begun }
 {
     Turn {
         variable: turns.variable,
@@ -198,7 +198,7 @@ pub(crate) fn turn_of(turns: &Turns, begun: bool) -> Turn
 }
 
 pub(crate) fn bounded(alloc: Global, scope: &Scope<'_>, turns: &Turns) -> Result<Bounds, CFault>
-    ensures { Gives bounds_of result (meant.bounds scope.now (course_of turns.now)) }
+    ensures { GivesAs bounds_of result (meant.bounds scope.now (course_of turns.now)) }
 {
     if !is_name(scope.text(turns.variable)) {
         return Err(CFault::Outside(turns.left, Reason::NoName));
@@ -222,7 +222,7 @@ pub(crate) fn branch(
     one: Lines,
     two: Lines,
 ) -> Result<Lines, CFault>
-    ensures { Gives lines_of result (Ok (meant.branch left (view test) (lines_of one) (lines_of two))) }
+    ensures { GivesAs lines_of result (Ok (meant.branch left (view test) (lines_of one) (lines_of two))) }
 {
     let first = json::list(one.statements);
     let second = json::list(two.statements);
@@ -243,7 +243,7 @@ pub(crate) fn repeated(
     bounds: Bounds,
     inner: Lines,
 ) -> Result<Lines, CFault>
-    ensures { Gives lines_of result (Ok (meant.repeated left (bounds_of bounds) (lines_of inner))) }
+    ensures { GivesAs lines_of result (Ok (meant.loop_lines left (bounds_of bounds) (lines_of inner))) }
 {
     let list = json::list(inner.statements);
     let statement = json::form4(alloc, "for", bounds.name, bounds.first, bounds.end, list)?;
@@ -257,7 +257,7 @@ pub(crate) fn task_heading<'a>(
     left: usize,
     clauses: &'a [Clause],
 ) -> Result<Heading<'a>, CFault>
-    ensures { Gives head_of result (meant.task_head scope.now left (clauses_of clauses.now)) }
+    ensures { GivesAs head_of result (meant.task_head scope.now left (clauses_of clauses.now)) }
 {
     let name = name_at(left);
     region_at(scope, name)?;
@@ -290,7 +290,7 @@ pub(crate) fn task(
     taking: &[Taking],
     inner: Lines,
 ) -> Result<Lines, CFault>
-    ensures { Gives lines_of result (Ok (meant.task left (map view clauses.items) taking.now (lines_of inner))) }
+    ensures { GivesAs lines_of result (Ok (meant.task left (map view clauses.items) taking.now (lines_of inner))) }
 {
     let clauses = json::list(clauses);
     let list = json::list(inner.statements);
@@ -306,7 +306,7 @@ pub(crate) fn group_heading<'a>(
     left: usize,
     clauses: &'a [Clause],
 ) -> Result<(Operation, Heading<'a>), CFault>
-    ensures { Gives (λ x. (x.0, head_of x.1)) result (meant.group_head scope.now left (clauses_of clauses.now)) }
+    ensures { GivesAs (λ x. (x.0, head_of x.1)) result (meant.group_head scope.now left (clauses_of clauses.now)) }
 {
     let name = name_at(left);
     region_at(scope, name)?;
@@ -323,7 +323,7 @@ pub(crate) fn group(
     sections: Vec<Value>,
     inner: Lines,
 ) -> Result<Lines, CFault>
-    ensures { Gives lines_of result (Ok (meant.group left operation (map view sections.items) (lines_of inner))) }
+    ensures { GivesAs lines_of result (Ok (meant.group left operation (map view sections.items) (lines_of inner))) }
 {
     let word = json::text(alloc, operation_word(operation))?;
     let sections = json::list(sections);
@@ -334,7 +334,7 @@ pub(crate) fn group(
 
 /// Cells of an array, to which `show` has a pointer.
 fn shown_by(alloc: Global, left: usize, sense: Sense) -> Result<Lines, CFault>
-    ensures { Gives lines_of result (meant.shown_by left sense) }
+    ensures { GivesAs lines_of result (meant.shown_by left sense) }
 {
     match sense {
         Sense::Cells(_, None) => Err(CFault::Outside(left, Reason::NoArray)),
@@ -351,7 +351,7 @@ fn shown_by(alloc: Global, left: usize, sense: Sense) -> Result<Lines, CFault>
 
 /// Cells that are shown outside of regions: all are, whatever is called for.
 fn show(alloc: Global, scope: &Scope<'_>, left: usize, spot: &Spot) -> Result<Lines, CFault>
-    ensures { Gives lines_of result (meant.show scope.now left (site_of spot.now)) }
+    ensures { GivesAs lines_of result (meant.show scope.now left (site_of spot.now)) }
 {
     if scope.inside() {
         Err(CFault::Outside(left, Reason::Function))
@@ -362,7 +362,7 @@ fn show(alloc: Global, scope: &Scope<'_>, left: usize, spot: &Spot) -> Result<Li
 
 /// The statements of a function, wherever it is called.
 fn once_more(alloc: Global, became: &Became) -> Result<Lines, CFault>
-    ensures { Gives lines_of result (meant.became_of became.now) }
+    ensures { GivesAs lines_of result (meant.became_of became.now) }
 {
     match became {
         Became::Lines(lines) => Ok(copy(alloc, lines)?),
@@ -372,7 +372,7 @@ fn once_more(alloc: Global, became: &Became) -> Result<Lines, CFault>
 
 /// Which function it is, if it is one.
 fn function_by(left: usize, sense: Sense) -> Result<usize, CFault>
-    ensures { Gives (λ n. n) result (meant.function_by left sense) }
+    ensures { GivesAs (λ n. n) result (meant.function_by left sense) }
 {
     match sense {
         Sense::Function(number) => Ok(number),
@@ -382,7 +382,7 @@ fn function_by(left: usize, sense: Sense) -> Result<usize, CFault>
 
 /// Which function a name is that is called here.
 fn function_at(scope: &Scope<'_>, left: usize, name: Name, exprs: &[Expr]) -> Result<usize, CFault>
-    ensures { Gives (λ n. n) result (meant.function_at scope.now left name (exprs_of exprs.now)) }
+    ensures { GivesAs (λ n. n) result (meant.function_called scope.now left name (exprs_of exprs.now)) }
 {
     match exprs {
         [] => {
@@ -405,7 +405,7 @@ fn call(
     name: Name,
     exprs: &[Expr],
 ) -> Result<Lines, CFault>
-    ensures { Gives lines_of result (meant.call (map called_of functions.now) scope.now left name (exprs_of exprs.now)) }
+    ensures { GivesAs lines_of result (meant.call (map called_of functions.now) scope.now left name (exprs_of exprs.now)) }
 {
     let number = function_at(scope, left, name, exprs)?;
     match functions.get(number) {
@@ -429,7 +429,7 @@ fn assigned(
     sign: Option<Sign>,
     expr: &Expr,
 ) -> Result<Lines, CFault>
-    ensures { Gives lines_of result (meant.assigned scope.now left (aim_of target.now) sign (expr_of expr.now)) }
+    ensures { GivesAs lines_of result (meant.assignment_line scope.now left (aim_of target.now) sign (expr_of expr.now)) }
 {
     let statement = assignment(alloc, scope, target, sign, expr)?;
     Ok(one_line(alloc, left, statement, Vec::new(alloc))?)
@@ -442,7 +442,7 @@ pub(crate) fn kept(
     left: usize,
     extreme: &Extreme<'_>,
 ) -> Result<Lines, CFault>
-    ensures { Gives lines_of result (meant.kept scope.now left (kept_of extreme.now)) }
+    ensures { GivesAs lines_of result (meant.extreme_kept scope.now left (kept_of extreme.now)) }
 {
     let statement = folded(alloc, scope, extreme)?;
     Ok(one_line(alloc, left, statement, Vec::new(alloc))?)
@@ -450,14 +450,14 @@ pub(crate) fn kept(
 
 /// A statement.
 #[cycle(statement)]
-#[tactic(auto, unfolding(crate::specs::Statements::statement))]
+#[tactic(auto, unfolding(crate::specs::Statements::lowered_statement))]
 pub(crate) fn statement<'a>(
     alloc: Global,
     source: &Source<'_>,
     scope: &Scope<'a>,
     stmt: &'a Stmt,
 ) -> Result<Lines, CFault>
-    ensures { Gives lines_of result (meant.statement (source_of source.now) scope.now (stmt_of stmt.now)) }
+    ensures { GivesAs lines_of result (meant.lowered_statement (source_of source.now) scope.now (stmt_of stmt.now)) }
 {
     match stmt {
         Stmt::Block(_, inner) => body(alloc, source, scope, inner),
@@ -508,7 +508,7 @@ fn body_step<'a>(
     lines: Lines,
     stmt: &'a Stmt,
 ) -> Result<Lines, CFault>
-    ensures { Gives lines_of result (meant.behind (lines_of lines) (meant.statement (source_of source.now) scope.now (stmt_of stmt.now))) }
+    ensures { GivesAs lines_of result (meant.lines_behind (lines_of lines) (meant.lowered_statement (source_of source.now) scope.now (stmt_of stmt.now))) }
 {
     let more = statement(alloc, source, scope, stmt)?;
     joined(lines, more)
@@ -522,7 +522,7 @@ pub(crate) fn body<'a>(
     scope: &Scope<'a>,
     stmts: &'a [Stmt],
 ) -> Result<Lines, CFault>
-    ensures { Gives lines_of result (meant.body (source_of source.now) scope.now (body_of (list_of stmts.now))) }
+    ensures { GivesAs lines_of result (meant.body (source_of source.now) scope.now (body_of (list_of stmts.now))) }
 {
     let mut lines = no_lines(alloc);
     for stmt in stmts {

@@ -2,11 +2,11 @@
 ghost use Rattle.std.specs.Prelude.{◌≡◌, [], ◌∷◌, ◌+◌, ◌-◌, ◌<◌, ◌^◌, ℕ, IfOk, IfSome};
 ghost use Rattle.std.specs.List.{range_with_len};
 ghost use Rattle.ot_c_statements.specs.Tree.{stmt_of, list_of, body_of};
-ghost use Rattle.ot_c_scope.specs.Results.{Gives};
-ghost use Rattle.ot_c_arrays.specs.Each.{each};
-ghost use Rattle.ot_why_place.specs.Spots.{bindings_of};
+ghost use Rattle.ot_c_scope.specs.Results.{GivesAs};
+ghost use Rattle.ot_c_arrays.specs.Each.{each_or_refused};
+ghost use Rattle.ot_why_place.specs.Spots.{trail_bindings};
 ghost use Rattle.ot_c_program.specs.Lines.{lines_of, none};
-ghost use Rattle.ot_c_program.specs.Statements.{bounds_of, source_of, behind};
+ghost use Rattle.ot_c_program.specs.Statements.{bounds_of, source_of, lines_behind};
 ghost use Rattle.ot_c_program.specs.Turns as meant;
 
 use crate::extreme::kept_if;
@@ -77,7 +77,7 @@ fn turns_between(first: Option<u64>, end: Option<u64>) -> Option<(u64, u64)>
 
 /// Those of a loop in whose body an `if` stands.
 fn turns_of(branches: bool, numbers: &Trail<'_, '_>, bounds: &Bounds) -> Option<(u64, u64)>
-    ensures turns { result ≡ meant.turns_of branches (bindings_of numbers.now) (bounds_of bounds.now) }
+    ensures turns { result ≡ meant.turns_of branches (trail_bindings numbers.now) (bounds_of bounds.now) }
     ensures short { IfSome result (λ range. range.1 < 2 ^ 32) }
 {
     if branches {
@@ -92,7 +92,7 @@ const MAX_WORDS: usize = 2_000_000;
 
 /// The second behind the first, unless there are too many, or too many words in them.
 fn within_words(words: usize, one: Lines, two: Lines) -> Result<Lines, CFault>
-    ensures { Gives lines_of result (meant.within_words words (lines_of one) (lines_of two)) }
+    ensures { GivesAs lines_of result (meant.within_words words (lines_of one) (lines_of two)) }
 {
     if one.places.len() + two.places.len() > MAX_WORDS / words.max(1) {
         return Err(CFault::Outside(first_place(&two), Reason::TooMany));
@@ -103,7 +103,7 @@ fn within_words(words: usize, one: Lines, two: Lines) -> Result<Lines, CFault>
 /// One turn of a loop.
 fn one_turn(bounds: &Bounds, number: u64) -> Result<Bounds, AllocError>
     requires { number + 1 < 2 ^ 32 }
-    ensures { IfOk result (λ b. bounds_of b ≡ meant.one_turn (bounds_of bounds.now) number) }
+    ensures { IfOk result (λ b. bounds_of b ≡ meant.turn_range (bounds_of bounds.now) number) }
 {
     Ok(Bounds {
         name: bounds.name.clone()?,
@@ -134,14 +134,14 @@ fn leaves_second(number: Option<u64>) -> bool
 
 /// A statement.
 #[cycle(turned)]
-#[tactic(auto, unfolding(crate::specs::Turns::turned))]
+#[tactic(auto, unfolding(crate::specs::Turns::turned_lines))]
 fn turned<'a>(
     alloc: Global,
     course: &Course<'_>,
     scope: &Scope<'a>,
     stmt: &'a Stmt,
 ) -> Result<Lines, CFault>
-    ensures { Gives lines_of result (meant.turned (source_of course.now.source) (bindings_of course.now.numbers) scope.now (stmt_of stmt.now)) }
+    ensures { GivesAs lines_of result (meant.turned_lines (source_of course.now.source) (trail_bindings course.now.numbers) scope.now (stmt_of stmt.now)) }
 {
     let source = &course.source;
     match stmt {
@@ -201,7 +201,7 @@ fn unless_left<'a>(
     left: bool,
     stmts: &'a [Stmt],
 ) -> Result<Lines, CFault>
-    ensures { Gives lines_of result (meant.unless_left left (meant.turned_from (source_of course.now.source) (bindings_of course.now.numbers) scope.now none (body_of (list_of stmts.now)))) }
+    ensures { GivesAs lines_of result (meant.unless_left left (meant.turned_from (source_of course.now.source) (trail_bindings course.now.numbers) scope.now none (body_of (list_of stmts.now)))) }
 {
     if left {
         Ok(no_lines(alloc))
@@ -229,8 +229,8 @@ fn looped<'a>(
     stmts: &'a [Stmt],
 ) -> Result<Lines, CFault>
     requires { range.1 < 2 ^ 32 }
-    ensures { Gives lines_of result (each (meant.turn_step course.now.source.words whole.entry.left (bounds_of whole.entry.bounds.now)
-        (λ k. meant.turned_from (source_of course.now.source) ((whole.entry.name.now, k) ∷ bindings_of course.now.numbers) around.now none (body_of (list_of stmts.now))))
+    ensures { GivesAs lines_of result (each_or_refused (meant.turn_step course.now.source.words whole.entry.left (bounds_of whole.entry.bounds.now)
+        (λ k. meant.turned_from (source_of course.now.source) ((whole.entry.name.now, k) ∷ trail_bindings course.now.numbers) around.now none (body_of (list_of stmts.now))))
         none (range_with_len range.0 (range.1 - range.0))) }
 {
     let mut lines = no_lines(alloc);
@@ -252,8 +252,8 @@ fn turn_step<'a>(
     stmts: &'a [Stmt],
 ) -> Result<Lines, CFault>
     requires { number + 1 < 2 ^ 32 }
-    ensures { Gives lines_of result (meant.turn_step course.now.source.words whole.entry.left (bounds_of whole.entry.bounds.now)
-        (λ k. meant.turned_from (source_of course.now.source) ((whole.entry.name.now, k) ∷ bindings_of course.now.numbers) around.now none (body_of (list_of stmts.now)))
+    ensures { GivesAs lines_of result (meant.turn_step course.now.source.words whole.entry.left (bounds_of whole.entry.bounds.now)
+        (λ k. meant.turned_from (source_of course.now.source) ((whole.entry.name.now, k) ∷ trail_bindings course.now.numbers) around.now none (body_of (list_of stmts.now)))
         (lines_of lines) number) }
 {
     let name = whole.name;
@@ -276,7 +276,7 @@ fn turned_step<'a>(
     lines: Lines,
     stmt: &'a Stmt,
 ) -> Result<Lines, CFault>
-    ensures { Gives lines_of result (behind (lines_of lines) (meant.turned (source_of course.now.source) (bindings_of course.now.numbers) scope.now (stmt_of stmt.now))) }
+    ensures { GivesAs lines_of result (lines_behind (lines_of lines) (meant.turned_lines (source_of course.now.source) (trail_bindings course.now.numbers) scope.now (stmt_of stmt.now))) }
 {
     let more = turned(alloc, course, scope, stmt)?;
     joined(lines, more)
@@ -290,7 +290,7 @@ fn turned_body<'a>(
     scope: &Scope<'a>,
     stmts: &'a [Stmt],
 ) -> Result<Lines, CFault>
-    ensures { Gives lines_of result (meant.turned_from (source_of course.now.source) (bindings_of course.now.numbers) scope.now none (body_of (list_of stmts.now))) }
+    ensures { GivesAs lines_of result (meant.turned_from (source_of course.now.source) (trail_bindings course.now.numbers) scope.now none (body_of (list_of stmts.now))) }
 {
     let mut lines = no_lines(alloc);
     for stmt in stmts {
@@ -306,7 +306,7 @@ pub(crate) fn written<'a>(
     scope: &Scope<'a>,
     stmt: &'a Stmt,
 ) -> Result<Lines, CFault>
-    ensures { Gives lines_of result (meant.written (source_of source.now) scope.now (stmt_of stmt.now)) }
+    ensures { GivesAs lines_of result (meant.statement_lines (source_of source.now) scope.now (stmt_of stmt.now)) }
 {
     match source.loops {
         Loops::AsTheyStand => statement(alloc, source, scope, stmt),
@@ -321,7 +321,7 @@ pub(crate) fn written_body<'a>(
     scope: &Scope<'a>,
     stmts: &'a [Stmt],
 ) -> Result<Lines, CFault>
-    ensures { Gives lines_of result (meant.written_body (source_of source.now) scope.now (body_of (list_of stmts.now))) }
+    ensures { GivesAs lines_of result (meant.written_body (source_of source.now) scope.now (body_of (list_of stmts.now))) }
 {
     match source.loops {
         Loops::AsTheyStand => body(alloc, source, scope, stmts),
@@ -332,7 +332,7 @@ pub(crate) fn written_body<'a>(
 /// No variable has a number outside of loops.
 fn course_of<'t>(source: &Source<'t>) -> Course<'t>
     ensures source { result.source ≡ source.now }
-    ensures numbers { bindings_of result.numbers ≡ [] }
+    ensures numbers { trail_bindings result.numbers ≡ [] }
 {
     Course {
         source: *source,

@@ -72,17 +72,17 @@ pieces (Apply l s a b) k = pieces b (pieces a (OfTwo (l, s) ∷ k))
 pieces (Choose l t a b) k = pieces b (pieces a (pieces t (OfForm (false, l) ∷ k)))
 
 -- a cast, or a choice that stands there
-abbrev pub formed : Bool → ℕ → List E → List E
-formed true l (e ∷ es) = Unsigned e ∷ es
-formed false l (t ∷ a ∷ b ∷ es) = Choose l t a b ∷ es
-formed is_cast l es = es
+abbrev pub form_read : Bool → ℕ → List E → List E
+form_read true l (e ∷ es) = Unsigned e ∷ es
+form_read false l (t ∷ a ∷ b ∷ es) = Choose l t a b ∷ es
+form_read is_cast l es = es
 
 -- one piece more
 abbrev pub with_piece : Piece → List E → List E
 with_piece (OfNumber x) es = Literal x.0 x.1.0 x.1.1 ∷ es
 with_piece (OfName x) es = Variable x.0 x.1 ∷ es
 with_piece (OfCell x) (i ∷ es) = CellAt x.0 x.1 i ∷ es
-with_piece (OfForm x) es = formed x.0 x.1 es
+with_piece (OfForm x) es = form_read x.0 x.1 es
 with_piece (OfSigned x) (e ∷ es) = Signed x.0 x.1 e ∷ es
 with_piece (OfCall x) (a ∷ b ∷ es) = Called x.0 x.1 a b ∷ es
 with_piece (OfTwo x) (a ∷ b ∷ es) = Apply x.0 x.1 a b ∷ es

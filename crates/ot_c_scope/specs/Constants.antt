@@ -8,15 +8,15 @@ use Rattle.ot_c_expressions.specs.declared.sign.Sign.TheVariants as o
 use Rattle.ot_c_expressions.specs.Tree.{E, Literal, Variable, CellAt, Unsigned, Signed, Called, Apply, Choose}
 use Rattle.ot_c_scope.specs.declared.scope.Sense.{Sense}
 use Rattle.ot_c_scope.specs.declared.scope.Sense.TheVariants as s
-use Rattle.ot_c_scope.specs.Kinds.{joined, holds, width}
+use Rattle.ot_c_scope.specs.Kinds.{kind_joined, holds, width}
 use Rattle.ot_c_scope.specs.Scopes.{Around, sense}
 
 -- a number and its type
 abbrev pub Typed : Type 0
 Typed = ℕ × IntegerType
 
-abbrev pub held : ℕ → IntegerType → Option Typed
-held n k = if holds k n then Some (n, k) else None
+abbrev pub constant_held : ℕ → IntegerType → Option Typed
+constant_held n k = if holds k n then Some (n, k) else None
 
 abbrev pub named_by : Sense → Option Typed
 named_by (s.Constant n k) = Some (n, k)
@@ -28,8 +28,8 @@ named_by (s.Combined o k length) = None
 named_by (s.Pointer x p) = None
 named_by (s.Function i) = None
 
-abbrev pub named : Around → Name → Option Typed
-named a x = named_by (sense a x)
+abbrev pub name_constant : Around → Name → Option Typed
+name_constant a x = named_by (sense a x)
 
 abbrev pub word : ℕ → Option ℕ
 word n = if nat_lt n (2 ^ 64) then Some n else None
@@ -75,7 +75,7 @@ exact o.AtLeast a b = None
 
 abbrev pub held_if : IntegerType → Option ℕ → Option Typed
 held_if k None = None
-held_if k (Some n) = held n k
+held_if k (Some n) = constant_held n k
 
 abbrev pub is_shift : Sign → Bool
 is_shift o.Either = false
@@ -98,11 +98,11 @@ is_shift o.Over = false
 is_shift o.Rest = false
 
 -- a shift by less than its type has bits
-abbrev pub shifted : Sign → Typed → Typed → Option Typed
-shifted sign a b = if nat_lt b.0 (width a.1) then held_if a.1 (exact sign a.0 b.0) else None
+abbrev pub constant_shift : Sign → Typed → Typed → Option Typed
+constant_shift sign a b = if nat_lt b.0 (width a.1) then held_if a.1 (exact sign a.0 b.0) else None
 
-abbrev pub applied : Sign → Typed → Typed → Option Typed
-applied sign a b = if is_shift sign then shifted sign a b else held_if (joined a.1 b.1) (exact sign a.0 b.0)
+abbrev pub constant_operation : Sign → Typed → Typed → Option Typed
+constant_operation sign a b = if is_shift sign then constant_shift sign a b else held_if (kind_joined a.1 b.1) (exact sign a.0 b.0)
 
 abbrev pub as_word : Option Typed → Option Typed
 as_word None = None
@@ -111,12 +111,12 @@ as_word (Some x) = Some (x.0, UnsignedLong)
 abbrev pub both : Sign → Option Typed → Option Typed → Option Typed
 both sign None two = None
 both sign (Some a) None = None
-both sign (Some a) (Some b) = applied sign a b
+both sign (Some a) (Some b) = constant_operation sign a b
 
 -- numbers, names of constants, and + - * / % << >> of these, each part exact and in its type
 unfoldable pub constant : Around → E → Option Typed
 constant a (Literal l n k) = Some (n, k)
-constant a (Variable l x) = named a x
+constant a (Variable l x) = name_constant a x
 constant a (CellAt l x i) = None
 constant a (Unsigned e) = as_word (constant a e)
 constant a (Called l c x y) = None

@@ -8,9 +8,9 @@ abbrev pub nat : ℕ → Data
 nat n = number (unsigned n)
 
 -- `[part, ..]`
-abbrev pub listed : List Data → Data
-listed parts = array (items_of parts)
+abbrev pub list_form : List Data → Data
+list_form parts = array (items_of parts)
 
 -- `["word", part, ..]`
 abbrev pub form : List ℕ → List Data → Data
-form word parts = listed (string word ∷ parts)
+form word parts = list_form (string word ∷ parts)

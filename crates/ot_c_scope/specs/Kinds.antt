@@ -10,8 +10,8 @@ rank Long = 2
 rank UnsignedLong = 3
 
 -- the type in which two numbers meet
-abbrev pub joined : IntegerType → IntegerType → IntegerType
-joined a b = if nat_lt (rank a) (rank b) then b else a
+abbrev pub kind_joined : IntegerType → IntegerType → IntegerType
+kind_joined a b = if nat_lt (rank a) (rank b) then b else a
 
 -- whether a type holds a number from 0 to 2^64 - 1
 abbrev pub holds : IntegerType → ℕ → Bool

@@ -14,10 +14,10 @@ abbrev pub ◌>>=◌ : {A B : Type 0} → Result A Refusal → (A → Result B R
 (Err e) >>= f = Err e
 
 -- what a function returned, seen by view, is what the definition gives, unless memory ran out
-abbrev pub Fails : {Y : Type 0} → CFault → Result Y Refusal → Type 0
-Fails errors.Memory given = Unit {0}
-Fails (errors.Outside at why) given = given ≡ Err (at, why)
+abbrev pub FailsAs : {Y : Type 0} → CFault → Result Y Refusal → Type 0
+FailsAs errors.Memory given = Unit {0}
+FailsAs (errors.Outside at why) given = given ≡ Err (at, why)
 
-abbrev pub Gives : {X Y : Type 0} → (X → Y) → Result X CFault → Result Y Refusal → Type 0
-Gives view (Ok x) given = given ≡ Ok (view x)
-Gives view (Err e) given = Fails e given
+abbrev pub GivesAs : {X Y : Type 0} → (X → Y) → Result X CFault → Result Y Refusal → Type 0
+GivesAs view (Ok x) given = given ≡ Ok (view x)
+GivesAs view (Err e) given = FailsAs e given

@@ -19,11 +19,11 @@ abbrev pub one_cell : Option Typed → Run
 one_cell first = run_by first (Some (1, Int))
 
 -- which cells of an array an index may name: one, or those of which one is picked
-unfoldable pub run : Around → E → Run
-run a (Apply l o.Rest chosen count) = run_by (Some (0, Int)) (constant a count)
-run a (Apply l o.Plus first (Apply m o.Rest chosen count)) = run_by (constant a first) (constant a count)
-run a i = one_cell (constant a i)
+unfoldable pub index_run : Around → E → Run
+index_run a (Apply l o.Rest chosen count) = run_by (Some (0, Int)) (constant a count)
+index_run a (Apply l o.Plus first (Apply m o.Rest chosen count)) = run_by (constant a first) (constant a count)
+index_run a i = one_cell (constant a i)
 
 -- no open group combines, by a pointer, over a cell of an array that an index may name
-abbrev pub untouched : Around → ℕ → Name → E → Result (Unit {0}) Refusal
-untouched a at x i = if is_pointed a x (run a i) then Err (at, why.Combined) else Ok tt
+abbrev pub is_run_untouched : Around → ℕ → Name → E → Result (Unit {0}) Refusal
+is_run_untouched a at x i = if is_pointed a x (index_run a i) then Err (at, why.Combined) else Ok tt

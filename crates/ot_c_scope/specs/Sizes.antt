@@ -14,7 +14,7 @@ use Rattle.ot_c_scope.specs.declared.scope.Sense.TheVariants as s
 use Rattle.ot_c_scope.specs.Constants.{Typed, constant}
 use Rattle.ot_c_scope.specs.Constants as constants
 use Rattle.ot_c_scope.specs.Forms.{nat, form}
-use Rattle.ot_c_scope.specs.Kinds.{joined}
+use Rattle.ot_c_scope.specs.Kinds.{kind_joined}
 use Rattle.ot_c_scope.specs.Results.{Refusal, ◌>>=◌}
 use Rattle.ot_c_scope.specs.Scopes.{Around, sense, name_text}
 
@@ -34,20 +34,20 @@ no_number (s.Combined c k length) = why.Combined
 no_number (s.Pointer x p) = why.Pointer
 no_number (s.Function i) = why.Function
 
-abbrev pub named_by : ℕ → List ℕ → Sense → Sized
-named_by at name (s.Constant n k) = Ok (nat n, k)
-named_by at name (s.Turn k) = Ok (string name, k)
-named_by at name s.Nothing = Err (at, why.Unknown)
-named_by at name s.Begins = Err (at, why.OwnBound)
-named_by at name (s.Cells k (Some n)) = Err (at, why.WholeArray)
-named_by at name (s.Cells k None) = Err (at, why.NoSize)
-named_by at name (s.Combined c k length) = Err (at, why.Combined)
-named_by at name (s.Pointer x p) = Err (at, why.Pointer)
-named_by at name (s.Function i) = Err (at, why.Function)
+abbrev pub name_size_by : ℕ → List ℕ → Sense → Sized
+name_size_by at name (s.Constant n k) = Ok (nat n, k)
+name_size_by at name (s.Turn k) = Ok (string name, k)
+name_size_by at name s.Nothing = Err (at, why.Unknown)
+name_size_by at name s.Begins = Err (at, why.OwnBound)
+name_size_by at name (s.Cells k (Some n)) = Err (at, why.WholeArray)
+name_size_by at name (s.Cells k None) = Err (at, why.NoSize)
+name_size_by at name (s.Combined c k length) = Err (at, why.Combined)
+name_size_by at name (s.Pointer x p) = Err (at, why.Pointer)
+name_size_by at name (s.Function i) = Err (at, why.Function)
 
 -- the number of a constant, or a loop's variable
-abbrev pub named : Around → ℕ → Name → Sized
-named a at x = named_by at (name_text a x) (sense a x)
+abbrev pub name_size : Around → ℕ → Name → Sized
+name_size a at x = name_size_by at (name_text a x) (sense a x)
 
 abbrev pub size_word : Sign → Option (List ℕ)
 size_word o.Plus = Some (codes "+")
@@ -69,22 +69,22 @@ size_word o.ShiftLeft = None
 size_word o.ShiftRight = None
 size_word o.Over = None
 
-abbrev pub known : ℕ → Option Typed → Sized
-known at None = Err (at, why.NoSize)
-known at (Some x) = Ok (nat x.0, x.1)
+abbrev pub size_known : ℕ → Option Typed → Sized
+size_known at None = Err (at, why.NoSize)
+size_known at (Some x) = Ok (nat x.0, x.1)
 
 -- two sizes with a sign between, or the constant that the two are
-abbrev pub both : ℕ → Option (List ℕ) → Sized → Sized → Option Typed → Sized
-both at None one two constant = known at constant
-both at (Some word) one two constant = one >>= λ x. two >>= λ y. Ok (form word (x.0 ∷ y.0 ∷ []), joined x.1 y.1)
+abbrev pub both_sizes : ℕ → Option (List ℕ) → Sized → Sized → Option Typed → Sized
+both_sizes at None one two constant = size_known at constant
+both_sizes at (Some word) one two constant = one >>= λ x. two >>= λ y. Ok (form word (x.0 ∷ y.0 ∷ []), kind_joined x.1 y.1)
 
 -- numbers and loop variables, + - * of these, and / % << >> of numbers
 unfoldable pub size : Around → E → Sized
 size a (Literal l n k) = Ok (nat n, k)
-size a (Variable l x) = named a l x
+size a (Variable l x) = name_size a l x
 size a (CellAt l x i) = Err (l, why.NoSize)
 size a (Unsigned e) = size a e >>= λ x. Ok (x.0, UnsignedLong)
 size a (Called l c x y) = Err (l, why.NoSize)
 size a (Signed l sign e) = Err (l, why.NoSize)
 size a (Choose l t x y) = Err (l, why.NoSize)
-size a (Apply l sign x y) = both l (size_word sign) (size a x) (size a y) (constants.both sign (constant a x) (constant a y))
+size a (Apply l sign x y) = both_sizes l (size_word sign) (size a x) (size a y) (constants.both sign (constant a x) (constant a y))

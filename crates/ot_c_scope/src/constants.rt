@@ -10,7 +10,7 @@ use ot_c_words::{IntegerType, Name};
 
 /// A number that its type holds.
 fn held(number: u64, kind: IntegerType) -> Option<(u64, IntegerType)>
-    ensures { result ≡ constants.held number kind }
+    ensures { result ≡ constants.constant_held number kind }
 {
     if holds(kind, number) {
         Some((number, kind))
@@ -20,7 +20,7 @@ fn held(number: u64, kind: IntegerType) -> Option<(u64, IntegerType)>
 }
 
 fn named(scope: &Scope<'_>, name: Name) -> Option<(u64, IntegerType)>
-    ensures { result ≡ constants.named scope.now name }
+    ensures { result ≡ constants.name_constant scope.now name }
 {
     match scope.sense(name) {
         Sense::Constant(number, kind) => Some((number, kind)),
@@ -79,7 +79,7 @@ fn shifted(
     one: (u64, IntegerType),
     two: (u64, IntegerType),
 ) -> Option<(u64, IntegerType)>
-    ensures { result ≡ constants.shifted sign one two }
+    ensures { result ≡ constants.constant_shift sign one two }
 {
     if two.0 < width(one.1) {
         let number = exact(sign, one.0, two.0)?;
@@ -95,7 +95,7 @@ fn applied(
     one: (u64, IntegerType),
     two: (u64, IntegerType),
 ) -> Option<(u64, IntegerType)>
-    ensures { result ≡ constants.applied sign one two }
+    ensures { result ≡ constants.constant_operation sign one two }
 {
     if is_shift(sign) {
         return shifted(sign, one, two);

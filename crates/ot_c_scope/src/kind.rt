@@ -18,7 +18,7 @@ fn rank(kind: IntegerType) -> u32
 
 /// The type in which two numbers meet (C17, section 6.3.1.8).
 pub fn joined(one: IntegerType, two: IntegerType) -> IntegerType
-    ensures { result ≡ kinds.joined one two }
+    ensures { result ≡ kinds.kind_joined one two }
 {
     if rank(one) < rank(two) { two } else { one }
 }

@@ -1,7 +1,7 @@
 //! Which cells an index may name.
 ghost use Rattle.std.specs.Prelude.{◌≡◌};
 ghost use Rattle.ot_c_expressions.specs.Tree.{expr_of};
-ghost use Rattle.ot_c_scope.specs.Results.{Gives};
+ghost use Rattle.ot_c_scope.specs.Results.{GivesAs};
 ghost use Rattle.ot_c_scope.specs.Runs as runs;
 
 use crate::constants::constant;
@@ -24,9 +24,9 @@ pub fn run_by(
 }
 
 /// Which cells of an array an index may name: one, or those of which one is picked.
-#[tactic(auto, unfolding(crate::specs::Runs::run))]
+#[tactic(auto, unfolding(crate::specs::Runs::index_run))]
 pub fn run(scope: &Scope<'_>, index: &Expr) -> Option<(u64, u64)>
-    ensures { result ≡ runs.run scope.now (expr_of index.now) }
+    ensures { result ≡ runs.index_run scope.now (expr_of index.now) }
 {
     match index {
         Expr::Op(_, Sign::Rest, _, count) => {
@@ -44,7 +44,7 @@ pub fn run(scope: &Scope<'_>, index: &Expr) -> Option<(u64, u64)>
 
 /// No open group combines, by a pointer, over a cell that an index may name of an array whose name stands where so many words are left.
 pub fn untouched(scope: &Scope<'_>, left: usize, array: Name, index: &Expr) -> Result<(), CFault>
-    ensures { Gives (λ x. x) result (runs.untouched scope.now left array (expr_of index.now)) }
+    ensures { GivesAs (λ x. x) result (runs.is_run_untouched scope.now left array (expr_of index.now)) }
 {
     if scope.is_pointed(array, run(scope, index)) {
         Err(CFault::Outside(left, Reason::Combined))

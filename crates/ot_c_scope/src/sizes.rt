@@ -2,7 +2,7 @@
 ghost use Rattle.std.specs.Prelude.{◌≡◌, option_map};
 ghost use Rattle.serde_json.specs.View.{view};
 ghost use Rattle.ot_c_expressions.specs.Tree.{expr_of};
-ghost use Rattle.ot_c_scope.specs.Results.{Gives};
+ghost use Rattle.ot_c_scope.specs.Results.{GivesAs};
 ghost use Rattle.ot_c_scope.specs.Sizes as sizes;
 
 use crate::constants::{both, constant};
@@ -37,7 +37,7 @@ fn named(
     left: usize,
     name: Name,
 ) -> Result<(Value, IntegerType), CFault>
-    ensures { Gives (λ x. (view x.0, x.1)) result (sizes.named scope.now left name) }
+    ensures { GivesAs (λ x. (view x.0, x.1)) result (sizes.name_size scope.now left name) }
 {
     match scope.sense(name) {
         Sense::Constant(number, kind) => Ok((Value::from(number), kind)),
@@ -62,7 +62,7 @@ fn size_word(sign: Sign) -> Option<&'static str>
 
 /// The number of a constant.
 fn known(left: usize, number: Option<(u64, IntegerType)>) -> Result<(Value, IntegerType), CFault>
-    ensures { Gives (λ x. (view x.0, x.1)) result (sizes.known left number) }
+    ensures { GivesAs (λ x. (view x.0, x.1)) result (sizes.size_known left number) }
 {
     match number {
         Some((number, kind)) => Ok((Value::from(number), kind)),
@@ -74,7 +74,7 @@ fn known(left: usize, number: Option<(u64, IntegerType)>) -> Result<(Value, Inte
 /// type holds it is refused there.
 #[tactic(auto, unfolding(crate::specs::Sizes::size))]
 pub fn size(alloc: Global, scope: &Scope<'_>, expr: &Expr) -> Result<(Value, IntegerType), CFault>
-    ensures { Gives (λ x. (view x.0, x.1)) result (sizes.size scope.now (expr_of expr.now)) }
+    ensures { GivesAs (λ x. (view x.0, x.1)) result (sizes.size scope.now (expr_of expr.now)) }
 {
     match expr {
         Expr::Number(_, number, kind) => Ok((Value::from(*number), *kind)),

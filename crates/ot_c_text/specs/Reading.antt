@@ -8,8 +8,8 @@ use Rattle.ot_c_statements.specs.declared.fault.Fault.{Fault}
 use Rattle.ot_c_files.specs.Files.{file_at}
 use Rattle.ot_c_files.specs.Program.{Whole}
 use Rattle.ot_c_scope.specs.Results.{Refusal}
-use Rattle.ot_c_program.specs.Files.{Program, lowered, lowered_by_turns, lowered_of}
-use Rattle.ot_c_text.specs.Settling.{has_guards, settled}
+use Rattle.ot_c_program.specs.Files.{Program, file_lowered, lowered_by_turns, lowered_of}
+use Rattle.ot_c_text.specs.Settling.{has_guards, reading_settled}
 use Rattle.ot_c_text.specs.Reasons.{file_reason, program_reason, word_reason}
 use Rattle.ot_c_text.specs.declared.reading.Meaning.{Meaning}
 use Rattle.ot_c_text.specs.declared.reading.Meaning.TheVariants as m
@@ -22,13 +22,13 @@ Meant = Result Program (ℕ × List ℕ)
 abbrev pub byte_at : List ℕ → ℕ → ℕ → ℕ
 byte_at starts size left = unwrap_or (slice_get starts (length starts - left)) size
 
-abbrev pub reasoned : List ℕ → ℕ → Result Program Refusal → Meant
-reasoned starts size (Ok program) = Ok program
-reasoned starts size (Err e) = Err (byte_at starts size e.0, program_reason e.1)
+abbrev pub reason_given : List ℕ → ℕ → Result Program Refusal → Meant
+reason_given starts size (Ok program) = Ok program
+reason_given starts size (Err e) = Err (byte_at starts size e.0, program_reason e.1)
 
 -- of a file of so many bytes whose names are these, and whose words begin at these bytes, where `if` is among them or isn't
 abbrev pub meaning_of_file : List (String Global) → List ℕ → ℕ → Bool → Whole → Meant
-meaning_of_file names starts size guards file = reasoned starts size (settled guards (lowered names starts file) (lowered_by_turns names starts file))
+meaning_of_file names starts size guards file = reason_given starts size (reading_settled guards (file_lowered names starts file) (lowered_by_turns names starts file))
 
 abbrev pub meaning_read : List (String Global) → List ℕ → ℕ → Bool → Result Whole Fault → Meant
 meaning_read names starts size guards (Ok file) = meaning_of_file names starts size guards file
@@ -49,6 +49,6 @@ abbrev pub Means : List ℕ → Meant → Type 0
 Means text meant = MeansRead (length text) (words_in text) meant
 
 -- what the code gives of it
-abbrev pub seen : Meaning → Meant
-seen (m.Program lowered) = Ok (lowered_of lowered)
-seen (m.Outside byte reason) = Err (byte, reason.now)
+abbrev pub meaning_seen : Meaning → Meant
+meaning_seen (m.Program file_lowered) = Ok (lowered_of file_lowered)
+meaning_seen (m.Outside byte reason) = Err (byte, reason.now)

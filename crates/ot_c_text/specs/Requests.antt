@@ -2,7 +2,7 @@
 use Rattle.std.specs.Prelude.{ℕ, zero, suc, ◌+◌, ◌-◌, ◌/◌, ◌==◌, nat_lt, Bool, List, [], ◌∷◌, ◌++◌, length, map, take, drop, codes, if◌then◌else◌}
 use Rattle.std.specs.List.{list_all}
 use Rattle.serde_json.specs.Data.{Data, string}
-use Rattle.ot_c_scope.specs.Forms.{form, listed, nat}
+use Rattle.ot_c_scope.specs.Forms.{form, list_form, nat}
 use Rattle.ot_c_arrays.specs.Arrays.{Arr}
 use Rattle.ot_c_program.specs.Files.{Program}
 
@@ -13,12 +13,12 @@ new_of name count = form (codes "new") (string name ∷ nat count ∷ [])
 abbrev pub are_zeros : List ℕ → Bool
 are_zeros cells = list_all (λ c. c == 0) cells
 
-abbrev pub numbers : List ℕ → List Data
-numbers cells = map nat cells
+abbrev pub numbers_data : List ℕ → List Data
+numbers_data cells = map nat cells
 
 -- `["put",NAME,START,[V,..]]`
 abbrev pub putting : List ℕ → ℕ → List ℕ → Data
-putting name start cells = form (codes "put") (string name ∷ nat start ∷ listed (numbers cells) ∷ [])
+putting name start cells = form (codes "put") (string name ∷ nat start ∷ list_form (numbers_data cells) ∷ [])
 
 -- nothing where all cells are 0, as they are in a new array
 abbrev pub put_of : List ℕ → ℕ → List ℕ → List Data

@@ -4,7 +4,7 @@ use Rattle.serde_json.specs.Data.{Data}
 use Rattle.serde_json.specs.Written.{compact_text, has_float}
 use Rattle.ot_file_diagnosis.specs.Diagnoses.{place_in}
 use Rattle.ot_file_diagnosis.specs.DiagnosisView.{diagnosis_by}
-use Rattle.ot_c_judge.specs.Reports.{outside}
+use Rattle.ot_c_judge.specs.Reports.{outside_error}
 use Rattle.ot_c_text.specs.Reading.{Meant, Means}
 use Rattle.ot_c_text.specs.Requests.{requests_of}
 use Rattle.ot_c_text.specs.declared.session.Session.{Session}
@@ -26,7 +26,7 @@ AreLines (r ∷ more) text = (line : List ℕ) × (rest : List ℕ) × IsLine r 
 -- of what a text means
 abbrev pub IsSessionOf : List ℕ → Meant → Session → Type 0
 IsSessionOf text (Ok program) (s.Lines lines) = AreLines (requests_of program) lines.items
-IsSessionOf text (Err fault) (s.Outside found) = diagnosis_by found ≡ outside (place_in text fault.0) fault.1
+IsSessionOf text (Err fault) (s.Outside found) = diagnosis_by found ≡ outside_error (place_in text fault.0) fault.1
 IsSessionOf text _ _ = ⊥
 
 -- of a text

@@ -24,8 +24,8 @@ abbrev pub has_guards : List Word → Bool
 has_guards words = list_any is_if words
 
 -- what a program over these arrays may name; of tasks it may have as many as it may have statements
-abbrev pub shape_of : List Arr → Arrays
-shape_of arrays = record { arrays = map (λ a. (a.name, length a.cells)) arrays; tasks = 20000 }
+abbrev pub settled_shape : List Arr → Arrays
+settled_shape arrays = record { arrays = map (λ a. (a.name, length a.cells)) arrays; tasks = 20000 }
 
 -- whether an index or a size isn't exact, or isn't in range
 abbrev pub is_size : Refused → Bool
@@ -44,7 +44,7 @@ is_refused (Err refusal) = is_size refusal
 
 -- whether a program isn't read, as an index or a size is told to be wrong
 abbrev pub is_beyond : Program → Bool
-is_beyond p = is_refused (program_of (shape_of p.arrays) p.program)
+is_beyond p = is_refused (program_of (settled_shape p.arrays) p.program)
 
 -- ---- what is taken
 
@@ -54,6 +54,6 @@ unless_refused p (Err e) = Ok p
 
 -- A program as it stands, and with its loops turn by turn. Only where it isn't read as it stands, as an index or a size is wrong, and
 -- `if` is among the words, the second is taken, if there is one.
-abbrev pub settled : Bool → Result Program Refusal → Result Program Refusal → Result Program Refusal
-settled guards (Err e) turns = Err e
-settled guards (Ok p) turns = if guards && is_beyond p then unless_refused p turns else Ok p
+abbrev pub reading_settled : Bool → Result Program Refusal → Result Program Refusal → Result Program Refusal
+reading_settled guards (Err e) turns = Err e
+reading_settled guards (Ok p) turns = if guards && is_beyond p then unless_refused p turns else Ok p

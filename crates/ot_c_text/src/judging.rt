@@ -2,7 +2,7 @@
 ghost use Rattle.std.specs.Prelude.{◌≡◌, map, IfOk};
 ghost use Rattle.ot_c_program.specs.Files.{lowered_of};
 ghost use Rattle.ot_c_judge.specs.Reports.{told_by};
-ghost use Rattle.ot_c_arrays.specs.Arrays.{array_of};
+ghost use Rattle.ot_c_arrays.specs.Arrays.{c_array};
 ghost use Rattle.ot_c_text.specs.Judging.{Judges, JudgesProgram, JudgesBy, IsJudged, judged_array};
 
 use crate::reading::{Meaning, meaning_of};
@@ -72,7 +72,7 @@ fn judged_arrays(
     alloc: Global,
     arrays: Vec<ot_c_program::CArray>,
 ) -> Result<Vec<ot_c_judge::CArray>, AllocError>
-    ensures { IfOk result (λ judged. map judged_array judged.items ≡ map array_of arrays.items) }
+    ensures { IfOk result (λ judged. map judged_array judged.items ≡ map c_array arrays.items) }
 {
     let mut judged = Vec::new(alloc);
     for array in arrays {
@@ -82,7 +82,7 @@ fn judged_arrays(
 }
 
 fn judged_array(array: ot_c_program::CArray) -> ot_c_judge::CArray
-    ensures { judged_array result ≡ array_of array }
+    ensures { judged_array result ≡ c_array array }
 {
     ot_c_judge::CArray {
         name: array.name,

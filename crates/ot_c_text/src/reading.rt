@@ -1,7 +1,7 @@
 //! What a text means: a program of the language, or why it has none.
 ghost use Rattle.std.specs.Prelude.{◌≡◌, length, IfOk, MatchResult};
 ghost use Rattle.ot_c_files.specs.Program.{file_of};
-ghost use Rattle.ot_c_text.specs.Reading.{Means, seen};
+ghost use Rattle.ot_c_text.specs.Reading.{Means, meaning_seen};
 ghost use Rattle.ot_c_text.specs.Settling.{has_guards};
 ghost use Rattle.ot_c_text.specs.Reading as meant;
 
@@ -23,7 +23,7 @@ pub enum Meaning {
 
 /// What a text means.
 pub fn meaning_of(alloc: Global, text: &[u8]) -> Result<Meaning, AllocError>
-    ensures { IfOk result (λ meaning. Means text.now (seen meaning)) }
+    ensures { IfOk result (λ meaning. Means text.now (meaning_seen meaning)) }
 {
     match words_of(alloc, text) {
         Ok(words) => meaning_of_words(alloc, text.len(), &words),
@@ -36,7 +36,7 @@ pub fn meaning_of(alloc: Global, text: &[u8]) -> Result<Meaning, AllocError>
 
 /// What the words of a text of so many bytes mean.
 fn meaning_of_words(alloc: Global, size: usize, words: &Words) -> Result<Meaning, AllocError>
-    ensures { IfOk result (λ meaning. seen meaning ≡ meant.meaning_of_words words.now.names.keys words.now.starts.items size words.now.words.items) }
+    ensures { IfOk result (λ meaning. meaning_seen meaning ≡ meant.meaning_of_words words.now.names.keys words.now.starts.items size words.now.words.items) }
 {
     match read_file(alloc, words.words.as_slice()) {
         Ok(file) => meaning_of_file(alloc, size, words, &file),
@@ -55,7 +55,7 @@ fn meaning_of_file(
     words: &Words,
     file: &File,
 ) -> Result<Meaning, AllocError>
-    ensures { IfOk result (λ meaning. seen meaning ≡ meant.meaning_of_file words.now.names.keys words.now.starts.items size (has_guards words.now.words.items) (file_of file.now)) }
+    ensures { IfOk result (λ meaning. meaning_seen meaning ≡ meant.meaning_of_file words.now.names.keys words.now.starts.items size (has_guards words.now.words.items) (file_of file.now)) }
 {
     match lower(alloc, words, file) {
         Ok(lowered) => Ok(Meaning::Program(settled(alloc, words, file, lowered)?)),

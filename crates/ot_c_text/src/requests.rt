@@ -1,7 +1,7 @@
 //! The requests that make arrays and run a program.
 ghost use Rattle.std.specs.Prelude.{◌≡◌, ◌≤◌, ◌==◌, ◌++◌, length, map, drop, take, IfOk};
 ghost use Rattle.serde_json.specs.View.{view};
-ghost use Rattle.ot_c_arrays.specs.Arrays.{array_of};
+ghost use Rattle.ot_c_arrays.specs.Arrays.{c_array};
 ghost use Rattle.ot_c_program.specs.Files.{lowered_of};
 ghost use Rattle.ot_c_text.specs.Requests as meant;
 
@@ -24,7 +24,7 @@ pub(crate) fn requests_of(alloc: Global, lowered: Lowered) -> Result<Vec<Value>,
 
 /// The requests that make arrays.
 fn making(alloc: Global, arrays: &[CArray]) -> Result<Vec<Value>, AllocError>
-    ensures { IfOk result (λ rs. map view rs.items ≡ meant.making (map array_of arrays.now)) }
+    ensures { IfOk result (λ rs. map view rs.items ≡ meant.making (map c_array arrays.now)) }
 {
     let mut requests = Vec::new(alloc);
     for array in arrays {
@@ -35,7 +35,7 @@ fn making(alloc: Global, arrays: &[CArray]) -> Result<Vec<Value>, AllocError>
 
 /// The requests that make an array, behind others.
 fn with_array(alloc: Global, requests: Vec<Value>, array: &CArray) -> Result<Vec<Value>, AllocError>
-    ensures { IfOk result (λ rs. map view rs.items ≡ map view requests.items ++ meant.requests_for (array_of array.now)) }
+    ensures { IfOk result (λ rs. map view rs.items ≡ map view requests.items ++ meant.requests_for (c_array array.now)) }
 {
     let name = array.name.as_str();
     let all = all_cells(alloc, array)?;
@@ -138,7 +138,7 @@ fn is_zero(cell: u64) -> bool
 }
 
 fn numbers(alloc: Global, cells: &[u64]) -> Result<Vec<Value>, AllocError>
-    ensures { IfOk result (λ vs. map view vs.items ≡ meant.numbers cells.now) }
+    ensures { IfOk result (λ vs. map view vs.items ≡ meant.numbers_data cells.now) }
 {
     let mut values = Vec::new(alloc);
     for cell in cells {

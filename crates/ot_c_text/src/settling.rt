@@ -1,7 +1,7 @@
 //! Which program of a file is taken.
 ghost use Rattle.std.specs.Prelude.{◌≡◌, IfOk, Ok, map};
 ghost use Rattle.ot_c_files.specs.Program.{file_of};
-ghost use Rattle.ot_c_arrays.specs.Arrays.{array_of};
+ghost use Rattle.ot_c_arrays.specs.Arrays.{c_array};
 ghost use Rattle.ot_c_program.specs.Files.{lowered_of, lowered_by_turns};
 ghost use Rattle.ot_c_text.specs.Settling as meant;
 
@@ -19,7 +19,7 @@ pub(crate) fn settled(
     file: &File,
     lowered: Lowered,
 ) -> Result<Lowered, AllocError>
-    ensures { IfOk result (λ l. Ok (lowered_of l) ≡ meant.settled (meant.has_guards words.now.words.items) (Ok (lowered_of lowered))
+    ensures { IfOk result (λ l. Ok (lowered_of l) ≡ meant.reading_settled (meant.has_guards words.now.words.items) (Ok (lowered_of lowered))
         (lowered_by_turns words.now.names.keys words.now.starts.items (file_of file.now))) }
 {
     if has_guards(&words.words) && is_beyond(alloc, &lowered)? {
@@ -82,7 +82,7 @@ const MAX_TASKS: u32 = 20_000;
 
 /// What a program over these arrays may name: fewer than 2^32 arrays, each shorter.
 fn shape_of(alloc: Global, arrays: &[CArray]) -> Result<Shape, AllocError>
-    ensures { IfOk result (λ shape. shape ≡ meant.shape_of (map array_of arrays.now)) }
+    ensures { IfOk result (λ shape. shape ≡ meant.settled_shape (map c_array arrays.now)) }
 {
     let mut named = Vec::new(alloc);
     for array in arrays {

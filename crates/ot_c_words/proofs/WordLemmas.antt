@@ -16,7 +16,7 @@ use Rattle.ot_c_words.specs.declared.word.Name.{Name}
 use Rattle.ot_c_words.specs.declared.word.Name.TheVariants as n
 use Rattle.ot_c_words.specs.declared.word.Word.{Word}
 use Rattle.ot_c_words.specs.declared.word.Word.TheVariants as w
-use Rattle.ot_c_words.specs.Words.{Named, named, name_spoken, word_spoken, texts, all_spoken, IsBelow, AreBelow, MeanNothing, AreNames, Continues}
+use Rattle.ot_c_words.specs.Words.{Named, word_of_name, name_spoken, word_spoken, texts, all_spoken, IsBelow, AreBelow, MeanNothing, AreNames, Continues}
 
 -- a word behind others, spoken
 pub spoken_push : {Z : Type 0} (names : List (String Z)) (ws : List Word) (w : Word) → all_spoken names (ws ++ w ∷ []) ≡ all_spoken names ws ++ word_spoken (texts names) w ∷ []
@@ -96,8 +96,8 @@ found_name t names i is =
     below {m} {n} h = grind (arith, nat_tests)
 
 -- a name put behind words
-pub name_put : {Z : Type 0} (old new last : List (String Z)) (ws vs : List Word) (n : Name) (t : Text) → Continues old new → AreBelow (length old) ws → name_spoken (texts new) n ≡ named t → last ≡ new
-    → vs ≡ ws ++ w.Name n ∷ [] → all_spoken last vs ≡ all_spoken old ws ++ named t ∷ []
+pub name_put : {Z : Type 0} (old new last : List (String Z)) (ws vs : List Word) (n : Name) (t : Text) → Continues old new → AreBelow (length old) ws → name_spoken (texts new) n ≡ word_of_name t → last ≡ new
+    → vs ≡ ws ++ w.Name n ∷ [] → all_spoken last vs ≡ all_spoken old ws ++ word_of_name t ∷ []
 name_put old new last ws vs n t further low is same put =
     ap (λ ns. all_spoken ns vs) same ∙ ap (λ us. all_spoken new us) put ∙ spoken_push new ws (w.Name n) ∙ cc (spoken_further old new ws further low)
 

@@ -1,6 +1,6 @@
 -- Marks (C17, section 6.4.6).
 use Rattle.std.specs.Prelude.{ℕ, List, [], ◌∷◌, Option, codes}
-use Rattle.ot_c_words.specs.Tables.{Text, begun}
+use Rattle.ot_c_words.specs.Tables.{Text, table_entry}
 use Rattle.ot_c_words.specs.declared.mark.Mark.{Mark}
 use Rattle.ot_c_words.specs.declared.mark.Mark.TheVariants as m
 
@@ -19,4 +19,4 @@ marks =
 
 -- the longest mark that begins the bytes, and how many it has
 unfoldable pub mark_at : Text → Option (Mark × ℕ)
-mark_at bytes = begun marks bytes
+mark_at bytes = table_entry marks bytes

@@ -52,25 +52,25 @@ splice_at (b ∷ bs) = if (b == 10) && splits bs then Ok (p.Nothing, 2) else Err
 
 -- ---- words
 
-abbrev pub marked : Option (Mark × ℕ) → Found
-marked None = Err wrong.NoWord
-marked (Some m) = Ok (p.Mark m.0, m.1)
+abbrev pub mark_found : Option (Mark × ℕ) → Found
+mark_found None = Err wrong.NoWord
+mark_found (Some m) = Ok (p.Mark m.0, m.1)
 
-abbrev pub numbered : ℕ → Numbered → Found
-numbered len (Err e) = Err e
-numbered len (Ok n) = Ok (p.Number n.0 n.1, len)
+abbrev pub number_found : ℕ → Numbered → Found
+number_found len (Err e) = Err e
+number_found len (Ok n) = Ok (p.Number n.0 n.1, len)
 
 unfoldable pub numeral_at : Text → Found
-numeral_at bytes = numbered (name_len bytes) (number_of (take (name_len bytes) bytes))
+numeral_at bytes = number_found (name_len bytes) (number_of (take (name_len bytes) bytes))
 
 -- what has these bytes, unless a trigraph is among them
 abbrev pub without_trigraph : Text → Found → Found
 without_trigraph bytes found = if has_trigraph bytes then Err wrong.Trigraph else found
 
 -- what ends among these bytes, with so many before it, or else is open
-abbrev pub ended : Piece → ℕ → Wrong → Text → Option ℕ → Found
-ended piece len otherwise bytes None = Err otherwise
-ended piece len otherwise bytes (Some n) = without_trigraph (take n bytes) (Ok (piece, len + n))
+abbrev pub piece_ended : Piece → ℕ → Wrong → Text → Option ℕ → Found
+piece_ended piece len otherwise bytes None = Err otherwise
+piece_ended piece len otherwise bytes (Some n) = without_trigraph (take n bytes) (Ok (piece, len + n))
 
 -- behind two strokes
 unfoldable pub line_at : Text → Found
@@ -78,8 +78,8 @@ line_at bytes = if spliced_behind false (take (line_len bytes) bytes) then Err w
 
 -- behind a stroke: a comment, or a mark
 unfoldable pub stroke_at : Text → Text → Found
-stroke_at bytes [] = marked (mark_at bytes)
-stroke_at bytes (b ∷ bs) = if b == 47 then line_at bs else if b == 42 then ended p.Nothing 2 wrong.OpenComment bs (comment_len bs) else marked (mark_at bytes)
+stroke_at bytes [] = mark_found (mark_at bytes)
+stroke_at bytes (b ∷ bs) = if b == 47 then line_at bs else if b == 42 then piece_ended p.Nothing 2 wrong.OpenComment bs (comment_len bs) else mark_found (mark_at bytes)
 
 -- behind a single quote: a byte that means itself, and another quote
 unfoldable pub letter_at : Text → Found
@@ -92,7 +92,7 @@ letter_at (b ∷ c ∷ bs) = if (c == 39) && not (b == 39) && not (b == 92) && n
 -- behind `#include` and blanks: a header
 unfoldable pub header_at : ℕ → Text → Found
 header_at len [] = Err wrong.OtherDirective
-header_at len (b ∷ bs) = if b == 60 then ended p.Include (len + 1) wrong.OtherDirective bs (closed_len 62 bs) else if b == 34 then ended p.Include (len + 1) wrong.OtherDirective bs (closed_len 34 bs) else Err wrong.OtherDirective
+header_at len (b ∷ bs) = if b == 60 then piece_ended p.Include (len + 1) wrong.OtherDirective bs (closed_len 62 bs) else if b == 34 then piece_ended p.Include (len + 1) wrong.OtherDirective bs (closed_len 34 bs) else Err wrong.OtherDirective
 
 -- behind `#pragma`: OpenMP's
 unfoldable pub omp_at : ℕ → Option Known × ℕ → Found
@@ -125,9 +125,9 @@ front on (b ∷ bs) =
     else if b == 92 then splice_at bs
     else if b == 47 then stroke_at (b ∷ bs) bs
     else if b == 35 then directive_at on bs
-    else if b == 34 then ended p.Text 1 wrong.OpenText bs (quoted_len false bs)
+    else if b == 34 then piece_ended p.Text 1 wrong.OpenText bs (quoted_len false bs)
     else if b == 39 then letter_at bs
     else if is_letter b then Ok (p.Name, name_len (b ∷ bs))
     else if is_digit b then numeral_at (b ∷ bs)
     else if begins_trigraph (b ∷ bs) then Err wrong.Trigraph
-    else marked (mark_at (b ∷ bs))
+    else mark_found (mark_at (b ∷ bs))

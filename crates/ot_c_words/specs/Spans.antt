@@ -77,9 +77,9 @@ has_trigraph (b ∷ bs) = begins_trigraph (b ∷ bs) || has_trigraph bs
 
 -- ---- a word of a directive, behind blanks
 
-abbrev pub unblanked : Text → Text
-unblanked bytes = drop (blank_len bytes) bytes
+abbrev pub without_blanks : Text → Text
+without_blanks bytes = drop (blank_len bytes) bytes
 
 -- which word it is, and how many bytes it has with the blanks
 unfoldable pub next_word : Text → Option Known × ℕ
-next_word bytes = (known_of (take (name_len (unblanked bytes)) (unblanked bytes)), blank_len bytes + name_len (unblanked bytes))
+next_word bytes = (known_of (take (name_len (without_blanks bytes)) (without_blanks bytes)), blank_len bytes + name_len (without_blanks bytes))

@@ -12,6 +12,6 @@ looked_up [] text = None
 looked_up (e ∷ es) text = if bytes_eq e.0 text then Some e.1 else looked_up es text
 
 -- the first of the table that begins the bytes, and how many it has
-abbrev pub begun : {X : Type 0} → List (Text × X) → Text → Option (X × ℕ)
-begun [] bytes = None
-begun (e ∷ es) bytes = if starts_with nat_eq bytes e.0 then Some (e.1, length e.0) else begun es bytes
+abbrev pub table_entry : {X : Type 0} → List (Text × X) → Text → Option (X × ℕ)
+table_entry [] bytes = None
+table_entry (e ∷ es) bytes = if starts_with nat_eq bytes e.0 then Some (e.1, length e.0) else table_entry es bytes

@@ -34,13 +34,13 @@ pub data Spoken : Type 0 where
   Pragma : Spoken
   End : Spoken
 
-abbrev pub meant : Text → Option Known → Spoken
-meant text (Some k) = Meant k
-meant text None = Named text
+abbrev pub name_meant : Text → Option Known → Spoken
+name_meant text (Some k) = Meant k
+name_meant text None = Named text
 
 -- the word that a name is
-unfoldable pub named : Text → Spoken
-named text = meant text (known_of text)
+unfoldable pub word_of_name : Text → Spoken
+word_of_name text = name_meant text (known_of text)
 
 -- ---- from pieces to words
 
@@ -50,29 +50,29 @@ in_directive line.Fresh = false
 in_directive line.Inside = false
 
 -- what stands on the line behind a piece
-unfoldable pub behind : Line → Piece → Line
-behind on p.Nothing = on
-behind on p.Feed = line.Fresh
-behind on p.Include = line.Directive
-behind on p.Define = line.Directive
-behind on p.Pragma = line.Directive
-behind on _ = if in_directive on then line.Directive else line.Inside
+unfoldable pub on_line_behind : Line → Piece → Line
+on_line_behind on p.Nothing = on
+on_line_behind on p.Feed = line.Fresh
+on_line_behind on p.Include = line.Directive
+on_line_behind on p.Define = line.Directive
+on_line_behind on p.Pragma = line.Directive
+on_line_behind on _ = if in_directive on then line.Directive else line.Inside
 
 abbrev pub end_of : Line → List Spoken
 end_of on = if in_directive on then End ∷ [] else []
 
 -- the words of a piece of this text: none, or one; the end of a line ends a directive
-unfoldable pub spoken : Line → Text → Piece → List Spoken
-spoken on text p.Nothing = []
-spoken on text p.Feed = end_of on
-spoken on text (p.Number n t) = Number n t ∷ []
-spoken on text p.Name = named text ∷ []
-spoken on text p.Text = Quoted ∷ []
-spoken on text (p.Letter b) = Letter b ∷ []
-spoken on text (p.Mark m) = Marked m ∷ []
-spoken on text p.Include = Include ∷ []
-spoken on text p.Define = Define ∷ []
-spoken on text p.Pragma = Pragma ∷ []
+unfoldable pub words_spoken : Line → Text → Piece → List Spoken
+words_spoken on text p.Nothing = []
+words_spoken on text p.Feed = end_of on
+words_spoken on text (p.Number n t) = Number n t ∷ []
+words_spoken on text p.Name = word_of_name text ∷ []
+words_spoken on text p.Text = Quoted ∷ []
+words_spoken on text (p.Letter b) = Letter b ∷ []
+words_spoken on text (p.Mark m) = Marked m ∷ []
+words_spoken on text p.Include = Include ∷ []
+words_spoken on text p.Define = Define ∷ []
+words_spoken on text p.Pragma = Pragma ∷ []
 
 -- ---- the whole
 
@@ -88,13 +88,13 @@ before at ws (Ok read) = Ok (map (λ w. at) ws ++ read.0, ws ++ read.1)
 -- from a piece at a place on, with what is read behind it
 abbrev pub from : Line → ℕ → Text → Found → (Piece → ℕ → Read) → Read
 from on at bytes (Err wrong) next = Err (record { wrong = wrong; start = at })
-from on at bytes (Ok found) next = before at (spoken on (take found.1 bytes) found.0) (next found.0 found.1)
+from on at bytes (Ok found) next = before at (words_spoken on (take found.1 bytes) found.0) (next found.0 found.1)
 
 -- the words from a place on, of whose piece so many bytes are still to be passed
 unfoldable pub words_at : Line → ℕ → ℕ → Text → Read
 words_at on at more [] = before at (end_of on) (Ok ([], []))
 words_at on at (suc more) (b ∷ bs) = words_at on (at + 1) more bs
-words_at on at zero (b ∷ bs) = from on at (b ∷ bs) (front on (b ∷ bs)) (λ piece len. words_at (behind on piece) (at + 1) (len - 1) bs)
+words_at on at zero (b ∷ bs) = from on at (b ∷ bs) (front on (b ∷ bs)) (λ piece len. words_at (on_line_behind on piece) (at + 1) (len - 1) bs)
 
 -- the words of a text, and at which byte each begins, or the first fault
 abbrev pub words_in : Text → Read

@@ -71,7 +71,7 @@ fn splice(bytes: &[u8]) -> Found
 }
 
 fn marked(bytes: &[u8]) -> Found
-    ensures value { result ≡ pieces.marked (longest bytes.now) }
+    ensures value { result ≡ pieces.mark_found (longest bytes.now) }
     ensures within { pieces.Advances (length bytes.now) result }
 {
     match mark_at(bytes) {
@@ -112,7 +112,7 @@ fn ended(piece: Piece, len: usize, otherwise: Wrong, bytes: &[u8], rest: Option<
     requires within { IfSome rest (λ n. n ≤ length bytes.now) }
     requires other { pieces.IsOther piece }
     requires some { 0 < len }
-    ensures value { result ≡ pieces.ended piece len otherwise bytes.now rest }
+    ensures value { result ≡ pieces.piece_ended piece len otherwise bytes.now rest }
     ensures other { IfOk result (λ x. (0 < x.1) × pieces.IsOther x.0) }
 {
     match rest {

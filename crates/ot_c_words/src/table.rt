@@ -1,6 +1,6 @@
 //! Texts, each with what it stands for.
 ghost use Rattle.std.specs.Prelude.{◌≡◌, ◌≤◌, map, length, IfSome};
-ghost use Rattle.ot_c_words.specs.Tables.{looked_up, begun};
+ghost use Rattle.ot_c_words.specs.Tables.{looked_up, table_entry};
 
 /// What a text stands for.
 pub(crate) fn look_up<X: Copy>(table: &[(&str, X)], text: &[u8]) -> Option<X>
@@ -16,7 +16,7 @@ pub(crate) fn look_up<X: Copy>(table: &[(&str, X)], text: &[u8]) -> Option<X>
 
 /// The first that begins the bytes, and how many it has.
 pub(crate) fn begin<X: Copy>(table: &[(&str, X)], bytes: &[u8]) -> Option<(X, usize)>
-    ensures value { result ≡ begun (map (λ e. (e.0.now, e.1)) table.now) bytes.now }
+    ensures value { result ≡ table_entry (map (λ e. (e.0.now, e.1)) table.now) bytes.now }
     ensures within { IfSome result (λ x. x.1 ≤ length bytes.now) }
 {
     for (word, meaning) in table {

@@ -3,7 +3,7 @@ ghost use Rattle.std.specs.Prelude.{◌≡◌, ◌≤◌, ◌<◌, [], ◌∷◌
 ghost use Rattle.std.specs.Str.{IsAscii};
 ghost use Rattle.ot_c_words.specs.Names.{known_of};
 ghost use Rattle.ot_c_words.specs.Pieces.{AsciiIfName};
-ghost use Rattle.ot_c_words.specs.Words.{named, spoken, end_of, words_in, name_spoken, texts, all_spoken, IsBelow, AreBelow, AreNames, Continues, Fails};
+ghost use Rattle.ot_c_words.specs.Words.{word_of_name, words_spoken, end_of, words_in, name_spoken, texts, all_spoken, IsBelow, AreBelow, AreNames, Continues, Fails};
 ghost use Rattle.ot_c_words.specs.Words as meant;
 
 use crate::fault::{Fault, ReadError};
@@ -30,9 +30,9 @@ fn in_directive(on: Line) -> bool
 }
 
 /// What stands on the line behind a piece.
-#[tactic(auto, unfolding(crate::specs::Words::behind))]
+#[tactic(auto, unfolding(crate::specs::Words::on_line_behind))]
 fn behind(on: Line, piece: Piece) -> Line
-    ensures { result ≡ meant.behind on piece }
+    ensures { result ≡ meant.on_line_behind on piece }
 {
     match piece {
         Piece::Nothing => on,
@@ -65,11 +65,11 @@ fn number_of(names: &mut IndexSet<String>, alloc: Global, name: &str) -> Result<
 }
 
 /// A name: what it means, or its number among the others.
-#[tactic(auto, unfolding(crate::specs::Words::named))]
+#[tactic(auto, unfolding(crate::specs::Words::word_of_name))]
 fn name_of(names: &mut IndexSet<String>, alloc: Global, name: &[u8]) -> Result<Name, AllocError>
     requires names { AreNames names.old.keys }
     requires ascii { IsAscii name.now }
-    ensures value { IfOk result (λ n. name_spoken (texts names.new.keys) n ≡ named name.now) }
+    ensures value { IfOk result (λ n. name_spoken (texts names.new.keys) n ≡ word_of_name name.now) }
     ensures below { IfOk result (λ n. IsBelow (length names.new.keys) (Word.Name n)) }
     ensures kept { OnOk result (Continues names.old.keys names.new.keys) }
     ensures names { OnOk result (AreNames names.new.keys) }
@@ -114,7 +114,7 @@ impl Words {
         requires ascii { IsAscii name.now }
         requires names { AreNames self.old.names.keys }
         requires below { AreBelow (length self.old.names.keys) self.old.words.items }
-        ensures words { OnOk result (all_spoken self.new.names.keys self.new.words.items ≡ all_spoken self.old.names.keys self.old.words.items ++ named name.now ∷ []) }
+        ensures words { OnOk result (all_spoken self.new.names.keys self.new.words.items ≡ all_spoken self.old.names.keys self.old.words.items ++ word_of_name name.now ∷ []) }
         ensures starts { OnOk result (self.new.starts.items ≡ self.old.starts.items ++ start ∷ []) }
         ensures below { OnOk result (AreBelow (length self.new.names.keys) self.new.words.items) }
         ensures names { OnOk result (AreNames self.new.names.keys) }
@@ -124,7 +124,7 @@ impl Words {
     }
 
     /// Puts the word behind the others that a piece of these bytes is, if it is any.
-    #[tactic(auto, using(crate::proofs::WordLemmas::spoken_push, crate::proofs::WordLemmas::below_push, crate::proofs::WordLemmas::names_same), unfolding(crate::specs::Words::spoken))]
+    #[tactic(auto, using(crate::proofs::WordLemmas::spoken_push, crate::proofs::WordLemmas::below_push, crate::proofs::WordLemmas::names_same), unfolding(crate::specs::Words::words_spoken))]
     fn put_piece(
         &mut self,
         alloc: Global,
@@ -136,8 +136,8 @@ impl Words {
         requires ascii { AsciiIfName piece bytes.now }
         requires names { AreNames self.old.names.keys }
         requires below { AreBelow (length self.old.names.keys) self.old.words.items }
-        ensures words { OnOk result (all_spoken self.new.names.keys self.new.words.items ≡ all_spoken self.old.names.keys self.old.words.items ++ spoken on bytes.now piece) }
-        ensures starts { OnOk result (self.new.starts.items ≡ self.old.starts.items ++ map (λ w. start) (spoken on bytes.now piece)) }
+        ensures words { OnOk result (all_spoken self.new.names.keys self.new.words.items ≡ all_spoken self.old.names.keys self.old.words.items ++ words_spoken on bytes.now piece) }
+        ensures starts { OnOk result (self.new.starts.items ≡ self.old.starts.items ++ map (λ w. start) (words_spoken on bytes.now piece)) }
         ensures below { OnOk result (AreBelow (length self.new.names.keys) self.new.words.items) }
         ensures names { OnOk result (AreNames self.new.names.keys) }
     {

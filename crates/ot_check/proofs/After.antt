@@ -3,7 +3,7 @@ use Rattle.std.proofs.Common.{◌≡◌, ◌⊎◌, ℕ, ◌+◌, ◌++◌, Bool
 use Rattle.std.specs.List.{list_any}
 use Rattle.ot_model.specs.Tree.{S, Set, Fold, If, Task, Wait, Group, Body, End, Next, size, size_one}
 use Rattle.ot_model.specs.declared.stmt.Use.{Use}
-use Rattle.ot_check.specs.Offences.{Create, Await, Enter, Leave, Step, At, touched, touches, PassesOne, Passes, awaits, is_awaited, unawaited}
+use Rattle.ot_check.specs.Offences.{Create, Await, Enter, Leave, Step, At, touch_steps, touches, PassesOne, Passes, awaits, is_awaited, unawaited_uses}
 use Rattle.ot_check.specs.Discipline.{Children, nobody, through, through_one, behind, behind_one}
 use Rattle.ot_check.proofs.Steps.{some_unawaited, IsClosed, awaited-append, touched-awaited, touched-unawaited, passes-closed, unawaited-append, unawaited-group}
 use Rattle.ot_check.proofs.Bits.{or_true, true_or, or_right, and_left, and_right, and_true, not_true, true_not, or_false_left, or_false_right, false_or, or_none, or_false}
@@ -25,8 +25,8 @@ mutual
 
 -- ---- a child that is there before
 
-awaited-inside : (d : List Use) (k : ℕ) (uses : List Use) (inside : List Step) → is_awaited d (touched k uses ++ inside) ≡ is_awaited d inside
-awaited-inside d k uses inside = awaited-append d (touched k uses) inside ∙ ap (λ b. b || is_awaited d inside) (touched-awaited d k uses)
+awaited-inside : (d : List Use) (k : ℕ) (uses : List Use) (inside : List Step) → is_awaited d (touch_steps k uses ++ inside) ≡ is_awaited d inside
+awaited-inside d k uses inside = awaited-append d (touch_steps k uses) inside ∙ ap (λ b. b || is_awaited d inside) (touched-awaited d k uses)
 
 awaited-group : (d : List Use) (k : ℕ) (inside : List Step) → is_awaited d (inside ++ At k Leave ∷ []) ≡ is_awaited d inside
 awaited-group d k inside = awaited-append d inside (At k Leave ∷ []) ∙ or_none (is_awaited d inside)
@@ -133,7 +133,7 @@ unfolding IsListed Left
 listed-left before path listed f h = elim (left-parts before path f h) [
   | inl old ↦ let one = listed (kept f path) old in
       (one.0, kept-test f path one.0 one.1, λ g is. left-from before path g (inl (one.2 (kept g path) (kept-is g path one.0 is (kept-none f path one.0 one.1)))))
-  | inr new ↦ let one = listed-list (unawaited path) f new in (one.0, one.1, λ g is. left-from before path g (inr (one.2 g is)))
+  | inr new ↦ let one = listed-list (unawaited_uses path) f new in (one.0, one.1, λ g is. left-from before path g (inr (one.2 g is)))
 ]
 
 mutual
@@ -214,8 +214,8 @@ module _ (before : Children) (listed : IsListed before) where
   unfolding Left
   left-all test path none h = left-from before path test (inl (more test (kept test path) (λ d is. kept-is test path d is (none d)) h))
 
-touched-none : (test : List Use → Bool) (k : ℕ) (uses : List Use) → some_unawaited test (touched k uses) ≡ false
-touched-none test k uses = ap (some_unawaited test) (sym (append-nil (touched k uses))) ∙ touched-unawaited test k uses []
+touched-none : (test : List Use → Bool) (k : ℕ) (uses : List Use) → some_unawaited test (touch_steps k uses) ≡ false
+touched-none test k uses = ap (some_unawaited test) (sym (append-nil (touch_steps k uses))) ∙ touched-unawaited test k uses []
 
 -- ---- what is unawaited on a path is carried by the walk
 mutual
@@ -260,14 +260,14 @@ mutual
 
   pub behind-to_one : (k : ℕ) (x : S) (p : Children) → IsListed p → (test : List Use → Bool) → behind_one p x test ≡ true
       → (path : List Step) × PassesOne k x path × (left_by p path test ≡ true)
-  behind-to_one k (Set c e) p lp test h = (_, refl, left-all p lp test (touched k (touches (Set c e))) (λ d. touched-awaited d k (touches (Set c e))) h)
-  behind-to_one k (Fold o c e) p lp test h = (_, refl, left-all p lp test (touched k (touches (Fold o c e))) (λ d. touched-awaited d k (touches (Fold o c e))) h)
+  behind-to_one k (Set c e) p lp test h = (_, refl, left-all p lp test (touch_steps k (touches (Set c e))) (λ d. touched-awaited d k (touches (Set c e))) h)
+  behind-to_one k (Fold o c e) p lp test h = (_, refl, left-all p lp test (touch_steps k (touches (Fold o c e))) (λ d. touched-awaited d k (touches (Fold o c e))) h)
   behind-to_one k (If e a b) p lp test h =
       elim (or_true (behind p a test) (behind p b test) h) [
         | inl one ↦ let q = behind-to (k + 1) a p lp test one in
-            (_, (q.0, refl, inl q.1), left-same p lp test q.0 (touched k (touches (If e a b)) ++ q.0) (λ d. sym (awaited-inside d k (touches (If e a b)) q.0)) (sym (touched-unawaited test k (touches (If e a b)) q.0)) q.2)
+            (_, (q.0, refl, inl q.1), left-same p lp test q.0 (touch_steps k (touches (If e a b)) ++ q.0) (λ d. sym (awaited-inside d k (touches (If e a b)) q.0)) (sym (touched-unawaited test k (touches (If e a b)) q.0)) q.2)
         | inr two ↦ let q = behind-to (k + 1 + size a) b p lp test two in
-            (_, (q.0, refl, inr q.1), left-same p lp test q.0 (touched k (touches (If e a b)) ++ q.0) (λ d. sym (awaited-inside d k (touches (If e a b)) q.0)) (sym (touched-unawaited test k (touches (If e a b)) q.0)) q.2)
+            (_, (q.0, refl, inr q.1), left-same p lp test q.0 (touch_steps k (touches (If e a b)) ++ q.0) (λ d. sym (awaited-inside d k (touches (If e a b)) q.0)) (sym (touched-unawaited test k (touches (If e a b)) q.0)) q.2)
       ]
   behind-to_one k (Task uses b) p lp test h =
       let path : List Step = At k (Create uses) ∷ [] in (

@@ -7,7 +7,7 @@ use Rattle.ot_model.specs.Tree.{S, Set, Fold, If, Task, Wait, Group, Body, End, 
 use Rattle.ot_model.specs.declared.stmt.Use.{Use}
 use Rattle.ot_check.specs.Offences.{Declared, Openings, awaits, Offends, IsFirstOf}
 use Rattle.ot_check.specs.Discipline.{OffendsNowhere, Children, nobody, nothing_open, behind_one, behind, through, through_one, with_group, may_break, is_offence, ends_with_children, marks, IsClean, IsFineInside, IsFine, AreFewer}
-use Rattle.ot_check.specs.walk.Walk.{leading, placed, first, first_inside, first_one}
+use Rattle.ot_check.specs.walk.Walk.{leading, offence_at, first, first_inside, first_one}
 use Rattle.ot_check.specs.declared.fault.Offence.{Offence}
 use Rattle.ot_check.specs.declared.fault.Offence.TheVariants.{NotDeclared, ChildBeyond, ReductionMisuse, ConflictsWithChild, EndsWithChildren}
 use Rattle.ot_check.proofs.PathsTold.{may_break-more}
@@ -24,7 +24,7 @@ none_right : {A : Type 0} (f g : Option A) → option_or f g ≡ None → g ≡ 
 none_right None g h = h
 none_right (Some x) g h = cc
 
-none_placed : (k : ℕ) (o : Option Offence) → placed k o ≡ None → o ≡ None
+none_placed : (k : ℕ) (o : Option Offence) → offence_at k o ≡ None → o ≡ None
 none_placed k None h = refl
 none_placed k (Some x) h = cc
 
@@ -67,7 +67,7 @@ mutual
       → IsFine own opened children b
   fine-first own opened children k End h = tt
   fine-first own opened children k (Next x rest) h =
-      let own_one = placed k (leading (is_offence own opened children x)) in
+      let own_one = offence_at k (leading (is_offence own opened children x)) in
       let one = none_left (first_one own opened children k x) (first own opened (behind_one children x) (k + size_one x) rest) h in (
         none_leads (is_offence own opened children x) (none_placed k _ (none_left own_one (first_inside own opened children k x) one)),
         fine_inside-first own opened children k x (none_right own_one (first_inside own opened children k x) one),

@@ -4,7 +4,7 @@ use Rattle.std.proofs.lemmas.List.{length-set, length-replicate}
 use Rattle.std.specs.Prelude.{Option, Some, None, IsSome, option_and_then, slice_get, replicate}
 use Rattle.ot_model.specs.declared.expr.Cell.{Cell}
 use Rattle.ot_model.proofs.CellsLemmas.{cells_apart}
-use Rattle.ot_check.specs.walk.Rows.{found_at, widths, filled}
+use Rattle.ot_check.specs.walk.Rows.{found_at, widths, rows_filled}
 
 pub slice_get-set_same : {A : Type 0} (xs : List A) (i : ℕ) (y : A) → IsSome (slice_get xs i) → slice_get (set xs i y) i ≡ Some y
 slice_get-set_same [] i y there = cc
@@ -68,14 +68,14 @@ found_at-replicate (suc n) zero x y h = cc
 found_at-replicate (suc n) (suc i) x y h = found_at-replicate n i x y h
 
 pub found_at-filled : {A : Type 0} (x y : A) (lens : List ℕ) (a i : ℕ)
-    → option_and_then (λ row. slice_get row i) (slice_get (filled x lens) a) ≡ Some y → y ≡ x
+    → option_and_then (λ row. slice_get row i) (slice_get (rows_filled x lens) a) ≡ Some y → y ≡ x
 found_at-filled x y [] a i h = cc
 found_at-filled x y (n ∷ lens) zero i h = found_at-replicate n i x y h
 found_at-filled x y (n ∷ lens) (suc a) i h = found_at-filled x y lens a i h
 
-pub widths-filled : {A : Type 0} (x : A) (lens : List ℕ) → widths (filled x lens) ≡ lens
+pub widths-filled : {A : Type 0} (x : A) (lens : List ℕ) → widths (rows_filled x lens) ≡ lens
 widths-filled x [] = refl
-widths-filled x (n ∷ lens) = ap (λ m. m ∷ widths (filled x lens)) (length-replicate n x) ∙ ap (λ ns. n ∷ ns) (widths-filled x lens)
+widths-filled x (n ∷ lens) = ap (λ m. m ∷ widths (rows_filled x lens)) (length-replicate n x) ∙ ap (λ ns. n ∷ ns) (widths-filled x lens)
 
 pub row_of_cell : {A : Type 0} (rows : List (List A)) (c : Cell) → IsSome (found_at rows c) → IsSome (slice_get rows c.array)
 row_of_cell rows c there = row_there (slice_get rows c.array) c.index there

@@ -5,7 +5,7 @@ use Rattle.std.specs.Option.{option_or}
 use Rattle.ot_model.specs.Tree.{S, Set, Fold, If, Task, Wait, Group, Body, End, Next, size, size_one}
 use Rattle.ot_check.specs.Offences.{Declared, Openings, IsFirstOf, rank}
 use Rattle.ot_check.specs.Discipline.{Children, nobody, nothing_open, behind_one, with_group, is_offence}
-use Rattle.ot_check.specs.walk.Walk.{leading, placed, first, first_inside}
+use Rattle.ot_check.specs.walk.Walk.{leading, offence_at, first, first_inside}
 use Rattle.ot_check.specs.declared.fault.Offence.{Offence}
 use Rattle.ot_check.specs.declared.fault.Offence.TheVariants.{NotDeclared, ChildBeyond, ReductionMisuse, ConflictsWithChild, EndsWithChildren}
 
@@ -90,7 +90,7 @@ told k false false false false true = Some (k, EndsWithChildren)
 told k false false false false false = None
 
 told-is : (k : ℕ) (holds : Offence → Bool) (a b c d e : Bool) → holds NotDeclared ≡ a → holds ChildBeyond ≡ b → holds ReductionMisuse ≡ c
-    → holds ConflictsWithChild ≡ d → holds EndsWithChildren ≡ e → placed k (leading holds) ≡ told k a b c d e
+    → holds ConflictsWithChild ≡ d → holds EndsWithChildren ≡ e → offence_at k (leading holds) ≡ told k a b c d e
 told-is k holds true b c d e ha hb hc hd he = rw ha refl
 told-is k holds false true c d e ha hb hc hd he = rw (ha, hb) refl
 told-is k holds false false true d e ha hb hc hd he = rw (ha, hb, hc) refl
@@ -145,7 +145,7 @@ told-first k holds false false false false false ha hb hc hd he = none
     none p ConflictsWithChild h = let q : false ≡ true = sym hd ∙ h.1 in cc
     none p EndsWithChildren h = let q : false ≡ true = sym he ∙ h.1 in cc
 
-here-first : (k : ℕ) (holds : Offence → Bool) → IsFirstOf (Here k holds) (placed k (leading holds))
+here-first : (k : ℕ) (holds : Offence → Bool) → IsFirstOf (Here k holds) (offence_at k (leading holds))
 here-first k holds =
     subst (IsFirstOf (Here k holds)) (sym (told-is k holds _ _ _ _ _ refl refl refl refl refl))
     (told-first k holds (holds NotDeclared) (holds ChildBeyond) (holds ReductionMisuse) (holds ConflictsWithChild) (holds EndsWithChildren) refl refl refl refl refl)
@@ -172,10 +172,10 @@ mutual
   meets-first own opened children k End = none_first
   meets-first own opened children k (Next x rest) =
       or_first (MeetsOne own opened children k x) (Meets own opened (behind_one children x) (k + size_one x) rest)
-      (option_or (placed k (leading (is_offence own opened children x))) (first_inside own opened children k x))
+      (option_or (offence_at k (leading (is_offence own opened children x))) (first_inside own opened children k x))
       (first own opened (behind_one children x) (k + size_one x) rest)
       (or_first (Here k (is_offence own opened children x)) (MeetsInside own opened children k x)
-      (placed k (leading (is_offence own opened children x))) (first_inside own opened children k x)
+      (offence_at k (leading (is_offence own opened children x))) (first_inside own opened children k x)
       (here-first k (is_offence own opened children x)) (inside-first own opened children k x)
       (λ p c q d h g. let r = inside-places own opened children k x q d g in omega (arith, h.0, r.0)))
       (meets-first own opened (behind_one children x) (k + size_one x) rest)

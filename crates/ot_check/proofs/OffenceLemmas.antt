@@ -9,7 +9,7 @@ use Rattle.ot_model.specs.declared.stmt.Mode.TheVariants.{Reads, Writes, Folds}
 use Rattle.ot_model.specs.declared.stmt.Use.{Use}
 use Rattle.ot_check.specs.Offences.{Mark, Touch, Create, Await, Enter, Leave, use_as, Declared, Openings, exceeds, misfits}
 use Rattle.ot_check.specs.Discipline.{Children, may_break, marks, is_marked, is_offence, ends_with_children}
-use Rattle.ot_check.specs.walk.Walk.{ended, ending}
+use Rattle.ot_check.specs.walk.Walk.{ending_offence, ending}
 use Rattle.ot_check.specs.declared.fault.Offence.{Offence}
 use Rattle.ot_check.specs.declared.fault.Offence.TheVariants.{NotDeclared, ChildBeyond, ReductionMisuse, ConflictsWithChild, EndsWithChildren}
 use Rattle.ot_check.proofs.Bits.{or_none, any-map, any-same, none_any}
@@ -109,7 +109,7 @@ no_ends (Task d b) = (refl, refl, refl, refl)
 no_ends (Wait w) = (refl, refl, refl, refl)
 no_ends (Group o cs b) = (refl, refl, refl, refl)
 
-pub ended-is : (x : S) → ended (ends_with_children x EndsWithChildren) ≡ ending x
+pub ended-is : (x : S) → ending_offence (ends_with_children x EndsWithChildren) ≡ ending x
 ended-is (Set c e) = refl
 ended-is (Fold o c e) = refl
 ended-is (If e a b) = refl

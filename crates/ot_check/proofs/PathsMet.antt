@@ -7,7 +7,7 @@ use Rattle.ot_model.specs.declared.expr.Cell.{Cell}
 use Rattle.ot_model.specs.Cells.{same_fold}
 use Rattle.ot_model.specs.declared.fold.Fold.{Fold as Operation}
 use Rattle.ot_model.specs.declared.stmt.Use.{Use}
-use Rattle.ot_check.specs.Offences.{Mark, Touch, Create, Await, Enter, Leave, Step, At, touched, touches, PassesOne, Passes, Declared, Openings, has_cell, unawaited, is_open, OnPath, InTasks, InTasksOfOne, Offends, IsFirstOf}
+use Rattle.ot_check.specs.Offences.{Mark, Touch, Create, Await, Enter, Leave, Step, At, touch_steps, touches, PassesOne, Passes, Declared, Openings, has_cell, unawaited_uses, is_open, OnPath, InTasks, InTasksOfOne, Offends, IsFirstOf}
 use Rattle.ot_check.specs.Discipline.{Children, may_break, anyone, nobody, nothing_open, behind_one, with_group, ends_with_children}
 use Rattle.ot_check.specs.walk.Walk.{first}
 use Rattle.ot_check.proofs.Steps.{some_unawaited, passes_one-closed, unawaited-append}
@@ -60,7 +60,7 @@ here-behind prefix opened children own mark offence reaches h =
     )
 
 reaches-touched : {I : Type 0} (prefix : I → List Step) (opened : Openings) (children : Children) (k : ℕ) (uses : List Use)
-    → Reaches I prefix opened children → Reaches I (λ i. prefix i ++ touched k uses) opened children
+    → Reaches I prefix opened children → Reaches I (λ i. prefix i ++ touch_steps k uses) opened children
 reaches-touched prefix opened children k uses h = record {
   groups = λ i o c. h.groups i o c ∙ sym (quiet-open o c (prefix i) k uses);
   unawaited = λ test is. let q = h.unawaited test is in (q.0, quiet-unawaited test (prefix q.0) k uses ∙ q.1);
@@ -135,15 +135,15 @@ stands-before prefix more Path Whole own place offence whole (before, later, mar
 -- an offence among the touches of a statement
 touch-stands : {I : Type 0} (prefix : I → List Step) (opened : Openings) (children : Children) (own : Declared) (k : ℕ) (uses : List Use) (offence : Offence)
     → Reaches I prefix opened children → list_any (λ m. may_break own opened children m offence) (map Touch uses) ≡ true
-    → (i : I) × Stands (prefix i) (λ p. p ≡ touched k uses) own k offence
+    → (i : I) × Stands (prefix i) (λ p. p ≡ touch_steps k uses) own k offence
 touch-stands prefix opened children own k [] offence reaches h = cc
 touch-stands {I} prefix opened children own k (u ∷ uses) offence reaches h =
     elim (or_true (may_break own opened children (Touch u) offence) (list_any (λ m. may_break own opened children m offence) (map Touch uses)) h) [
-      | inl one ↦ let q = here-behind prefix opened children own (Touch u) offence reaches one in (q.0, ([], touched k uses, Touch u, refl, q.1))
+      | inl one ↦ let q = here-behind prefix opened children own (Touch u) offence reaches one in (q.0, ([], touch_steps k uses, Touch u, refl, q.1))
       | inr more ↦
-          let q = touch-stands (λ i. prefix i ++ touched k (u ∷ [])) opened children own k uses offence (reaches-touched prefix opened children k (u ∷ []) reaches) more in (
+          let q = touch-stands (λ i. prefix i ++ touch_steps k (u ∷ [])) opened children own k uses offence (reaches-touched prefix opened children k (u ∷ []) reaches) more in (
             q.0,
-            stands-behind (prefix q.0) (touched k (u ∷ [])) (λ p. p ≡ touched k uses) (λ p. p ≡ touched k (u ∷ uses)) own k offence
+            stands-behind (prefix q.0) (touch_steps k (u ∷ [])) (λ p. p ≡ touch_steps k uses) (λ p. p ≡ touch_steps k (u ∷ uses)) own k offence
                 (λ p is. ap (λ p. At k (Touch u) ∷ p) is) q.1,
           )
     ]
@@ -157,7 +157,7 @@ abbrev OneFound : (I : Type 0) → (I → List Step) → ℕ → S → Declared 
 OneFound I prefix k x own place offence = Found I prefix (PassesOne k x) (InTasksOfOne k x) own place offence
 
 own_touch-found : {I : Type 0} (prefix : I → List Step) (opened : Openings) (children : Children) (own : Declared) (k : ℕ) (x : S) (place : ℕ) (offence : Offence)
-    → Reaches I prefix opened children → (Whole : List Step → Type 0) → ((p : List Step) → p ≡ touched k (touches x) → Whole p)
+    → Reaches I prefix opened children → (Whole : List Step → Type 0) → ((p : List Step) → p ≡ touch_steps k (touches x) → Whole p)
     → place ≡ k → list_any (λ m. may_break own opened children m offence) (map Touch (touches x)) ≡ true
     → (i : I) × Stands (prefix i) Whole own place offence
 own_touch-found prefix opened children own k x place offence reaches Whole whole here h =
@@ -172,12 +172,12 @@ ends-are d b k place NotDeclared here h = cc
 ends-are d b k place ChildBeyond here h = cc
 ends-are d b k place ReductionMisuse here h = cc
 ends-are d b k place ConflictsWithChild here h = cc
-ends-are d b k place EndsWithChildren here h = let p = behind-to (k + 1) b nobody listed-nobody anyone h in inl (here, refl, (p.0, p.1, there_someone (unawaited p.0) (sym (left-is nobody p.0 anyone) ∙ p.2)))
+ends-are d b k place EndsWithChildren here h = let p = behind-to (k + 1) b nobody listed-nobody anyone h in inl (here, refl, (p.0, p.1, there_someone (unawaited_uses p.0) (sym (left-is nobody p.0 anyone) ∙ p.2)))
 
 -- behind nothing it stands on the path itself
 stands-on_path : (k : ℕ) (b : Body) (own : Declared) (place : ℕ) (offence : Offence) → Stands [] (Passes k b) own place offence → OnPath k b own place offence
 stands-on_path k b own place offence (before, later, mark, way, h) =
-    (before, later, mark, way, sym (may_break-breaks own (is_open before) (unawaited before) mark offence) ∙ h)
+    (before, later, mark, way, sym (may_break-breaks own (is_open before) (unawaited_uses before) mark offence) ∙ h)
 
 reaches-nothing : Reaches (Unit {0}) (λ (i : Unit {0}). []) nothing_open nobody
 reaches-nothing = record { groups = λ i o c. refl; unawaited = λ test h. (tt, h); listed = listed-nobody; someone = tt }
@@ -193,28 +193,28 @@ mutual
   found_one prefix own opened children k (Fold o c e) place offence reaches (inr h) = absurd h
   found_one prefix own opened children k (If e a b) place offence reaches (inl (here, h)) =
       let way = some_path (k + 1) a in
-      let q = own_touch-found prefix opened children own k (If e a b) place offence reaches (λ p. p ≡ touched k (touches (If e a b))) (λ p is. is) here (or_false _ h) in
+      let q = own_touch-found prefix opened children own k (If e a b) place offence reaches (λ p. p ≡ touch_steps k (touches (If e a b))) (λ p is. is) here (or_false _ h) in
       inl (
         q.0,
-        stands-before (prefix q.0) way.0 (λ p. p ≡ touched k (touches (If e a b))) (PassesOne k (If e a b)) own place offence
+        stands-before (prefix q.0) way.0 (λ p. p ≡ touch_steps k (touches (If e a b))) (PassesOne k (If e a b)) own place offence
             (λ p is. (way.0, ap (λ p. p ++ way.0) is, inl way.1)) q.1,
       )
   found_one {I} prefix own opened children k (If e a b) place offence reaches (inr (inl h)) =
-      elim (found (λ i. prefix i ++ touched k (touches (If e a b))) own opened children (k + 1) a place offence
+      elim (found (λ i. prefix i ++ touch_steps k (touches (If e a b))) own opened children (k + 1) a place offence
       (reaches-touched prefix opened children k (touches (If e a b)) reaches) h) [
         | inl q ↦ inl (
           q.0,
-          stands-behind (prefix q.0) (touched k (touches (If e a b))) (Passes (k + 1) a) (PassesOne k (If e a b)) own place offence
+          stands-behind (prefix q.0) (touch_steps k (touches (If e a b))) (Passes (k + 1) a) (PassesOne k (If e a b)) own place offence
               (λ p way. (p, refl, inl way)) q.1,
         )
         | inr t ↦ inr (inl t)
       ]
   found_one {I} prefix own opened children k (If e a b) place offence reaches (inr (inr h)) =
-      elim (found (λ i. prefix i ++ touched k (touches (If e a b))) own opened children (k + 1 + size a) b place offence
+      elim (found (λ i. prefix i ++ touch_steps k (touches (If e a b))) own opened children (k + 1 + size a) b place offence
       (reaches-touched prefix opened children k (touches (If e a b)) reaches) h) [
         | inl q ↦ inl (
           q.0,
-          stands-behind (prefix q.0) (touched k (touches (If e a b))) (Passes (k + 1 + size a) b) (PassesOne k (If e a b)) own place offence
+          stands-behind (prefix q.0) (touch_steps k (touches (If e a b))) (Passes (k + 1 + size a) b) (PassesOne k (If e a b)) own place offence
               (λ p way. (p, refl, inr way)) q.1,
         )
         | inr t ↦ inr (inr t)

@@ -9,7 +9,7 @@ use Rattle.ot_model.specs.declared.fold.Fold.{Fold as Operation}
 use Rattle.ot_model.specs.declared.stmt.Mode.{Mode}
 use Rattle.ot_model.specs.declared.stmt.Mode.TheVariants.{Reads, Writes, Folds}
 use Rattle.ot_model.specs.declared.stmt.Use.{Use}
-use Rattle.ot_check.specs.Offences.{Mark, Touch, Create, Await, Enter, Leave, Step, At, touched, touches, use_as, PassesOne, Passes, Declared, Openings, folds_to, allows, breaks, misfits, misfits_as, has_cell, unawaited, is_open, OnPath, InTasks, InTasksOfOne}
+use Rattle.ot_check.specs.Offences.{Mark, Touch, Create, Await, Enter, Leave, Step, At, touch_steps, touches, use_as, PassesOne, Passes, Declared, Openings, folds_to, allows, breaks, misfits, misfits_as, has_cell, unawaited_uses, is_open, OnPath, InTasks, InTasksOfOne}
 use Rattle.ot_check.specs.Discipline.{Children, may_break, anyone, nobody, nothing_open, behind_one, with_group, is_offence, marks, behind}
 use Rattle.ot_check.proofs.Steps.{some_unawaited, closed_of, touched-balanced, touched-open, touched-unawaited, touched-awaited, passes_one-closed, passes_one-open, unawaited-append, open-append}
 use Rattle.ot_check.specs.declared.fault.Offence.{Offence}
@@ -80,22 +80,22 @@ pub record Holds (prefix : List Step) (opened : Openings) (children : Children) 
   pub listed : IsListed children
 
 -- a step of a touch changes neither
-pub quiet-open : (o : Operation) (c : Cell) (prefix : List Step) (k : ℕ) (uses : List Use) → is_open (prefix ++ touched k uses) o c ≡ is_open prefix o c
+pub quiet-open : (o : Operation) (c : Cell) (prefix : List Step) (k : ℕ) (uses : List Use) → is_open (prefix ++ touch_steps k uses) o c ≡ is_open prefix o c
 quiet-open o c prefix k uses =
-    open-append o c prefix (touched k uses) (closed_of (touched k uses) (touched-balanced k uses))
-    ∙ ap (λ b. is_open prefix o c || b) (ap (λ p. is_open p o c) (sym (append-nil (touched k uses))) ∙ touched-open o c k uses []) ∙ or_none (is_open prefix o c)
+    open-append o c prefix (touch_steps k uses) (closed_of (touch_steps k uses) (touched-balanced k uses))
+    ∙ ap (λ b. is_open prefix o c || b) (ap (λ p. is_open p o c) (sym (append-nil (touch_steps k uses))) ∙ touched-open o c k uses []) ∙ or_none (is_open prefix o c)
 
 pub quiet-unawaited : (test : List Use → Bool) (prefix : List Step) (k : ℕ) (uses : List Use)
-    → some_unawaited test (prefix ++ touched k uses) ≡ some_unawaited test prefix
+    → some_unawaited test (prefix ++ touch_steps k uses) ≡ some_unawaited test prefix
 quiet-unawaited test prefix k uses =
-    unawaited-append test prefix (touched k uses) (closed_of (touched k uses) (touched-balanced k uses))
-    ∙ ap (λ b. b || some_unawaited test (touched k uses)) (any-same _ test (unawaited prefix) (λ d.
+    unawaited-append test prefix (touch_steps k uses) (closed_of (touch_steps k uses) (touched-balanced k uses))
+    ∙ ap (λ b. b || some_unawaited test (touch_steps k uses)) (any-same _ test (unawaited_uses prefix) (λ d.
     ap (λ w. test d && not w) (touched-awaited d k uses) ∙ and_one (test d)))
-    ∙ ap (λ b. some_unawaited test prefix || b) (ap (some_unawaited test) (sym (append-nil (touched k uses))) ∙ touched-unawaited test k uses [])
+    ∙ ap (λ b. some_unawaited test prefix || b) (ap (some_unawaited test) (sym (append-nil (touch_steps k uses))) ∙ touched-unawaited test k uses [])
     ∙ or_none (some_unawaited test prefix)
 
 holds-touched : (prefix : List Step) (opened : Openings) (children : Children) (k : ℕ) (uses : List Use) → Holds prefix opened children
-    → Holds (prefix ++ touched k uses) opened children
+    → Holds (prefix ++ touch_steps k uses) opened children
 holds-touched prefix opened children k uses h = record {
   groups = λ o c. quiet-open o c prefix k uses ∙ h.groups o c;
   unawaited = λ test is. h.unawaited test (sym (quiet-unawaited test prefix k uses) ∙ is);
@@ -111,7 +111,7 @@ pub entered-unawaited : (test : List Use → Bool) (prefix : List Step) (k : ℕ
     → some_unawaited test (prefix ++ At k (Enter by cs) ∷ []) ≡ some_unawaited test prefix
 entered-unawaited test prefix k by cs =
     unawaited-append test prefix (At k (Enter by cs) ∷ []) (λ n. refl)
-    ∙ or_none (some_unawaited (λ d. test d && true) prefix) ∙ any-same _ test (unawaited prefix) (λ d. and_one (test d))
+    ∙ or_none (some_unawaited (λ d. test d && true) prefix) ∙ any-same _ test (unawaited_uses prefix) (λ d. and_one (test d))
 
 holds-entered : (prefix : List Step) (opened : Openings) (children : Children) (k : ℕ) (by : Operation) (cs : List Cell) → Holds prefix opened children
     → Holds (prefix ++ At k (Enter by cs) ∷ []) (with_group opened by cs) children
@@ -130,7 +130,7 @@ holds-passed : (prefix : List Step) (opened : Openings) (children : Children) (k
     → Holds prefix opened children → Holds (prefix ++ one) opened (behind_one children x)
 holds-passed prefix opened children k x one passes h = record {
   groups = λ o c. passed-open o c prefix k x one passes ∙ h.groups o c;
-  unawaited = λ test is. behind-from_one k x one passes (λ test. some_unawaited test prefix) children (listed-list (unawaited prefix)) h.listed h.unawaited test
+  unawaited = λ test is. behind-from_one k x one passes (λ test. some_unawaited test prefix) children (listed-list (unawaited_uses prefix)) h.listed h.unawaited test
       (left-is (λ test. some_unawaited test prefix) one test ∙ sym (unawaited-append test prefix one (passes_one-closed k x one passes)) ∙ is);
   listed = listed-behind_one children x h.listed;
 }
@@ -153,7 +153,7 @@ here-breaks prefix opened children own mark offence h is =
 
 -- an offence among the touches of a statement
 touched-meets : (own : Declared) (opened : Openings) (children : Children) (k : ℕ) (uses : List Use) (prefix before later : List Step)
-    (place : ℕ) (mark : Mark) (offence : Offence) → Holds prefix opened children → touched k uses ≡ before ++ At place mark ∷ later
+    (place : ℕ) (mark : Mark) (offence : Offence) → Holds prefix opened children → touch_steps k uses ≡ before ++ At place mark ∷ later
     → BreaksBehind prefix before own mark offence
     → (place ≡ k) × (list_any (λ m. may_break own opened children m offence) (map Touch uses) ≡ true)
 touched-meets own opened children k [] prefix [] later place mark offence holds is h = cc
@@ -165,7 +165,7 @@ touched-meets own opened children k (u ∷ uses) prefix [] later place mark offe
     (sym at_place, true_or _ _ (ap (λ m. may_break own opened children m offence) what ∙ here-breaks prefix opened children own mark offence holds h))
 touched-meets own opened children k (u ∷ uses) prefix (b ∷ before) later place mark offence holds is h =
     let step : At k (Touch u) ≡ b = cc in
-    let rest : touched k uses ≡ before ++ At place mark ∷ later = cc in
+    let rest : touch_steps k uses ≡ before ++ At place mark ∷ later = cc in
     let moved : BreaksBehind (prefix ++ At k (Touch u) ∷ []) before own mark offence =
     behind-more prefix (At k (Touch u) ∷ []) before own mark offence (subst (λ s. BreaksBehind prefix (s ∷ before) own mark offence) (sym step) h) in
     let q = touched-meets own opened children k uses (prefix ++ At k (Touch u) ∷ []) before later place mark offence
@@ -199,18 +199,18 @@ mutual
       let q = touched-meets own opened children k (touches (Fold o c e)) prefix before later place mark offence holds (sym is) h in
       inl (q.0, true_or _ _ q.1)
   meets-from_one own opened children k (If e a b) prefix before later place mark offence holds (inside, is, way) h =
-      elim (append_split (touched k (touches (If e a b))) inside before (At place mark) later (sym is)) [
+      elim (append_split (touch_steps k (touches (If e a b))) inside before (At place mark) later (sym is)) [
         | inl p ↦
             let q = touched-meets own opened children k (touches (If e a b)) prefix before p.0 place mark offence holds p.1 h in
             inl (q.0, true_or _ _ q.1)
         | inr p ↦
             let held = holds-touched prefix opened children k (touches (If e a b)) holds in
-            let moved = behind-more prefix (touched k (touches (If e a b))) p.0 own mark offence
+            let moved = behind-more prefix (touch_steps k (touches (If e a b))) p.0 own mark offence
             (subst (λ b. BreaksBehind prefix b own mark offence) p.1 h) in
             inr (elim way [
-              | inl one ↦ inl (meets-from own opened children (k + 1) a (prefix ++ touched k (touches (If e a b))) p.0 later place mark offence held
+              | inl one ↦ inl (meets-from own opened children (k + 1) a (prefix ++ touch_steps k (touches (If e a b))) p.0 later place mark offence held
                   (subst (Passes (k + 1) a) p.2 one) moved)
-              | inr two ↦ inr (meets-from own opened children (k + 1 + size a) b (prefix ++ touched k (touches (If e a b))) p.0 later place mark offence held
+              | inr two ↦ inr (meets-from own opened children (k + 1 + size a) b (prefix ++ touch_steps k (touches (If e a b))) p.0 later place mark offence held
                   (subst (Passes (k + 1 + size a) b) p.2 two) moved)
             ])
       ]
@@ -271,7 +271,7 @@ pub meets-on_path : (k : ℕ) (b : Body) (own : Declared) (place : ℕ) (offence
     → Meets own nothing_open nobody k b place offence
 meets-on_path k b own place offence (before, later, mark, way, h) =
     meets-from own nothing_open nobody k b [] before later place mark offence holds-nothing way
-    (may_break-breaks own (is_open before) (unawaited before) mark offence ∙ h)
+    (may_break-breaks own (is_open before) (unawaited_uses before) mark offence ∙ h)
 
 pub someone_there : (children : List (List Use)) → children ≢ [] → list_any anyone children ≡ true
 someone_there [] h = absurd (h refl)
@@ -292,7 +292,7 @@ mutual
   meets-in_tasks_one own opened children k (Task d b) place offence (inl (here, is, left)) =
       let ends : behind nobody b anyone ≡ true =
       behind-from (k + 1) b left.0 left.1 nobody nobody listed-nobody listed-nobody (λ test e. e) anyone
-      (left-is nobody left.0 anyone ∙ someone_there (unawaited left.0) left.2) in
+      (left-is nobody left.0 anyone ∙ someone_there (unawaited_uses left.0) left.2) in
       inl (here, subst (λ c. is_offence own opened children (Task d b) c ≡ true) (sym is) (or_right (list_any (λ m. may_break own opened children m EndsWithChildren) (marks (Task d b))) (behind nobody b anyone) ends))
   meets-in_tasks_one own opened children k (Task d b) place offence (inr (inl h)) = inr (meets-on_path (k + 1) b (Some d) place offence h)
   meets-in_tasks_one own opened children k (Task d b) place offence (inr (inr h)) = inr (meets-in_tasks (Some d) nothing_open nobody (k + 1) b place offence h)

@@ -11,7 +11,7 @@ use Rattle.ot_model.specs.declared.stmt.Use.{Use}
 use Rattle.ot_check.specs.Offences.{Declared, Openings, awaits, clashes, has_cell}
 use Rattle.ot_check.specs.Discipline.{Children, anyone, behind_one, nobody, nothing_open, with_group}
 use Rattle.ot_sets.specs.Sets.{has}
-use Rattle.ot_check.specs.walk.States.{is_open, met, AreOf, IsBegun, Stands, IsBehind, Leads, Represents, among, one_more, of_both, with_children, with_others}
+use Rattle.ot_check.specs.walk.States.{is_open, is_met_by, AreOf, IsBegun, Stands, IsBehind, Leads, Represents, among, one_more, of_both, with_children, with_others}
 use Rattle.ot_sets.specs.declared.numbers.Numbers.{Numbers}
 use Rattle.ot_check.specs.declared.standing.Region.{Region}
 use Rattle.ot_check.specs.declared.standing.Standing.{Standing}
@@ -50,7 +50,7 @@ stands-grouped own opened children decls by cells old new h declares same are en
 -- ---- what the children are asked
 
 pub stands-clash : (own : Declared) (opened : Openings) (children : Children) (decls : List (List Use)) (region : Region) (tasks : Tasks)
-    → Stands own opened children decls region tasks → (u : Use) → met region.unawaited tasks.users u ≡ children (clashes u)
+    → Stands own opened children decls region tasks → (u : Use) → is_met_by region.unawaited tasks.users u ≡ children (clashes u)
 stands-clash own opened children decls region tasks h u = met-told tasks.users decls h.known.told region.unawaited u ∙ sym (h.those (clashes u))
 
 stands-none : (own : Declared) (opened : Openings) (children : Children) (decls : List (List Use)) (region : Region) (tasks : Tasks)

@@ -7,7 +7,7 @@ use Rattle.ot_model.specs.Cells.{same_cell, number_of, same_fold}
 use Rattle.ot_model.specs.declared.expr.Cell.{Cell}
 use Rattle.ot_model.specs.declared.fold.Fold.{Fold as Operation}
 use Rattle.ot_check.specs.walk.States.{holds, row_has, rows_of, set_has, users_at}
-use Rattle.ot_check.specs.walk.Rows.{users_of, users_of_row, users_in, HaveRows, found_at, filled, widths}
+use Rattle.ot_check.specs.walk.Rows.{users_of, users_of_row, users_in, HaveRows, found_at, rows_filled, widths}
 use Rattle.ot_sets.specs.Sets.{bit_in, has, words_of}
 use Rattle.ot_check.specs.declared.cell_set.CellSet.{CellSet}
 use Rattle.ot_sets.specs.declared.numbers.Numbers.{Numbers}
@@ -41,13 +41,13 @@ map-filled-row : {A B : Type 0} (f : A → B) (n : ℕ) (x : A) → map f (repli
 map-filled-row f zero x = refl
 map-filled-row f (suc n) x = ap (λ xs. f x ∷ xs) (map-filled-row f n x)
 
-pub map-filled : {A B : Type 0} (f : A → B) (x : A) (lens : List ℕ) → map (map f) (filled x lens) ≡ filled (f x) lens
+pub map-filled : {A B : Type 0} (f : A → B) (x : A) (lens : List ℕ) → map (map f) (rows_filled x lens) ≡ rows_filled (f x) lens
 map-filled f x [] = refl
-map-filled f x (n ∷ lens) = ap (λ row. row ∷ map (map f) (filled x lens)) (map-filled-row f n x) ∙ ap (λ rows. replicate n (f x) ∷ rows) (map-filled f x lens)
+map-filled f x (n ∷ lens) = ap (λ row. row ∷ map (map f) (rows_filled x lens)) (map-filled-row f n x) ∙ ap (λ rows. replicate n (f x) ∷ rows) (map-filled f x lens)
 
 -- ---- rows of users
 
-pub have-none : (lens : List ℕ) → HaveRows [] (filled 0 lens)
+pub have-none : (lens : List ℕ) → HaveRows [] (rows_filled 0 lens)
 have-none lens c place found = absurd (omega (arith, found_at-filled 0 (suc place) lens c.array c.index found))
 
 pub slice_get-last : {A : Type 0} (xs : List A) (x : A) → slice_get (xs ++ x ∷ []) (length xs) ≡ Some x

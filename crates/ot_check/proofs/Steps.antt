@@ -8,7 +8,7 @@ use Rattle.ot_model.specs.Cells.{same_fold}
 use Rattle.ot_model.specs.declared.expr.Cell.{Cell}
 use Rattle.ot_model.specs.declared.fold.Fold.{Fold as Operation}
 use Rattle.ot_model.specs.declared.stmt.Use.{Use}
-use Rattle.ot_check.specs.Offences.{Touch, Create, Await, Enter, Leave, Step, At, touched, touches, PassesOne, Passes, stays_within, is_wait_for, is_awaited, unawaited, is_open, has_cell}
+use Rattle.ot_check.specs.Offences.{Touch, Create, Await, Enter, Leave, Step, At, touch_steps, touches, PassesOne, Passes, stays_within, is_wait_for, is_awaited, unawaited_uses, is_open, has_cell}
 use Rattle.ot_check.proofs.Bits.{and_one}
 
 -- these steps leave no group that they don't enter
@@ -51,7 +51,7 @@ bits-out true u = refl
 
 -- whether some child that passes the test is unawaited behind these steps
 abbrev pub some_unawaited : (List Use → Bool) → List Step → Bool
-some_unawaited test path = list_any test (unawaited path)
+some_unawaited test path = list_any test (unawaited_uses path)
 
 some_kept : (test : List Use → Bool) (d : List Use) (children : List (List Use)) (kept : Bool)
     → list_any test (if kept then d ∷ children else children) ≡ ((test d && kept) || list_any test children)
@@ -61,7 +61,7 @@ some_kept test d children false = sym (bits-out (test d) (list_any test children
 -- the child that is created first, or a later one
 pub unawaited-created : (test : List Use → Bool) (k : ℕ) (d : List Use) (path : List Step)
     → some_unawaited test (At k (Create d) ∷ path) ≡ ((test d && (stays_within 0 path && not (is_awaited d path))) || some_unawaited test path)
-unawaited-created test k d path = some_kept test d (unawaited path) (stays_within 0 path && not (is_awaited d path))
+unawaited-created test k d path = some_kept test d (unawaited_uses path) (stays_within 0 path && not (is_awaited d path))
 
 -- a wait that awaits a child, in one of two parts
 pub awaited-append : (d : List Use) (one later : List Step) → is_awaited d (one ++ later) ≡ (is_awaited d one || is_awaited d later)
@@ -96,20 +96,20 @@ open-append o c (At k Leave ∷ path) closed h = open-append o c path closed h
 
 -- ---- touches
 
-pub touched-balanced : (k : ℕ) (uses : List Use) → IsBalanced (touched k uses)
+pub touched-balanced : (k : ℕ) (uses : List Use) → IsBalanced (touch_steps k uses)
 touched-balanced k [] n later = refl
 touched-balanced k (u ∷ uses) n later = touched-balanced k uses n later
 
-pub touched-awaited : (d : List Use) (k : ℕ) (uses : List Use) → is_awaited d (touched k uses) ≡ false
+pub touched-awaited : (d : List Use) (k : ℕ) (uses : List Use) → is_awaited d (touch_steps k uses) ≡ false
 touched-awaited d k [] = refl
 touched-awaited d k (u ∷ uses) = touched-awaited d k uses
 
 pub touched-unawaited : (test : List Use → Bool) (k : ℕ) (uses : List Use) (later : List Step)
-    → some_unawaited test (touched k uses ++ later) ≡ some_unawaited test later
+    → some_unawaited test (touch_steps k uses ++ later) ≡ some_unawaited test later
 touched-unawaited test k [] later = refl
 touched-unawaited test k (u ∷ uses) later = touched-unawaited test k uses later
 
-pub touched-open : (o : Operation) (c : Cell) (k : ℕ) (uses : List Use) (later : List Step) → is_open (touched k uses ++ later) o c ≡ is_open later o c
+pub touched-open : (o : Operation) (c : Cell) (k : ℕ) (uses : List Use) (later : List Step) → is_open (touch_steps k uses ++ later) o c ≡ is_open later o c
 touched-open o c k [] later = refl
 touched-open o c k (u ∷ uses) later = touched-open o c k uses later
 
@@ -123,9 +123,9 @@ mutual
   passes_one-balanced k (Set c e) path is = subst IsBalanced (sym is) (touched-balanced k (touches (Set c e)))
   passes_one-balanced k (Fold o c e) path is = subst IsBalanced (sym is) (touched-balanced k (touches (Fold o c e)))
   passes_one-balanced k (If e a b) path (inside, is, inl h) =
-      subst IsBalanced (sym is) (both-balanced (touched k (touches (If e a b))) inside (touched-balanced k (touches (If e a b))) (passes-balanced (k + 1) a inside h))
+      subst IsBalanced (sym is) (both-balanced (touch_steps k (touches (If e a b))) inside (touched-balanced k (touches (If e a b))) (passes-balanced (k + 1) a inside h))
   passes_one-balanced k (If e a b) path (inside, is, inr h) =
-      subst IsBalanced (sym is) (both-balanced (touched k (touches (If e a b))) inside (touched-balanced k (touches (If e a b))) (passes-balanced (k + 1 + size a) b inside h))
+      subst IsBalanced (sym is) (both-balanced (touch_steps k (touches (If e a b))) inside (touched-balanced k (touches (If e a b))) (passes-balanced (k + 1 + size a) b inside h))
   passes_one-balanced k (Task d b) path is = subst IsBalanced (sym is) (λ n later. refl)
   passes_one-balanced k (Wait w) path is = subst IsBalanced (sym is) (λ n later. refl)
   passes_one-balanced k (Group o cs b) path (inside, is, h) =
@@ -153,11 +153,11 @@ mutual
       subst (λ p. some_unawaited test (p ++ later) ≡ some_unawaited test later) (sym is) (touched-unawaited test k (touches (Fold o c e)) later)
   unawaited-left_one test k (If e a b) path (inside, is, inl h) later left =
       subst (λ p. some_unawaited test (p ++ later) ≡ some_unawaited test later) (sym is)
-      (ap (some_unawaited test) (append_assoc (touched k (touches (If e a b))) inside later)
+      (ap (some_unawaited test) (append_assoc (touch_steps k (touches (If e a b))) inside later)
       ∙ touched-unawaited test k (touches (If e a b)) (inside ++ later) ∙ unawaited-left test (k + 1) a inside h later left)
   unawaited-left_one test k (If e a b) path (inside, is, inr h) later left =
       subst (λ p. some_unawaited test (p ++ later) ≡ some_unawaited test later) (sym is)
-      (ap (some_unawaited test) (append_assoc (touched k (touches (If e a b))) inside later)
+      (ap (some_unawaited test) (append_assoc (touch_steps k (touches (If e a b))) inside later)
       ∙ touched-unawaited test k (touches (If e a b)) (inside ++ later) ∙ unawaited-left test (k + 1 + size a) b inside h later left)
   unawaited-left_one test k (Task d b) path is later left =
       subst (λ p. some_unawaited test (p ++ later) ≡ some_unawaited test later) (sym is)
@@ -192,11 +192,11 @@ mutual
       subst (λ p. is_open (p ++ later) o c ≡ is_open later o c) (sym is) (touched-open o c k (touches (Fold by d e)) later)
   passes_one-open o c k (If e a b) path (inside, is, inl h) later =
       subst (λ p. is_open (p ++ later) o c ≡ is_open later o c) (sym is)
-      (ap (λ p. is_open p o c) (append_assoc (touched k (touches (If e a b))) inside later)
+      (ap (λ p. is_open p o c) (append_assoc (touch_steps k (touches (If e a b))) inside later)
       ∙ touched-open o c k (touches (If e a b)) (inside ++ later) ∙ passes-open o c (k + 1) a inside h later)
   passes_one-open o c k (If e a b) path (inside, is, inr h) later =
       subst (λ p. is_open (p ++ later) o c ≡ is_open later o c) (sym is)
-      (ap (λ p. is_open p o c) (append_assoc (touched k (touches (If e a b))) inside later)
+      (ap (λ p. is_open p o c) (append_assoc (touch_steps k (touches (If e a b))) inside later)
       ∙ touched-open o c k (touches (If e a b)) (inside ++ later) ∙ passes-open o c (k + 1 + size a) b inside h later)
   passes_one-open o c k (Task d b) path is later = subst (λ p. is_open (p ++ later) o c ≡ is_open later o c) (sym is) refl
   passes_one-open o c k (Wait w) path is later = subst (λ p. is_open (p ++ later) o c ≡ is_open later o c) (sym is) refl

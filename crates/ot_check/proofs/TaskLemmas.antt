@@ -8,8 +8,8 @@ use Rattle.ot_model.specs.declared.expr.Cell.{Cell}
 use Rattle.ot_model.specs.declared.stmt.Mode.{Mode}
 use Rattle.ot_model.specs.declared.stmt.Use.{Use}
 use Rattle.ot_check.specs.Offences.{clashes}
-use Rattle.ot_check.specs.walk.States.{AreOf, Tells, among, met, some_task, user_has, users_at}
-use Rattle.ot_check.specs.walk.Rows.{awaited_as, found_at, filled}
+use Rattle.ot_check.specs.walk.States.{AreOf, Tells, among, is_met_by, some_task, user_has, users_at}
+use Rattle.ot_check.specs.walk.Rows.{awaited_as, found_at, rows_filled}
 use Rattle.ot_sets.specs.Sets.{has}
 use Rattle.ot_sets.specs.declared.numbers.Numbers.{Numbers}
 use Rattle.ot_check.specs.declared.tasks.Tasks.{Tasks}
@@ -102,7 +102,7 @@ guarded h c g (u ∷ uses) =
 
 module _ (users : List (List (List User))) (decls : List (List Use)) (told : Tells users decls) where
   -- those children of a set that clash
-  pub met-told : (numbers : Numbers) (u : Use) → met numbers users u ≡ among numbers decls (clashes u)
+  pub met-told : (numbers : Numbers) (u : Use) → is_met_by numbers users u ≡ among numbers decls (clashes u)
   met-told numbers u =
       told (λ v. has numbers v.task && conflicts v.mode u.mode) u.cell
       ∙ some-same _ (λ k d. has numbers k && clashes u d) 0 decls (λ i d is. guarded (has numbers (0 + i)) u.cell (λ m. conflicts m u.mode) d)
@@ -128,7 +128,7 @@ no-users : (o : Option (List User)) → ((users : List User) → o ≡ Some user
 no-users None none = refl
 no-users (Some users) none = none users refl
 
-pub told-first : (lens : List ℕ) (users : List (List (List User))) → users ≡ filled [] lens → Tells users []
+pub told-first : (lens : List ℕ) (users : List (List (List User))) → users ≡ rows_filled [] lens → Tells users []
 told-first lens users are test c =
     ap (λ users. list_any test (users_at users c)) are
-    ∙ ap (list_any test) (no-users (found_at (filled [] lens) c) (λ row found. found_at-filled [] row lens c.array c.index found))
+    ∙ ap (list_any test) (no-users (found_at (rows_filled [] lens) c) (λ row found. found_at-filled [] row lens c.array c.index found))

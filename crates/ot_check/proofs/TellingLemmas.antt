@@ -5,7 +5,7 @@ use Rattle.std.specs.Option.{option_or}
 use Rattle.ot_model.specs.Tree.{S, Body}
 use Rattle.ot_check.specs.Offences.{Declared, Openings, Offends, IsFirstOf}
 use Rattle.ot_check.specs.Discipline.{Children, nobody, nothing_open, is_marked, is_offence, ends_with_children}
-use Rattle.ot_check.specs.walk.Walk.{first, first_one, first_within, first_inside, leading, ended, ending, placed}
+use Rattle.ot_check.specs.walk.Walk.{first, first_one, first_within, first_inside, leading, ending_offence, ending, offence_at}
 use Rattle.ot_check.specs.declared.fault.Offence.{Offence}
 use Rattle.ot_check.specs.declared.fault.Offence.TheVariants.{NotDeclared, ChildBeyond, ReductionMisuse, ConflictsWithChild, EndsWithChildren}
 use Rattle.ot_check.proofs.Bits.{or_none}
@@ -25,7 +25,7 @@ or-none (Some x) = refl
 -- that a body ends with children is told behind the others
 leading-parts : (k : ℕ) (holds own : Offence → Bool) (n b r c e : Bool) → own NotDeclared ≡ n → own ChildBeyond ≡ b → own ReductionMisuse ≡ r
     → own ConflictsWithChild ≡ c → own EndsWithChildren ≡ false → holds NotDeclared ≡ n → holds ChildBeyond ≡ b → holds ReductionMisuse ≡ r
-    → holds ConflictsWithChild ≡ c → holds EndsWithChildren ≡ e → placed k (leading holds) ≡ option_or (placed k (leading own)) (placed k (ended e))
+    → holds ConflictsWithChild ≡ c → holds EndsWithChildren ≡ e → offence_at k (leading holds) ≡ option_or (offence_at k (leading own)) (offence_at k (ending_offence e))
 leading-parts k holds own true b r c e on ob or oc oe hn hb hr hc he = rw (hn, on) refl
 leading-parts k holds own false true r c e on ob or oc oe hn hb hr hc he = rw (hn, on, hb, ob) refl
 leading-parts k holds own false false true c e on ob or oc oe hn hb hr hc he = rw (hn, on, hb, ob, hr, or) refl
@@ -41,7 +41,7 @@ unmarked : (m e : Bool) → e ≡ false → (m || e) ≡ m
 unmarked m e is = ap (λ e. m || e) is ∙ or_none m
 
 pub first_one-parts : (own : Declared) (opened : Openings) (children : Children) (k : ℕ) (x : S)
-    → first_one own opened children k x ≡ option_or (placed k (leading (is_marked own opened children x))) (first_within own opened children k x)
+    → first_one own opened children k x ≡ option_or (offence_at k (leading (is_marked own opened children x))) (first_within own opened children k x)
 first_one-parts own opened children k x =
     let marked = is_marked own opened children x in
     let none = no_ends x in
@@ -54,8 +54,8 @@ first_one-parts own opened children k x =
     (unmarked (marked ReductionMisuse) (ends_with_children x ReductionMisuse) none.2)
     (unmarked (marked ConflictsWithChild) (ends_with_children x ConflictsWithChild) none.3)
     (ap (λ b. b || ends_with_children x EndsWithChildren) unending)
-    ∙ ap (λ o. option_or (placed k (leading marked)) (placed k o)) (ended-is x))
-    ∙ or-assoc (placed k (leading marked)) (placed k (ending x)) (first_inside own opened children k x)
+    ∙ ap (λ o. option_or (offence_at k (leading marked)) (offence_at k o)) (ended-is x))
+    ∙ or-assoc (offence_at k (leading marked)) (offence_at k (ending x)) (first_inside own opened children k x)
 
 -- ---- the whole
 

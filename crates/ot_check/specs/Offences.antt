@@ -29,18 +29,18 @@ pub data Mark : Type 0 where
 pub data Step : Type 0 where
   At : ℕ → Mark → Step
 
-abbrev pub touched : ℕ → List Use → List Step
-touched k uses = map (λ u. At k (Touch u)) uses
+abbrev pub touch_steps : ℕ → List Use → List Step
+touch_steps k uses = map (λ u. At k (Touch u)) uses
 
 -- Whether a path goes through a statement, or a body, whose place is k. Places are numbers of
 -- statements, each before the statements of its bodies. The body of a task has paths of its own: on
 -- its parent's path the task is one mark.
 abbrev mutual
   pub PassesOne : ℕ → S → List Step → Type 0
-  PassesOne k (Set c e) path = path ≡ touched k (touches (Set c e))
-  PassesOne k (Fold o c e) path = path ≡ touched k (touches (Fold o c e))
+  PassesOne k (Set c e) path = path ≡ touch_steps k (touches (Set c e))
+  PassesOne k (Fold o c e) path = path ≡ touch_steps k (touches (Fold o c e))
   PassesOne k (If e a b) path =
-      (inside : List Step) × (path ≡ touched k (touches (If e a b)) ++ inside) × (Passes (k + 1) a inside ⊎ Passes (k + 1 + size a) b inside)
+      (inside : List Step) × (path ≡ touch_steps k (touches (If e a b)) ++ inside) × (Passes (k + 1) a inside ⊎ Passes (k + 1 + size a) b inside)
   PassesOne k (Task d b) path = path ≡ At k (Create d) ∷ []
   PassesOne k (Wait w) path = path ≡ At k (Await w) ∷ []
   PassesOne k (Group o cs b) path = (inside : List Step) × (path ≡ At k (Enter o cs) ∷ (inside ++ At k Leave ∷ [])) × Passes (k + 1) b inside
@@ -123,13 +123,13 @@ is_awaited child path = list_any (is_wait_for child) path
 
 -- the children that are unawaited behind these steps, each by what it declares: neither a wait that awaits it nor
 -- the end of a group in which it was created stands behind its creation (OpenMP API 5.2, sections 15.4, 15.5)
-abbrev pub unawaited : List Step → List (List Use)
-unawaited [] = []
-unawaited (At k (Touch u) ∷ path) = unawaited path
-unawaited (At k (Create d) ∷ path) = if stays_within 0 path && not (is_awaited d path) then d ∷ unawaited path else unawaited path
-unawaited (At k (Await w) ∷ path) = unawaited path
-unawaited (At k (Enter o cs) ∷ path) = unawaited path
-unawaited (At k Leave ∷ path) = unawaited path
+abbrev pub unawaited_uses : List Step → List (List Use)
+unawaited_uses [] = []
+unawaited_uses (At k (Touch u) ∷ path) = unawaited_uses path
+unawaited_uses (At k (Create d) ∷ path) = if stays_within 0 path && not (is_awaited d path) then d ∷ unawaited_uses path else unawaited_uses path
+unawaited_uses (At k (Await w) ∷ path) = unawaited_uses path
+unawaited_uses (At k (Enter o cs) ∷ path) = unawaited_uses path
+unawaited_uses (At k Leave ∷ path) = unawaited_uses path
 
 -- whether a group by this operation that names the cell is open behind these steps
 abbrev pub is_open : List Step → Openings
@@ -158,11 +158,11 @@ breaks own opened children mark offence = false
 abbrev pub OnPath : ℕ → Body → Declared → ℕ → Offence → Type 0
 OnPath k body own place offence =
     (before : List Step) × (later : List Step) × (mark : Mark) × Passes k body (before ++ At place mark ∷ later)
-    × (breaks own (is_open before) (unawaited before) mark offence ≡ true)
+    × (breaks own (is_open before) (unawaited_uses before) mark offence ≡ true)
 
 -- some path of the body ends with a child unawaited
 abbrev pub CanEndWithChildren : ℕ → Body → Type 0
-CanEndWithChildren k body = (path : List Step) × Passes k body path × (unawaited path ≢ [])
+CanEndWithChildren k body = (path : List Step) × Passes k body path × (unawaited_uses path ≢ [])
 
 -- the offence is in the body of a task that stands in this one, or is that this body ends with a child unawaited
 abbrev mutual

@@ -1,5 +1,5 @@
 ghost use Rattle.std.specs.Prelude.{◌≡◌, IfOk, map, ◌≢◌, IsSome, Some};
-ghost use Rattle.ot_check.specs.walk.Rows.{widths, found_at, filled};
+ghost use Rattle.ot_check.specs.walk.Rows.{widths, found_at, rows_filled};
 
 use ot_model::{ArrayShape, Cell};
 use std::alloc::{AllocError, Global};
@@ -25,7 +25,7 @@ impl Table {
 
     /// 0 for each cell of these arrays.
     pub(crate) fn new(alloc: Global, arrays: &[ArrayShape]) -> Result<Table, AllocError>
-        ensures { IfOk result (λ table. table ≡ filled 0 (map (λ a. a.1) (arrays_of arrays.now))) }
+        ensures { IfOk result (λ table. table ≡ rows_filled 0 (map (λ a. a.1) (arrays_of arrays.now))) }
     {
         let mut rows = Vec::with_capacity(alloc, arrays.len())?;
         for array in arrays {

@@ -3,7 +3,7 @@ ghost use Rattle.std.specs.List.{list_any};
 ghost use Rattle.ot_model.specs.Programs.{array_lengths};
 ghost use Rattle.ot_model.specs.Names.{IsInShape, AreDeclaredIn};
 ghost use Rattle.ot_model.specs.declared.expr.Cell.{Cell};
-ghost use Rattle.ot_check.specs.walk.States.{Tells, met, user_has, users_at};
+ghost use Rattle.ot_check.specs.walk.States.{Tells, is_met_by, user_has, users_at};
 ghost use Rattle.ot_check.specs.walk.Rows.{awaited_as, widths};
 ghost use Rattle.ot_sets.specs.Sets.{has};
 ghost use Rattle.ot_check.specs.declared.users.User.{User};
@@ -36,7 +36,7 @@ impl Tasks {
     /// Whether one of these tasks declares the cell in conflict with a use of it.
     pub(crate) fn clash(&self, numbers: &Numbers, used: Use) -> bool
         requires { IsInShape (widths self.now.users) used.cell }
-        ensures { result ≡ met numbers.now self.now.users used }
+        ensures { result ≡ is_met_by numbers.now self.now.users used }
     {
         self.users.clash(numbers, used)
     }

@@ -1,7 +1,7 @@
 ghost use Rattle.std.specs.Prelude.{◌≡◌, ◌||◌, Bool, IfOk, OnOk};
 ghost use Rattle.std.specs.List.{list_any};
 ghost use Rattle.ot_check.specs.declared.users.User.{User};
-ghost use Rattle.ot_check.specs.walk.Rows.{found_at, filled, widths};
+ghost use Rattle.ot_check.specs.walk.Rows.{found_at, rows_filled, widths};
 
 use crate::block::Block;
 use crate::table::Table;
@@ -135,11 +135,11 @@ impl Users {
     ghost use Rattle.ot_model.specs.declared.expr.Cell.{Cell};
     ghost use Rattle.ot_sets.specs.Sets.{has};
     ghost use Rattle.ot_check.specs.walk.Rows.{awaited_as};
-    ghost use Rattle.ot_check.specs.walk.States.{met, users_at};
+    ghost use Rattle.ot_check.specs.walk.States.{is_met_by, users_at};
 
     /// No task declares a cell of these arrays.
     pub(crate) fn new(alloc: Global, arrays: &[ArrayShape]) -> Result<Users, AllocError>
-        ensures { IfOk result (λ users. users ≡ filled [] (map (λ a. a.1) (arrays_of arrays.now))) }
+        ensures { IfOk result (λ users. users ≡ rows_filled [] (map (λ a. a.1) (arrays_of arrays.now))) }
     {
         let places = Table::new(alloc, arrays)?;
         Ok(Users {
@@ -151,7 +151,7 @@ impl Users {
     /// Whether one of these tasks declares a cell that is there in conflict with a use of it.
     pub(crate) fn clash(&self, tasks: &Numbers, used: Use) -> bool
         requires { IsSome (found_at self.now used.cell) }
-        ensures { result ≡ met tasks.now self.now used }
+        ensures { result ≡ is_met_by tasks.now self.now used }
     {
         let place = self.places.at(used.cell);
         place > 0 && self.rows[place - 1].clashes(tasks, used.mode)

@@ -4,7 +4,7 @@ ghost use Rattle.ot_model.specs.Tree.{Group, size, size_one};
 ghost use Rattle.ot_model.specs.View.{stmt_of, stmts_of};
 ghost use Rattle.ot_model.specs.Names.{NamedIn, OneNamedIn, AreInShape, AreDeclaredIn};
 ghost use Rattle.ot_check.specs.Discipline.{anyone, behind, behind_one, nobody, nothing_open, through, through_one, with_group};
-ghost use Rattle.ot_check.specs.walk.Walk.{ended, first, first_one, first_within, placed};
+ghost use Rattle.ot_check.specs.walk.Walk.{ending_offence, first, first_one, first_within, offence_at};
 ghost use Rattle.ot_check.specs.walk.States.{Leads, Whatever, lens_of, of_both, one_more};
 
 use crate::fault::Offence;
@@ -34,7 +34,7 @@ fn earlier(one: Option<(u32, Offence)>, other: Option<(u32, Offence)>) -> Option
 
 /// An offence of the statement at this place.
 fn at(place: u32, offence: Option<Offence>) -> Option<(u32, Offence)>
-    ensures { result ≡ placed place offence }
+    ensures { result ≡ offence_at place offence }
 {
     match offence {
         Some(offence) => Some((place, offence)),
@@ -44,7 +44,7 @@ fn at(place: u32, offence: Option<Offence>) -> Option<(u32, Offence)>
 
 /// What is told of a task whose body ends so.
 fn ended(left: bool) -> Option<Offence>
-    ensures { result ≡ ended left }
+    ensures { result ≡ ending_offence left }
 {
     if left {
         Some(Offence::EndsWithChildren)
@@ -159,7 +159,7 @@ fn walk_task(
     requires counted { standing.old.tasks.passed ≤ place }
     requires short { place + 1 + size (stmts_of body.now.items) < 2 ^ 32 }
     ensures told { IfOk result (λ w. Whatever standing.old (λ own opened children. w.first
-        ≡ option_or (placed place (ended (behind nobody (stmts_of body.now.items) anyone))) (first (Some decl.now) nothing_open nobody (place + 1) (stmts_of body.now.items)))) }
+        ≡ option_or (offence_at place (ending_offence (behind nobody (stmts_of body.now.items) anyone))) (first (Some decl.now) nothing_open nobody (place + 1) (stmts_of body.now.items)))) }
     ensures behind { IfOk result (λ _. Leads standing.old standing.new (λ children. one_more children decl.now) (λ d. true)) }
     ensures lens { IfOk result (λ _. lens_of standing.new ≡ lens_of standing.old) }
     ensures counted { IfOk result (λ w. standing.new.tasks.passed + place ≤ standing.old.tasks.passed + w.next) }

@@ -6,9 +6,9 @@ use Rattle.std.proofs.Math.Bool.{or-false, or-true}
 use Rattle.std.proofs.KnownBytes.{Appends-nil, Appends-trans, Consumes-nil, Consumes-trans}
 use Rattle.std.proofs.lemmas.List.Folds.{concat-append, list_any-append}
 use Rattle.std.proofs.lemmas.List.Elements.{All-nil, All-push, All-take, AllZip-push}
-use Rattle.ot_client_ask.specs.Asking.{BreaksBy, Counts, Ends, GoesOn, IsCutShort, IsShown, LeavesServer, SaysBye, Talk, Talks, Ways, tally_of}
+use Rattle.ot_client_ask.specs.Asking.{BreaksBy, Counts, EndsAfter, GoesOn, IsCutShort, IsPrintedReply, LeavesServer, SaysBye, Talk, Talks, Ways, tally_of}
 use Rattle.ot_client_ask.specs.Exchanges.{IsAnswered, TakesOneLine, asked_after, asked_of, with_reply}
-use Rattle.ot_client_ask.specs.Streams.{IsWhole, is_last, is_refusal, sent_for, Gives, Incoming, Link, Outgoing, Writes}
+use Rattle.ot_client_ask.specs.Streams.{IsWhole, is_last, is_refusal, sent_for, GivesLineOrRest, Incoming, Link, Outgoing, Writes}
 use Rattle.ot_client_ask.specs.declared.asked.Tally.{Tally}
 use Rattle.ot_client_ask.specs.declared.asked.Asked.TheVariants.{AllTaken, SomeRefused, CutShort}
 use Rattle.ot_client_ask.specs.declared.asked.AskFault.TheVariants.{Busy, UnknownTenant, StrangeGreeting, Closed, ReadFailed, WriteFailed, Memory, TooManyLines}
@@ -26,11 +26,11 @@ map-more [] x = refl
 map-more (y ∷ xs) x = ap (λ l. sent_for y ∷ l) (map-more xs x)
 
 -- what was read of the lines
-pub gives-bytes : (old new : Incoming) (line : List ℕ) → Gives old new line → Consumes old.ahead new.ahead line
+pub gives-bytes : (old new : Incoming) (line : List ℕ) → GivesLineOrRest old new line → Consumes old.ahead new.ahead line
 gives-bytes old new line (inl gives) = gives.bytes
 gives-bytes old new line (inr gives) = gives.bytes
 
-pub gives-worked : (old new : Incoming) (line : List ℕ) → Gives old new line → new.failures ≡ old.failures
+pub gives-worked : (old new : Incoming) (line : List ℕ) → GivesLineOrRest old new line → new.failures ≡ old.failures
 gives-worked old new line (inl gives) = gives.worked
 gives-worked old new line (inr gives) = gives.ended.worked
 
@@ -72,7 +72,7 @@ talk_more Says a b c r s talk step = record {
       (writes-more a.link.sent b.link.sent c.link.sent _ _ talk.sends step.sends);
   hears = subst (Consumes a.link.heard.ahead c.link.heard.ahead) (sym (concat-more talk.replies step.reply)) (Consumes-trans a.link.heard.ahead b.link.heard.ahead c.link.heard.ahead _ _ talk.hears step.hears.bytes);
   texts = talk.texts ++ step.text ∷ [];
-  shows = AllZip-push (IsShown Says) talk.replies talk.texts step.reply step.text talk.shows step.shows;
+  shows = AllZip-push (IsPrintedReply Says) talk.replies talk.texts step.reply step.text talk.shows step.shows;
   prints = subst (Writes a.printed c.printed) (sym (concat-more talk.texts step.text)) (writes-more a.printed b.printed c.printed _ _ talk.prints step.prints);
   whole = All-push IsWhole talk.replies step.reply talk.whole step.hears.whole;
   goes_on = All-push (λ reply. is_last reply ≡ false) talk.replies step.reply talk.goes_on step.goes_on;
@@ -119,7 +119,7 @@ talks Says stop a b c r result t talk calm ends counts = record {
   is_refused = r;
   talk = talk;
   first = λ stops. All-take (λ reply. is_refusal reply ≡ false) (length talk.replies - 1) talk.replies (calm.all stops);
-  ends = subst (λ s. Ends Says s (length talk.lines) b c r result) (sym (no_stop stop r calm.none)) ends;
+  ends = subst (λ s. EndsAfter Says s (length talk.lines) b c r result) (sym (no_stop stop r calm.none)) ends;
   counts = counts;
 }
 
@@ -186,6 +186,6 @@ talks_left Says stop a b c d r s result step t u talk calm counted more steps is
       is_refused = r || s;
       talk = talk_more Says a b c r s talk answered;
       first = λ said. all_before talk.replies answered.reply (calm.all stops);
-      ends = subst (λ e. Ends Says e (length (talk.lines ++ answered.line ∷ [])) c d (r || s) result) (sym ends_so) (leaves, unread, unprinted);
+      ends = subst (λ e. EndsAfter Says e (length (talk.lines ++ answered.line ∷ [])) c d (r || s) result) (sym ends_so) (leaves, unread, unprinted);
       counts = counts_left c.link d.link result (talk.replies ++ answered.reply ∷ []) u leaves counted_now;
     }

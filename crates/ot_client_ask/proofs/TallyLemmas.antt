@@ -5,7 +5,7 @@ use Rattle.std.specs.List.{position_from}
 use Rattle.std.specs.Prelude.{All}
 use Rattle.ot_client_ask.specs.Streams.{is_last, is_refusal}
 use Rattle.ot_client_ask.specs.Exchanges.{first_or, with_reply}
-use Rattle.ot_client_ask.specs.Asking.{is_untaken, tally, tally_of}
+use Rattle.ot_client_ask.specs.Asking.{is_untaken, asked_tally, tally_of}
 
 abbrev Replies : Type 0
 Replies = List (List ℕ)
@@ -49,8 +49,8 @@ first-more n (y ∷ xs) x b is = at (is_untaken y) (first-more (n + 1) xs x b is
         let number : n + 1 + length xs ≡ n + length (y ∷ xs) = omega arith in
         more ∙ ap (found b (position_from is_untaken (n + 1) xs)) number
 
-same_tally : (a b c d : ℕ) (e f : Option ℕ) → a ≡ b → c ≡ d → e ≡ f → tally a c e ≡ tally b d f
-same_tally a b c d e f lines refused first = ap₂ (λ x y. tally x y e) lines refused ∙ ap (tally b d) first
+same_tally : (a b c d : ℕ) (e f : Option ℕ) → a ≡ b → c ≡ d → e ≡ f → asked_tally a c e ≡ asked_tally b d f
+same_tally a b c d e f lines refused first = ap₂ (λ x y. asked_tally x y e) lines refused ∙ ap (asked_tally b d) first
 
 -- one reply more
 pub tally_more : (xs : Replies) (x : List ℕ) (b : Bool) → is_untaken x ≡ b → with_reply (tally_of xs) b ≡ tally_of (xs ++ x ∷ [])

@@ -2,7 +2,7 @@
 use Rattle.std.specs.Prelude.{◌≡◌, [], ◌⊎◌, ◌-◌, ◌^◌, ◌&&◌, ℕ, Bool, true, false, List, ◌∷◌, ◌++◌, length, map, take, Result, Ok, Err, ◌||◌, ◌+◌, Option, None, ◌≢◌, ⊤}
 use Rattle.std.specs.List.{All, AllZip, concat, list_any, filter, position_from}
 use Rattle.std.specs.Io.KnownBytes.{Consumes}
-use Rattle.ot_client_ask.specs.Streams.{IsWhole, goodbye, is_last, is_refusal, says_bye, sent_for, BreaksOff, Gives, GivesLine, HasFailed, Incoming, IsLost, IsStreamOver, Link, Outgoing, Writes, link, busy_text, hello_line, is_welcome, unknown_text, IsUnanswered}
+use Rattle.ot_client_ask.specs.Streams.{IsWhole, goodbye, is_last, is_refusal, says_bye, sent_for, BreaksOffIn, GivesLineOrRest, GivesLine, HasFailed, Incoming, IsLost, IsStreamOver, Link, Outgoing, Writes, link, busy_text, hello_line, is_welcome, unknown_text, IsUnanswered}
 use Rattle.ot_client_ask.specs.declared.asked.Tally.{Tally}
 use Rattle.ot_client_ask.specs.declared.asked.Asked.{Asked}
 use Rattle.ot_client_ask.specs.declared.asked.Asked.TheVariants.{AllTaken, SomeRefused, CutShort}
@@ -38,16 +38,16 @@ GreetsServer name old new (Err fault) = ⊥
 abbrev pub is_untaken : List ℕ → Bool
 is_untaken reply = is_refusal reply || is_last reply
 
-abbrev pub tally : ℕ → ℕ → Option ℕ → Tally
-tally lines refused first_refused = record { lines = lines; refused = refused; first_refused = first_refused }
+abbrev pub asked_tally : ℕ → ℕ → Option ℕ → Tally
+asked_tally lines refused first_refused = record { lines = lines; refused = refused; first_refused = first_refused }
 
 -- the tally of these replies
 abbrev pub tally_of : List (List ℕ) → Tally
-tally_of replies = tally (length replies) (length (filter is_untaken replies)) (position_from is_untaken 1 replies)
+tally_of replies = asked_tally (length replies) (length (filter is_untaken replies)) (position_from is_untaken 1 replies)
 
 -- that of none
 abbrev pub none_counted : Tally
-none_counted = tally 0 0 None
+none_counted = asked_tally 0 0 None
 
 -- What a client reads, sends, hears and prints.
 
@@ -67,15 +67,15 @@ abbrev pub is_silent : List ℕ → List ℕ → Type 0
 is_silent reply remarks = remarks ≡ []
 
 -- a reply as it is printed, with what may be said behind it
-abbrev pub IsShown : (List ℕ → List ℕ → Type 0) → List ℕ → List ℕ → Type 0
-IsShown Says reply text = (remarks : List ℕ) × Says reply remarks × (text ≡ reply ++ remarks)
+abbrev pub IsPrintedReply : (List ℕ → List ℕ → Type 0) → List ℕ → List ℕ → Type 0
+IsPrintedReply Says reply text = (remarks : List ℕ) × Says reply remarks × (text ≡ reply ++ remarks)
 
 -- ---- one line
 
 -- A goodbye is read and sent, or the lines are over and one is sent, and then the server's stream is over.
 pub record SaysBye (old new : Ways) : Type 0 where
   pub line : List ℕ
-  pub reads : Gives old.typed new.typed line
+  pub reads : GivesLineOrRest old.typed new.typed line
   pub sends : Writes old.link.sent new.link.sent (sent_for line)
   pub bye : says_bye (sent_for line) ≡ true
   pub waits : IsStreamOver old.link.heard new.link.heard
@@ -87,8 +87,8 @@ pub record IsCutShort (old new : Ways) : Type 0 where
   pub line : List ℕ
   pub reply : List ℕ
   pub mid : Incoming
-  pub reads : Gives old.typed new.typed line
-  pub sends : Writes old.link.sent new.link.sent (sent_for line) ⊎ BreaksOff old.link.sent new.link.sent (sent_for line)
+  pub reads : GivesLineOrRest old.typed new.typed line
+  pub sends : Writes old.link.sent new.link.sent (sent_for line) ⊎ BreaksOffIn old.link.sent new.link.sent (sent_for line)
   pub hears : GivesLine old.link.heard mid reply
   pub waits : IsStreamOver mid new.link.heard
   pub prints : Writes old.printed new.printed reply
@@ -100,13 +100,13 @@ module _ (Says : List ℕ → List ℕ → Type 0) where
   abbrev pub BreaksBy : AskFault → Ways → Ways → Type 0
   BreaksBy ReadFailed old new = HasFailed old.typed new.typed × (new.link.sent ≡ old.link.sent) × (new.printed ≡ old.printed)
   BreaksBy Closed old new =
-      (((line : List ℕ) × BreaksOff old.link.sent new.link.sent (sent_for line)) ⊎ IsLost old.link.heard new.link.heard) × (new.printed ≡ old.printed)
+      (((line : List ℕ) × BreaksOffIn old.link.sent new.link.sent (sent_for line)) ⊎ IsLost old.link.heard new.link.heard) × (new.printed ≡ old.printed)
   BreaksBy WriteFailed old new =
       (reply : List ℕ)
       × (text : List ℕ)
       × GivesLine old.link.heard new.link.heard reply
-      × ((text ≡ reply) ⊎ IsShown Says reply text)
-      × BreaksOff old.printed new.printed text
+      × ((text ≡ reply) ⊎ IsPrintedReply Says reply text)
+      × BreaksOffIn old.printed new.printed text
   BreaksBy Memory old new = new.printed ≡ old.printed
   BreaksBy fault old new = ⊥
 
@@ -115,13 +115,13 @@ module _ (Says : List ℕ → List ℕ → Type 0) where
 -- behind a refusal a goodbye is sent, and then the server's stream is over; or it can't be sent
 abbrev pub LeavesServer : Link → Link → Result Asked AskFault → Type 0
 LeavesServer old new (Ok SomeRefused) = Writes old.sent new.sent goodbye × IsStreamOver old.heard new.heard
-LeavesServer old new (Err Closed) = BreaksOff old.sent new.sent goodbye × (new.heard ≡ old.heard)
+LeavesServer old new (Err Closed) = BreaksOffIn old.sent new.sent goodbye × (new.heard ≡ old.heard)
 LeavesServer old new result = ⊥
 
 -- the replies that were printed are counted, also the one that ends the session
 abbrev pub Counts : List (List ℕ) → Result Asked AskFault → Tally → Type 0
-Counts replies (Ok CutShort) tally = (last : List ℕ) × (is_last last ≡ true) × (tally ≡ tally_of (replies ++ last ∷ []))
-Counts replies result tally = tally ≡ tally_of replies
+Counts replies (Ok CutShort) asked_tally = (last : List ℕ) × (is_last last ≡ true) × (asked_tally ≡ tally_of (replies ++ last ∷ []))
+Counts replies result asked_tally = asked_tally ≡ tally_of replies
 
 module _ (Says : List ℕ → List ℕ → Type 0) where
   -- Lines are read and sent in order, and for each one whole reply is heard and printed, with what may be said behind it. Nothing
@@ -134,7 +134,7 @@ module _ (Says : List ℕ → List ℕ → Type 0) where
     pub sends : Writes old.link.sent new.link.sent (concat (map sent_for lines))
     pub hears : Consumes old.link.heard.ahead new.link.heard.ahead (concat replies)
     pub texts : List (List ℕ)
-    pub shows : AllZip (IsShown Says) replies texts
+    pub shows : AllZip (IsPrintedReply Says) replies texts
     pub prints : Writes old.printed new.printed (concat texts)
     pub whole : All IsWhole replies
     pub goes_on : All (λ reply. is_last reply ≡ false) replies
@@ -152,29 +152,29 @@ module _ (Says : List ℕ → List ℕ → Type 0) where
   GoesOn count old new is_refused (Err fault) = BreaksBy Says fault old new
 
   -- What comes behind so many lines that were answered. Where the session stops at the last of them, no line is read any more.
-  abbrev pub Ends : Bool → ℕ → Ways → Ways → Bool → Result Asked AskFault → Type 0
-  Ends true count old new is_refused result = LeavesServer old.link new.link result × (new.typed ≡ old.typed) × (new.printed ≡ old.printed)
-  Ends false count old new is_refused result = GoesOn count old new is_refused result
+  abbrev pub EndsAfter : Bool → ℕ → Ways → Ways → Bool → Result Asked AskFault → Type 0
+  EndsAfter true count old new is_refused result = LeavesServer old.link new.link result × (new.typed ≡ old.typed) × (new.printed ≡ old.printed)
+  EndsAfter false count old new is_refused result = GoesOn count old new is_refused result
 
   -- Lines that are answered, and then an end. A session that is to stop at a refusal stops behind the first reply that is one.
-  pub record Talks (stop : Bool) (old new : Ways) (result : Result Asked AskFault) (tally : Tally) : Type 0 where
+  pub record Talks (stop : Bool) (old new : Ways) (result : Result Asked AskFault) (asked_tally : Tally) : Type 0 where
     pub last : Ways
     pub is_refused : Bool
     pub talk : Talk old last is_refused
     pub first : stop ≡ true → All (λ reply. is_refusal reply ≡ false) (take (length talk.replies - 1) talk.replies)
-    pub ends : Ends (stop && is_refused) (length talk.lines) last new is_refused result
-    pub counts : Counts talk.replies result tally
+    pub ends : EndsAfter (stop && is_refused) (length talk.lines) last new is_refused result
+    pub counts : Counts talk.replies result asked_tally
 
   -- a session of a client: the greeting, and the lines behind it, or a greeting that isn't answered with a welcome
   abbrev pub Asks : List ℕ → Bool → Ways → Ways → Result Asked AskFault → Tally → Type 0
-  Asks name stop old new result tally =
-      ((greeted : Link) × GreetsServer name old.link greeted (Ok tt) × Talks stop (record old { link = greeted }) new result tally)
+  Asks name stop old new result asked_tally =
+      ((greeted : Link) × GreetsServer name old.link greeted (Ok tt) × Talks stop (record old { link = greeted }) new result asked_tally)
       ⊎ ((fault : AskFault)
       × (result ≡ Err fault)
       × GreetsServer name old.link new.link (Err fault)
       × (new.typed ≡ old.typed)
       × (new.printed ≡ old.printed)
-      × (tally ≡ none_counted))
+      × (asked_tally ≡ none_counted))
 
 -- A line that is read to be sent, and a reply that is heard.
 

@@ -121,8 +121,8 @@ ReadsLine old new line (Err Failed) = Consumes old.ahead new.ahead line × HasFa
 ReadsLine old new line (Err Memory) = Consumes old.ahead new.ahead line
 
 -- a line or the rest comes
-abbrev pub Gives : Incoming → Incoming → List ℕ → Type 0
-Gives old new line = GivesLine old new line ⊎ GivesRest old new line
+abbrev pub GivesLineOrRest : Incoming → Incoming → List ℕ → Type 0
+GivesLineOrRest old new line = GivesLine old new line ⊎ GivesRest old new line
 
 -- the stream ends or fails before a whole line has come
 abbrev pub IsLost : Incoming → Incoming → Type 0
@@ -136,7 +136,7 @@ pub record Writes (old new : Outgoing) (bytes : List ℕ) : Type 0 where
   pub worked : new.failures ≡ old.failures
 
 -- a front of the bytes goes out, and then a write fails
-pub record BreaksOff (old new : Outgoing) (bytes : List ℕ) : Type 0 where
+pub record BreaksOffIn (old new : Outgoing) (bytes : List ℕ) : Type 0 where
   pub front : AppendsFront old.contents new.contents bytes
   pub failed : new.failures ≡ next_count old.failures
 
@@ -153,4 +153,4 @@ link heard sent = record { heard = heard; sent = sent }
 -- the line can't be sent whole, and nothing is heard, or the stream is over before a whole reply
 abbrev pub IsUnanswered : List ℕ → Link → Link → Type 0
 IsUnanswered line old new =
-    (BreaksOff old.sent new.sent line × (new.heard ≡ old.heard)) ⊎ (Writes old.sent new.sent line × IsLost old.heard new.heard)
+    (BreaksOffIn old.sent new.sent line × (new.heard ≡ old.heard)) ⊎ (Writes old.sent new.sent line × IsLost old.heard new.heard)

@@ -1,7 +1,7 @@
 //! One line and its reply, and a goodbye behind a refusal.
 ghost use Rattle.std.specs.Prelude.{◌≡◌, OnOk, IfErr};
 ghost use Rattle.ot_client_ask.specs.declared.asked.AskFault.TheVariants.{Memory};
-ghost use Rattle.ot_client_ask.specs.Asking.{IsShown, LeavesServer, ways};
+ghost use Rattle.ot_client_ask.specs.Asking.{IsPrintedReply, LeavesServer, ways};
 ghost use Rattle.ot_client_ask.specs.Exchanges.{TakesOneLine};
 ghost use Rattle.ot_client_ask.specs.Streams.{link, outgoing};
 
@@ -80,7 +80,7 @@ fn put_remarks<M: Remarker>(
     line: &[u8],
     reply: &mut Vec<u8>,
 ) -> Result<(), AskFault>
-    ensures shown { OnOk result (IsShown M.says reply.old.items reply.new.items) }
+    ensures shown { OnOk result (IsPrintedReply M.says reply.old.items reply.new.items) }
     ensures fails { IfErr result (λ fault. fault ≡ Memory) }
 {
     let Ok(remarks) = remarker.remark(alloc, without_end(line), reply) else {

@@ -16,7 +16,7 @@ use Rattle.ot_book.specs.Pieces.{tokens_of}
 use Rattle.ot_book.specs.Answers.{nat, nats}
 use Rattle.ot_book.proofs.RepliesLemmas.{written-end}
 use Rattle.ot_client_keep.specs.Arrays.{named_by}
-use Rattle.ot_client_keep.specs.Files.{Fits, Makes, MakesOne, Piece, written}
+use Rattle.ot_client_keep.specs.Files.{Fits, Makes, MakesOne, Piece, cells_written}
 use Rattle.ot_client_keep.specs.declared.array.Array.{Array}
 
 -- ---- arrays one after another
@@ -51,7 +51,7 @@ piece_fits cells at end order within =
       within = omega (arith, size, order, within);
     }
 
-pub written-more : (cells : List ℕ) (ps : List Piece) (p : Piece) → written cells (ps ++ p ∷ []) ≡ overwritten (written cells ps) p.start p.numbers
+pub written-more : (cells : List ℕ) (ps : List Piece) (p : Piece) → cells_written cells (ps ++ p ∷ []) ≡ overwritten (cells_written cells ps) p.start p.numbers
 written-more cells [] p = refl
 written-more cells (q ∷ ps) p = written-more (overwritten cells q.start q.numbers) ps p
 

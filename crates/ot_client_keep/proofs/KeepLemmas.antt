@@ -4,14 +4,14 @@ use Rattle.std.specs.Prelude.{ℕ, Bool, true, false, Result, Ok, Err, MatchResu
 use Rattle.std.proofs.lemmas.List.{map-append, take_more}
 use Rattle.ot_model.specs.Programs.{arrays_of}
 use Rattle.ot_model.specs.declared.shape.ArrayShape.{ArrayShape}
-use Rattle.ot_store.specs.Arrays.{Named, listed}
+use Rattle.ot_store.specs.Arrays.{Named, arrays_listed}
 use Rattle.ot_client_ask.specs.Asking.{GreetsServer}
 use Rattle.ot_client_ask.specs.Streams.{Link}
-use Rattle.ot_client_keep.specs.Answers.{sized_by}
+use Rattle.ot_client_keep.specs.Answers.{shape_sized}
 use Rattle.ot_client_keep.specs.Files.{Reply, Listed, Taken, file_text}
 use Rattle.ot_client_keep.specs.Arrays.{named_by}
 use Rattle.ot_client_keep.specs.declared.array.Array.{Array}
-use Rattle.ot_client_keep.specs.Questions.{Question, Arrays, Checkpoint, Free, TurnFails, StopsAsking, AsksInTurn, Turn, arrays_turns, cells_turn, sized}
+use Rattle.ot_client_keep.specs.Questions.{Question, Arrays, Checkpoint, Free, TurnFails, StopsAsking, AsksInTurn, Turn, arrays_turns, cells_turn, array_sized}
 use Rattle.ot_client_keep.specs.Saving.{AreFreed, Clears, Compares, FreesAll, IsClear, IsTaken, Restores, SeesNone, TakesSession}
 use Rattle.ot_client_keep.specs.declared.fault.KeepFault.{KeepFault}
 use Rattle.ot_client_keep.specs.declared.fault.KeepFault.TheVariants.{Ask, Differs, HasArrays, NotWhole, Refused, StrangeReply, WriteFailed}
@@ -47,12 +47,12 @@ turns_more a b c items one more talk turn is =
     subst (AsksInTurn a c) (sym all) (talks_append a b c (map cells_turn (map named_by items)) (cells_turn (named_by one) ∷ []) talk (talks_one b c (cells_turn (named_by one)) turn))
 
 -- and it is the next of the list
-pub listed_more : (shapes : List ArrayShape) (i : ℕ) (shape : ArrayShape) (items : List Array) (one : Array) (more : List Array) → listed (map named_by items) ≡ arrays_of (take i shapes)
-    → sized (named_by one) ≡ sized_by shape → more ≡ items ++ one ∷ [] → i < length shapes → shape ≡ get_or shapes i shape → listed (map named_by more) ≡ arrays_of (take (i + 1) shapes)
+pub listed_more : (shapes : List ArrayShape) (i : ℕ) (shape : ArrayShape) (items : List Array) (one : Array) (more : List Array) → arrays_listed (map named_by items) ≡ arrays_of (take i shapes)
+    → array_sized (named_by one) ≡ shape_sized shape → more ≡ items ++ one ∷ [] → i < length shapes → shape ≡ get_or shapes i shape → arrays_listed (map named_by more) ≡ arrays_of (take (i + 1) shapes)
 listed_more shapes i shape items one more so_far same is within at =
-    let all : arrays_of (take (i + 1) shapes) ≡ arrays_of (take i shapes) ++ sized_by shape ∷ [] =
-    ap arrays_of (take_more shapes i shape within ∙ ap (λ x. take i shapes ++ x ∷ []) (sym at)) ∙ map-append sized_by (take i shapes) (shape ∷ []) in
-    ap (λ l. listed (map named_by l)) is ∙ ap listed (map-append named_by items (one ∷ [])) ∙ map-append sized (map named_by items) (named_by one ∷ [])
+    let all : arrays_of (take (i + 1) shapes) ≡ arrays_of (take i shapes) ++ shape_sized shape ∷ [] =
+    ap arrays_of (take_more shapes i shape within ∙ ap (λ x. take i shapes ++ x ∷ []) (sym at)) ∙ map-append shape_sized (take i shapes) (shape ∷ []) in
+    ap (λ l. arrays_listed (map named_by l)) is ∙ ap arrays_listed (map-append named_by items (one ∷ [])) ∙ map-append array_sized (map named_by items) (named_by one ∷ [])
     ∙ ap₂ (λ xs x. xs ++ x ∷ []) so_far same ∙ sym all
 
 -- none are freed
@@ -61,15 +61,15 @@ freed_none a = record { turns = []; asked = refl; talk = refl }
 
 -- and one more
 pub freed_more : (shapes : List ArrayShape) (i : ℕ) (shape : ArrayShape) (name : List ℕ) (a b c : Link) (n : ℕ) → AreFreed (arrays_of (take i shapes)) a b
-    → name ≡ (sized_by shape).0 → Turn (Free name) b c (Taken n) → i < length shapes → shape ≡ get_or shapes i shape → AreFreed (arrays_of (take (i + 1) shapes)) a c
+    → name ≡ (shape_sized shape).0 → Turn (Free name) b c (Taken n) → i < length shapes → shape ≡ get_or shapes i shape → AreFreed (arrays_of (take (i + 1) shapes)) a c
 freed_more shapes i shape name a b c n freed named turn within at =
-    let all : arrays_of (take (i + 1) shapes) ≡ arrays_of (take i shapes) ++ sized_by shape ∷ [] =
-    ap arrays_of (take_more shapes i shape within ∙ ap (λ x. take i shapes ++ x ∷ []) (sym at)) ∙ map-append sized_by (take i shapes) (shape ∷ []) in
+    let all : arrays_of (take (i + 1) shapes) ≡ arrays_of (take i shapes) ++ shape_sized shape ∷ [] =
+    ap arrays_of (take_more shapes i shape within ∙ ap (λ x. take i shapes ++ x ∷ []) (sym at)) ∙ map-append shape_sized (take i shapes) (shape ∷ []) in
     let last : List (Question × Reply) = (Free name, Taken n) ∷ [] in
     record {
       turns = freed.turns ++ last;
       asked = map-append (λ t. t.0) freed.turns last ∙ ap₂ (λ l x. l ++ Free x ∷ []) freed.asked named
-          ∙ sym (map-append (λ x. Free x.0) (arrays_of (take i shapes)) (sized_by shape ∷ [])) ∙ ap (map (λ x. Free x.0)) (sym all);
+          ∙ sym (map-append (λ x. Free x.0) (arrays_of (take i shapes)) (shape_sized shape ∷ [])) ∙ ap (map (λ x. Free x.0)) (sym all);
       talk = talks_append a b c freed.turns last freed.talk (talks_one b c (Free name, Taken n) turn);
     }
 
@@ -83,7 +83,7 @@ frees_all old told new number found shapes (Err fault) talk same stops =
     stops_later old told new ((Checkpoint, Taken number) ∷ (Arrays, Listed found) ∷ []) fault talk stops
 
 -- the names are told, and then the cells of each array
-pub all_told : (a b c : Link) (shapes : List (List ℕ × ℕ)) (arrays : List Named) → Turn Arrays a b (Listed shapes) → AsksInTurn b c (map cells_turn arrays) → listed arrays ≡ shapes
+pub all_told : (a b c : Link) (shapes : List (List ℕ × ℕ)) (arrays : List Named) → Turn Arrays a b (Listed shapes) → AsksInTurn b c (map cells_turn arrays) → arrays_listed arrays ≡ shapes
     → AsksInTurn a c (arrays_turns arrays)
 all_told a b c shapes arrays turn talk same = (b, subst (λ l. Turn Arrays a b (Listed l)) (sym same) turn, talk)
 

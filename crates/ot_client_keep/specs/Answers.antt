@@ -12,5 +12,5 @@ reply_by (v.Used units) = Used units
 reply_by (v.Listed arrays) = Listed (arrays_of arrays.items)
 reply_by (v.Cells cells) = Cells cells.items
 
-abbrev pub sized_by : ArrayShape → List ℕ × ℕ
-sized_by a = (string_bytes a.name, a.len)
+abbrev pub shape_sized : ArrayShape → List ℕ × ℕ
+shape_sized a = (string_bytes a.name, a.len)

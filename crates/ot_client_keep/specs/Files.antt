@@ -30,9 +30,9 @@ put_line name piece =
     compact_text (array (items_of (string (codes "put") ∷ string name ∷ nat piece.start ∷ nats piece.numbers ∷ []))) ++ 10 ∷ []
 
 -- the cells behind the pieces, one after another
-abbrev pub written : List ℕ → List Piece → List ℕ
-written cells [] = cells
-written cells (p ∷ ps) = written (overwritten cells p.start p.numbers) ps
+abbrev pub cells_written : List ℕ → List Piece → List ℕ
+cells_written cells [] = cells
+cells_written cells (p ∷ ps) = cells_written (overwritten cells p.start p.numbers) ps
 
 -- the piece has numbers, and lies within so many cells
 pub record Fits (len : ℕ) (piece : Piece) : Type 0 where
@@ -43,7 +43,7 @@ pub record Fits (len : ℕ) (piece : Piece) : Type 0 where
 pub record MakesOne (named : Named) (text : List ℕ) : Type 0 where
   pub pieces : List Piece
   pub fit : All (Fits (length named.1)) pieces
-  pub cells : written (replicate (length named.1) 0) pieces ≡ named.1
+  pub cells : cells_written (replicate (length named.1) 0) pieces ≡ named.1
   pub is : text ≡ new_line named.0 (length named.1) ++ concat (map (put_line named.0) pieces)
 
 -- the text makes the arrays, in their order
@@ -57,8 +57,8 @@ bye_line = codes "[\"bye\"]\n"
 -- ---- the line behind it
 
 -- what the sum is taken of: the session, its goodbye, and both numbers
-abbrev pub summed : List ℕ → ℕ → ℕ → List ℕ
-summed session next used = session ++ (bye_line ++ (decimal next ++ (codes " " ++ decimal used)))
+abbrev pub text_summed : List ℕ → ℕ → ℕ → List ℕ
+text_summed session next used = session ++ (bye_line ++ (decimal next ++ (codes " " ++ decimal used)))
 
 -- `{"next": NEXT, "used": USED, "sha256": "SUM"}` and an LF
 abbrev pub note_text : List ℕ → ℕ → ℕ → List ℕ
@@ -66,7 +66,7 @@ note_text sum next used =
     codes "{\"next\": " ++ (decimal next ++ (codes ", \"used\": " ++ (decimal used ++ (codes ", \"sha256\": \"" ++ (sum ++ codes "\"}\n")))))
 
 abbrev pub note_line : List ℕ → ℕ → ℕ → List ℕ
-note_line session next used = note_text (encode_lower (sha256 (summed session next used))) next used
+note_line session next used = note_text (encode_lower (sha256 (text_summed session next used))) next used
 
 -- the session, its goodbye, and the line with the number of the next request, the used units, and the sum
 abbrev pub file_text : List ℕ → ℕ → ℕ → List ℕ
@@ -102,9 +102,9 @@ list_in (item tag (item n no_items)) = if is_word tag (codes "ok") then option_m
 list_in (item tag (item n (item told no_items))) = option_and_then (λ k. listed_of tag told) (size_in 1 n)
 list_in ds = None
 
-abbrev pub reply_of : Data → Option Reply
-reply_of d = option_and_then list_in (as_array d)
+abbrev pub reply_in_file : Data → Option Reply
+reply_in_file d = option_and_then list_in (as_array d)
 
 -- what a line tells, its LF among its white space
 abbrev pub reply_in : List ℕ → Option Reply
-reply_in line = option_and_then reply_of (value_of line)
+reply_in line = option_and_then reply_in_file (value_of line)

@@ -1,11 +1,11 @@
 -- What is asked of a server, and what it answers.
 use Rattle.std.specs.Prelude.{◌≡◌, ◌==◌, ℕ, Bool, true, false, if◌then◌else◌, List, [], ◌∷◌, ◌++◌, length, codes, decimal, Option, Some, None, option_and_then, ⊤, ◌⊎◌, map}
-use Rattle.ot_client_ask.specs.Streams.{GivesLine, IsUnanswered, Link, Writes, BreaksOff, IsStreamOver}
+use Rattle.ot_client_ask.specs.Streams.{GivesLine, IsUnanswered, Link, Writes, BreaksOffIn, IsStreamOver}
 use Rattle.ot_client_ask.specs.declared.asked.AskFault.TheVariants as ask
 use Rattle.ot_client_keep.specs.Files.{Reply, Taken, Used, Listed, Cells, reply_in, bye_line}
 use Rattle.ot_client_keep.specs.declared.fault.KeepFault.{KeepFault}
 use Rattle.ot_client_keep.specs.declared.fault.KeepFault.TheVariants.{Ask, StrangeReply}
-use Rattle.ot_store.specs.Arrays.{Named, listed}
+use Rattle.ot_store.specs.Arrays.{Named, arrays_listed}
 
 pub data Question : Type 0 where
   Checkpoint : Question
@@ -33,18 +33,18 @@ question_line (Free name) = free_line name
 question_line (Line line) = line
 
 -- the reply is of the kind that the request asks for
-abbrev pub answers : Question → Reply → Bool
-answers Checkpoint (Taken n) = true
-answers Units (Used units) = true
-answers Arrays (Listed arrays) = true
-answers (CellsOf name len) (Cells cells) = length cells == len
-answers (Free name) (Taken n) = true
-answers (Line line) (Taken n) = true
-answers question reply = false
+abbrev pub fits_question : Question → Reply → Bool
+fits_question Checkpoint (Taken n) = true
+fits_question Units (Used units) = true
+fits_question Arrays (Listed arrays) = true
+fits_question (CellsOf name len) (Cells cells) = length cells == len
+fits_question (Free name) (Taken n) = true
+fits_question (Line line) (Taken n) = true
+fits_question question reply = false
 
 -- what a line tells in answer to a request
 abbrev pub answer_to : Question → List ℕ → Option Reply
-answer_to question line = option_and_then (λ r. if answers question r then Some r else None) (reply_in line)
+answer_to question line = option_and_then (λ r. if fits_question question r then Some r else None) (reply_in line)
 
 -- a line is sent, and this one heard
 pub record IsReplied (line : List ℕ) (old new : Link) (reply : List ℕ) : Type 0 where
@@ -81,8 +81,8 @@ pub record StopsAsking (old new : Link) (fault : KeepFault) : Type 0 where
 
 -- How a tenant's arrays are asked for, and how a session ends.
 
-abbrev pub sized : Named → List ℕ × ℕ
-sized array = (array.0, length array.1)
+abbrev pub array_sized : Named → List ℕ × ℕ
+array_sized array = (array.0, length array.1)
 
 -- all cells of an array are asked for, and these are told
 abbrev pub cells_turn : Named → Question × Reply
@@ -90,9 +90,9 @@ cells_turn array = (CellsOf array.0 (length array.1), Cells array.1)
 
 -- the names are asked for, and then the cells of each array, and these are told
 abbrev pub arrays_turns : List Named → List (Question × Reply)
-arrays_turns arrays = (Arrays, Listed (listed arrays)) ∷ map cells_turn arrays
+arrays_turns arrays = (Arrays, Listed (arrays_listed arrays)) ∷ map cells_turn arrays
 
 -- A goodbye, or a front of it where the server has gone, is sent, and then the server's stream is over.
-pub record SaysBye (old new : Link) : Type 0 where
-  pub sends : Writes old.sent new.sent bye_line ⊎ BreaksOff old.sent new.sent bye_line
+pub record SendsBye (old new : Link) : Type 0 where
+  pub sends : Writes old.sent new.sent bye_line ⊎ BreaksOffIn old.sent new.sent bye_line
   pub waits : IsStreamOver old.heard new.heard

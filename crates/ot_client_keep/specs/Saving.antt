@@ -2,10 +2,10 @@
 use Rattle.std.specs.Prelude.{◌≡◌, ◌⊎◌, ◌+◌, ℕ, List, [], ◌∷◌, ◌++◌, Result, Ok, Err, ◌≢◌, All, length, map, ⊤, Bool, true, false, MatchResult}
 use Rattle.ot_store.specs.Arrays.{Named}
 use Rattle.ot_client_ask.specs.Asking.{GreetsServer}
-use Rattle.ot_client_ask.specs.Streams.{BreaksOff, Link, Outgoing, Writes, IsWhole}
+use Rattle.ot_client_ask.specs.Streams.{BreaksOffIn, Link, Outgoing, Writes, IsWhole}
 use Rattle.ot_client_ask.specs.declared.asked.AskFault.{AskFault}
 use Rattle.ot_client_keep.specs.Files.{Makes, file_text, AreLines, IsNoFile, Reply, Taken, Used, Listed}
-use Rattle.ot_client_keep.specs.Questions.{Question, Checkpoint, Units, StopsAsking, AsksInTurn, Arrays, Free, Line, TurnFails, Turn, SaysBye, arrays_turns}
+use Rattle.ot_client_keep.specs.Questions.{Question, Checkpoint, Units, StopsAsking, AsksInTurn, Arrays, Free, Line, TurnFails, Turn, SendsBye, arrays_turns}
 use Rattle.ot_client_keep.specs.declared.fault.KeepFault.{KeepFault}
 use Rattle.ot_client_keep.specs.declared.fault.KeepFault.TheVariants.{Ask, WriteFailed, Differs, HasArrays, NotWhole, Refused, StrangeReply}
 use Rattle.ot_client_keep.specs.declared.saving.Saved.{Saved}
@@ -43,9 +43,9 @@ IsUnheld name old new fault =
 -- a save, by what it came to
 abbrev pub Saves : List ℕ → Link → Link → Outgoing → Outgoing → Result Saved KeepFault → Type 0
 Saves name old new start held (Ok saved) =
-    (told : Link) × (text : List ℕ) × IsText name old told saved.next saved.used text × Writes start held text × SaysBye told new
+    (told : Link) × (text : List ℕ) × IsText name old told saved.next saved.used text × Writes start held text × SendsBye told new
 Saves name old new start held (Err WriteFailed) =
-    (next : ℕ) × (used : ℕ) × (text : List ℕ) × IsText name old new next used text × BreaksOff start held text
+    (next : ℕ) × (used : ℕ) × (text : List ℕ) × IsText name old new next used text × BreaksOffIn start held text
 Saves name old new start held (Err fault) = IsUnheld name old new fault × (held ≡ start)
 
 -- How a tenant is restored.
@@ -156,7 +156,7 @@ pub record IsRestored (name : List ℕ) (replace : Bool) (old new : Link) (sessi
   pub clears : IsClear replace greeted clear
   pub takes : IsTaken session clear sent
   pub makes : AreMade sent told session
-  pub bye : SaysBye told new
+  pub bye : SendsBye told new
 
 -- A restore, by what it came to. Nothing is sent where the file is no file's text. That the tenant has arrays is told where they
 -- aren't to be replaced alone.

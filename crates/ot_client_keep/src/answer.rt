@@ -2,7 +2,7 @@
 ghost use Rattle.std.specs.Prelude.{◌≡◌, IfOk, option_map};
 ghost use Rattle.serde_json.specs.Data.{item, no_items};
 ghost use Rattle.serde_json.specs.View.{view, items_view};
-ghost use Rattle.ot_client_keep.specs.Files.{list_in, listed_of, reply_in, reply_of};
+ghost use Rattle.ot_client_keep.specs.Files.{list_in, listed_of, reply_in, reply_in_file};
 ghost use Rattle.ot_client_keep.specs.Answers.{reply_by};
 
 use ot_book::{read_arrays, read_line, read_numbers, read_size};
@@ -35,7 +35,7 @@ pub(crate) fn read_answer(alloc: Global, reply: &[u8]) -> Result<Option<Answer>,
 }
 
 fn read_reply(alloc: Global, value: &Value) -> Result<Option<Answer>, AllocError>
-    ensures { IfOk result (λ answer. option_map reply_by answer ≡ reply_of (view value.now)) }
+    ensures { IfOk result (λ answer. option_map reply_by answer ≡ reply_in_file (view value.now)) }
 {
     match value {
         Value::Array(items) => read_list(alloc, items),

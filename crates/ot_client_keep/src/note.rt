@@ -1,6 +1,6 @@
 //! The line behind a session.
 ghost use Rattle.std.specs.Prelude.{◌≡◌, ◌++◌, ◌∷◌, ◌<◌, ◌^◌, ℕ, List, IfOk, string_bytes};
-ghost use Rattle.ot_client_keep.specs.Files.{bye_line, note_line, note_text, summed};
+ghost use Rattle.ot_client_keep.specs.Files.{bye_line, note_line, note_text, text_summed};
 ghost use Rattle.hex.specs.Hex.{encode_lower};
 ghost use Rattle.sha2.specs.Sha256.{sha256};
 
@@ -28,7 +28,7 @@ fn note_text(alloc: Global, sum: &str, next: u64, used: u64) -> Result<String, A
 
 /// The sum, in hex.
 fn sum_of(alloc: Global, session: &[u8], next: u64, used: u64) -> Result<String, AllocError>
-    ensures { IfOk result (λ sum. string_bytes sum ≡ encode_lower (sha256 (summed session.now next used))) }
+    ensures { IfOk result (λ sum. string_bytes sum ≡ encode_lower (sha256 (text_summed session.now next used))) }
 {
     let numbers = format!(in alloc; "{next} {used}")?;
     let mut hasher = Sha256::new();

@@ -3,8 +3,8 @@ ghost use Rattle.std.specs.Prelude.{◌≡◌, IfOk, MatchResult, string_bytes, 
 ghost use Rattle.ot_client_ask.specs.Streams.{link, outgoing};
 ghost use Rattle.ot_client_keep.specs.Answers.{reply_by};
 ghost use Rattle.ot_client_keep.specs.Files.{Cells, Listed, Taken, Used};
-ghost use Rattle.ot_client_keep.specs.Asked.{asked_by};
-ghost use Rattle.ot_client_keep.specs.Questions.{Arrays, CellsOf, Checkpoint, TurnFails, Free, Line, Turn, Units, answers, cells_line, free_line, question_line};
+ghost use Rattle.ot_client_keep.specs.Asked.{question_by};
+ghost use Rattle.ot_client_keep.specs.Questions.{Arrays, CellsOf, Checkpoint, TurnFails, Free, Line, Turn, Units, fits_question, cells_line, free_line, question_line};
 ghost use Rattle.ot_model.specs.Programs.{arrays_of};
 
 use crate::answer::{Answer, read_answer};
@@ -157,11 +157,11 @@ fn ask<H: LineSource, W: Sink>(
     wire: &mut W,
 ) -> Result<Answer, KeepFault>
     ensures turn { MatchResult result
-        (λ answer. Turn (asked_by question.now) (link (H.coming heard.old) (outgoing (W.contents wire.old) (W.failures wire.old)))
+        (λ answer. Turn (question_by question.now) (link (H.coming heard.old) (outgoing (W.contents wire.old) (W.failures wire.old)))
         (link (H.coming heard.new) (outgoing (W.contents wire.new) (W.failures wire.new))) (reply_by answer))
-        (λ fault. TurnFails (asked_by question.now) (link (H.coming heard.old) (outgoing (W.contents wire.old) (W.failures wire.old)))
+        (λ fault. TurnFails (question_by question.now) (link (H.coming heard.old) (outgoing (W.contents wire.old) (W.failures wire.old)))
         (link (H.coming heard.new) (outgoing (W.contents wire.new) (W.failures wire.new))) fault) }
-    ensures fits { IfOk result (λ answer. answers (asked_by question.now) (reply_by answer) ≡ true) }
+    ensures fits { IfOk result (λ answer. fits_question (question_by question.now) (reply_by answer) ≡ true) }
 {
     let Ok(line) = question_line(alloc, question) else {
         return Err(KeepFault::Ask(AskFault::Memory));
@@ -182,7 +182,7 @@ fn ask<H: LineSource, W: Sink>(
 
 /// The line of a request, with its LF.
 fn question_line(alloc: Global, question: &Question<'_>) -> Result<Vec<u8>, AllocError>
-    ensures { IfOk result (λ line. line.items ≡ question_line (asked_by question.now)) }
+    ensures { IfOk result (λ line. line.items ≡ question_line (question_by question.now)) }
 {
     match question {
         Question::Checkpoint => Vec::from_slice(alloc, b"[\"checkpoint\"]\n".as_slice()),
@@ -210,7 +210,7 @@ fn free_line(alloc: Global, name: &str) -> Result<Vec<u8>, AllocError>
 
 /// Whether an answer is one to the request.
 fn fits(question: &Question<'_>, answer: &Answer) -> bool
-    ensures { result ≡ answers (asked_by question.now) (reply_by answer.now) }
+    ensures { result ≡ fits_question (question_by question.now) (reply_by answer.now) }
 {
     match (question, answer) {
         (Question::Checkpoint | Question::Free(_) | Question::Line(_), Answer::Taken(_)) => true,

@@ -2,10 +2,10 @@
 ghost use Rattle.std.specs.Prelude.{◌≡◌, MatchResult, map};
 ghost use Rattle.ot_client_ask.specs.Streams.{link, outgoing};
 ghost use Rattle.ot_model.specs.Programs.{arrays_of};
-ghost use Rattle.ot_store.specs.Arrays.{listed};
-ghost use Rattle.ot_client_keep.specs.Answers.{sized_by};
+ghost use Rattle.ot_store.specs.Arrays.{arrays_listed};
+ghost use Rattle.ot_client_keep.specs.Answers.{shape_sized};
 ghost use Rattle.ot_client_keep.specs.Arrays.{named_by};
-ghost use Rattle.ot_client_keep.specs.Questions.{TurnFails, StopsAsking, AsksInTurn, Turn, arrays_turns, cells_turn, SaysBye, sized};
+ghost use Rattle.ot_client_keep.specs.Questions.{TurnFails, StopsAsking, AsksInTurn, Turn, arrays_turns, cells_turn, SendsBye, array_sized};
 
 use crate::array::Array;
 use crate::fault::KeepFault;
@@ -44,7 +44,7 @@ fn read_each<H: LineSource, W: Sink>(
     ensures { MatchResult result
         (λ arrays. AsksInTurn (link (H.coming heard.old) (outgoing (W.contents wire.old) (W.failures wire.old)))
         (link (H.coming heard.new) (outgoing (W.contents wire.new) (W.failures wire.new))) (map cells_turn (map named_by arrays.items))
-        × (listed (map named_by arrays.items) ≡ arrays_of shapes.now))
+        × (arrays_listed (map named_by arrays.items) ≡ arrays_of shapes.now))
         (λ fault. StopsAsking (link (H.coming heard.old) (outgoing (W.contents wire.old) (W.failures wire.old)))
         (link (H.coming heard.new) (outgoing (W.contents wire.new) (W.failures wire.new))) fault) }
 {
@@ -70,7 +70,7 @@ fn read_array<H: LineSource, W: Sink>(
     wire: &mut W,
 ) -> Result<Array, KeepFault>
     ensures { MatchResult result
-        (λ array. (sized (named_by array) ≡ sized_by shape.now)
+        (λ array. (array_sized (named_by array) ≡ shape_sized shape.now)
         × Turn (cells_turn (named_by array)).0 (link (H.coming heard.old) (outgoing (W.contents wire.old) (W.failures wire.old)))
         (link (H.coming heard.new) (outgoing (W.contents wire.new) (W.failures wire.new))) (cells_turn (named_by array)).1)
         (λ fault. StopsAsking (link (H.coming heard.old) (outgoing (W.contents wire.old) (W.failures wire.old)))
@@ -87,7 +87,7 @@ fn read_array<H: LineSource, W: Sink>(
 
 /// Says goodbye, as far as that can be sent, and waits until the stream is over: the tenant is free then.
 pub(crate) fn say_bye<H: LineSource, W: Sink>(heard: &mut H, wire: &mut W)
-    ensures { SaysBye (link (H.coming heard.old) (outgoing (W.contents wire.old) (W.failures wire.old)))
+    ensures { SendsBye (link (H.coming heard.old) (outgoing (W.contents wire.old) (W.failures wire.old)))
         (link (H.coming heard.new) (outgoing (W.contents wire.new) (W.failures wire.new))) }
 {
     let _ = write_whole(wire, b"[\"bye\"]\n".as_slice());

@@ -14,7 +14,7 @@ use Rattle.ot_model.specs.Programs.{arrays_of}
 use Rattle.ot_model.specs.declared.shape.ArrayShape.{ArrayShape}
 use Rattle.ot_store.specs.declared.fault.StoreRefusal.{StoreRefusal}
 use Rattle.ot_store.specs.declared.fault.StoreRefusal.TheVariants.{NameTaken, TooManyCells, TooManyArrays}
-use Rattle.ot_store.specs.Arrays.{Named, names_in, cells_in, cell_count, cells_called, created, listed}
+use Rattle.ot_store.specs.Arrays.{Named, names_in, cells_in, cell_count, cells_called, array_created, arrays_listed}
 use Rattle.ot_store.specs.Refusals.{usual_limits}
 use Rattle.ot_client_mirror.specs.HeardView.{sized_as}
 use Rattle.ot_client_mirror.specs.Mirrors.{Sizes, MayHave}
@@ -60,11 +60,11 @@ distinct_broken (x ∷ xs) y rest some distinct = elim (either-true (bytes_eq y 
 
 -- ---- one more
 
-names-listed : (arrays : List Named) → map (λ (a : List ℕ × ℕ). a.0) (listed arrays) ≡ names_in arrays
+names-listed : (arrays : List Named) → map (λ (a : List ℕ × ℕ). a.0) (arrays_listed arrays) ≡ names_in arrays
 names-listed [] = refl
 names-listed (a ∷ arrays) = ap (λ (ns : List (List ℕ)). a.0 ∷ ns) (names-listed arrays)
 
-taken_is : (name : List ℕ) (arrays : List Named) → is_some (cells_called name arrays) ≡ list_any (bytes_eq name) (map (λ (a : List ℕ × ℕ). a.0) (listed arrays))
+taken_is : (name : List ℕ) (arrays : List Named) → is_some (cells_called name arrays) ≡ list_any (bytes_eq name) (map (λ (a : List ℕ × ℕ). a.0) (arrays_listed arrays))
 taken_is name arrays = is_some-lookup (bytes_eq name) arrays ∙ ap (list_any (bytes_eq name)) (sym (names-listed arrays))
 
 abbrev made_by : Bool → Bool → Bool → List Named → Result (List Named) StoreRefusal
@@ -108,12 +108,12 @@ sum_push sizes a rest =
     ap sum (lens_push sizes a rest) ∙ sum_by-append (λ n. n) lens (a.1 ∷ others) ∙ ap (λ n. sum lens + n) (sum_by-cons (λ n. n) a.1 others)
 
 -- an array that could be made
-pub may_have-more : (arrays new : List Named) (name : List ℕ) (len : ℕ) → 0 < len → created name len usual_limits arrays ≡ Ok new → MayHave (listed arrays) →
-    (listed new ≡ listed arrays ++ (name, len) ∷ []) × MayHave (listed new)
+pub may_have-more : (arrays new : List Named) (name : List ℕ) (len : ℕ) → 0 < len → array_created name len usual_limits arrays ≡ Ok new → MayHave (arrays_listed arrays) →
+    (arrays_listed new ≡ arrays_listed arrays ++ (name, len) ∷ []) × MayHave (arrays_listed new)
 may_have-more arrays new name len some is may =
-    let sizes = listed arrays in
+    let sizes = arrays_listed arrays in
     let ok = ok_by (is_some (cells_called name arrays)) (nat_le 16 (length arrays)) (nat_lt 65536 (cell_count arrays + len)) _ new is in
-    let now : listed new ≡ sizes ++ (name, len) ∷ [] = ap listed ok.3 ∙ listed-push arrays name len in
+    let now : arrays_listed new ≡ sizes ++ (name, len) ∷ [] = ap arrays_listed ok.3 ∙ listed-push arrays name len in
     let none = sym (taken_is name arrays) ∙ ok.0 in
     let wide = length-append sizes ((name, len) ∷ []) in (
       now,
@@ -126,10 +126,10 @@ may_have-more arrays new name len some is may =
     )
 
 -- one that could not
-pub may_not-refused : (arrays : List Named) (name : List ℕ) (len : ℕ) (rest : Sizes) (refusal : StoreRefusal) → created name len usual_limits arrays ≡ Err refusal →
-    MayHave (listed arrays ++ (name, len) ∷ rest) → ⊥
+pub may_not-refused : (arrays : List Named) (name : List ℕ) (len : ℕ) (rest : Sizes) (refusal : StoreRefusal) → array_created name len usual_limits arrays ≡ Err refusal →
+    MayHave (arrays_listed arrays ++ (name, len) ∷ rest) → ⊥
 may_not-refused arrays name len rest refusal is may =
-    let sizes = listed arrays in
+    let sizes = arrays_listed arrays in
     elim (err_by (is_some (cells_called name arrays)) (nat_le 16 (length arrays)) (nat_lt 65536 (cell_count arrays + len)) _ refusal is) [
       | inl taken ↦ distinct_broken (map (λ (a : List ℕ × ℕ). a.0) sizes) name (map (λ (a : List ℕ × ℕ). a.0) rest) (sym (taken_is name arrays) ∙ taken)
           (subst (IsDistinct bytes_eq) (names_push sizes (name, len) rest) may.distinct)

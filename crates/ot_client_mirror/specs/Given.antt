@@ -3,16 +3,16 @@ use Rattle.std.specs.Prelude.{◌≡◌, [], ℕ, List, Bool, Option, Some, ◌�
 use Rattle.ot_store.specs.Arrays.{Named}
 use Rattle.ot_store.specs.Refusals.{usual_limits}
 use Rattle.ot_book.specs.Answers.{Told, is_lost, is_run}
-use Rattle.ot_book.specs.Books.{Register, logged, new_register, next_step, last_told}
+use Rattle.ot_book.specs.Books.{Register, line_logged, new_register, next_step, last_told}
 
 -- a book that begins with these arrays
-abbrev pub begun : List Named → Register
-begun arrays = new_register [] usual_limits arrays
+abbrev pub book_begun : List Named → Register
+book_begun arrays = new_register [] usual_limits arrays
 
 -- it has answered the line, or it would have run a program, and that was given up
 abbrev pub Given : List Named → List ℕ → Register → Type 0
 Given arrays line book =
-    ((memory : Bool) × (book ≡ logged (begun arrays) line memory)) ⊎ ((is_run (next_step (begun arrays) line) ≡ true) × (book ≡ begun arrays))
+    ((memory : Bool) × (book ≡ line_logged (book_begun arrays) line memory)) ⊎ ((is_run (next_step (book_begun arrays) line) ≡ true) × (book ≡ book_begun arrays))
 
 abbrev pub is_lost_in : Option Told → Bool
 is_lost_in None = false

@@ -1,10 +1,10 @@
 -- What a server's reply tells of a line, as far as a mirror goes by it.
 use Rattle.std.specs.Prelude.{◌≡◌, ◌<◌, ◌≤◌, ℕ, List, map, length, sum, replicate, bytes_eq, All, Bool, Option, Some, codes, None, option_map, if◌then◌else◌, option_and_then}
 use Rattle.std.specs.List.{IsDistinct}
-use Rattle.ot_store.specs.Arrays.{Named, listed}
+use Rattle.ot_store.specs.Arrays.{Named, arrays_listed}
 use Rattle.ot_store.specs.Refusals.{usual_limits}
 use Rattle.ot_book.specs.Answers.{Step, Now, Runs, step_of, value_of, answer_or_lost, Told, Accepted, json_of, Arrays, Refused, Offends}
-use Rattle.ot_book.specs.Books.{Register, state_in, logged}
+use Rattle.ot_book.specs.Books.{Register, state_in, line_logged}
 use Rattle.serde_json.specs.Data.{Data, Items, no_items, item}
 use Rattle.serde_json.specs.Find.{as_array}
 use Rattle.ot_program.specs.Meanings.{is_word}
@@ -54,21 +54,21 @@ blank sizes = map (λ a. (a.0, replicate a.1 0)) sizes
 
 -- what a line leaves that does this: a run keeps names and lengths
 abbrev pub left_by : Sizes → Step → Sizes
-left_by sizes (Now told arrays) = listed arrays
+left_by sizes (Now told arrays) = arrays_listed arrays
 left_by sizes (Runs program) = sizes
 
 -- what a line leaves that a tenant with such arrays sends
-abbrev pub sent : Sizes → List ℕ → Sizes
-sent sizes line = left_by sizes (step_of usual_limits (blank sizes) 0 line)
+abbrev pub sizes_sent : Sizes → List ℕ → Sizes
+sizes_sent sizes line = left_by sizes (step_of usual_limits (blank sizes) 0 line)
 
 -- and what it leaves behind such a reply: `ok` tells that it was taken, and whatever else is told, names and lengths stay
-abbrev pub behind : Sizes → List ℕ → Option Told → Sizes
-behind sizes line (Some Accepted) = sent sizes line
-behind sizes line other = sizes
+abbrev pub sizes_behind : Sizes → List ℕ → Option Told → Sizes
+sizes_behind sizes line (Some Accepted) = sizes_sent sizes line
+sizes_behind sizes line other = sizes
 
 -- Where a book has arrays of some sizes, whatever is in their cells, and a reply tells what the book answers to a line, the
 -- book has arrays of the sizes behind it.
 abbrev pub MirrorFollows : Type 0
 MirrorFollows = (book : Register) (line reply : List ℕ) (memory : Bool) (number : ℕ) → book.limits ≡ usual_limits →
     value_of reply ≡ Some (json_of number (answer_or_lost book.limits (state_in book) line memory).0) →
-    listed (logged book line memory).store ≡ behind (listed book.store) line (told_in reply)
+    arrays_listed (line_logged book line memory).store ≡ sizes_behind (arrays_listed book.store) line (told_in reply)

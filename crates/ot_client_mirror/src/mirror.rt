@@ -1,5 +1,5 @@
 //! A tenant's arrays as far as a server's replies tell.
-ghost use Rattle.ot_client_mirror.specs.Mirrors.{MirrorFollows, MayHave, Sizes, behind};
+ghost use Rattle.ot_client_mirror.specs.Mirrors.{MirrorFollows, MayHave, Sizes, sizes_behind};
 
 use crate::heard::{Heard, hear};
 use crate::remarks::remarks_on_refusal;
@@ -16,11 +16,11 @@ pub struct Mirror {
 
 impl Model for Mirror {
     ghost use Rattle.std.specs.Prelude.{ℕ, List};
-    ghost use Rattle.ot_store.specs.Arrays.{listed};
+    ghost use Rattle.ot_store.specs.Arrays.{arrays_listed};
 
     ghost Value = { List (List ℕ × ℕ) };
 
-    ghost view = { λ m. listed m.store };
+    ghost view = { λ m. arrays_listed m.store };
 }
 
 impl Mirror {
@@ -49,7 +49,7 @@ impl Mirror {
     #[tactic(auto, using(crate::proofs::RemarksLemmas::on_refusal))]
     pub fn take(&mut self, alloc: Global, line: &[u8], reply: &[u8]) -> Result<Vec<u8>, AllocError>
         ensures remarks { IfOk result (λ text. AreOn (option_and_then code_in (told_in reply.now)) text.items) }
-        ensures arrays { OnOk result (self.new ≡ behind self.old line.now (told_in reply.now)) }
+        ensures arrays { OnOk result (self.new ≡ sizes_behind self.old line.now (told_in reply.now)) }
         ensures kept { OnErr result (self.new ≡ self.old) }
     {
         let Some(heard) = hear(alloc, reply)? else {

@@ -1,11 +1,11 @@
 //! Arrays of the sizes that replies tell, and what lines make of them.
 ghost use Rattle.std.specs.Prelude.{◌≡◌, IfOk, MatchOption, option_map};
 ghost use Rattle.ot_model.specs.Programs.{arrays_of};
-ghost use Rattle.ot_store.specs.Arrays.{listed};
+ghost use Rattle.ot_store.specs.Arrays.{arrays_listed};
 ghost use Rattle.ot_book.specs.ReplyView.{told_of};
 ghost use Rattle.ot_client_mirror.specs.Given.{Given, ran_out};
 ghost use Rattle.ot_book.specs.Books.{last_told};
-ghost use Rattle.ot_client_mirror.specs.Mirrors.{MayHave, sent};
+ghost use Rattle.ot_client_mirror.specs.Mirrors.{MayHave, sizes_sent};
 
 use ot_book::{Book, Opened, Told};
 use ot_model::ArrayShape;
@@ -15,7 +15,7 @@ use std::alloc::{AllocError, Global};
 /// Arrays of these names and lengths, where a tenant may have such.
 pub(crate) fn store_of(alloc: Global, arrays: &[ArrayShape]) -> Result<Option<Store>, AllocError>
     ensures { IfOk result (λ store. MatchOption store (¬ (MayHave (arrays_of arrays.now)))
-        (λ s. (listed s ≡ arrays_of arrays.now) × MayHave (arrays_of arrays.now))) }
+        (λ s. (arrays_listed s ≡ arrays_of arrays.now) × MayHave (arrays_of arrays.now))) }
 {
     let limits = Limits::usual();
     let mut store = Store::empty(alloc);
@@ -64,7 +64,7 @@ fn ran_out(book: &Book) -> bool
 
 /// The arrays behind a line that a tenant with such arrays sends, where no program is run.
 pub(crate) fn store_behind(alloc: Global, store: &Store, line: &[u8]) -> Result<Store, AllocError>
-    ensures { IfOk result (λ new. listed new ≡ sent (listed store.now) line.now) }
+    ensures { IfOk result (λ new. arrays_listed new ≡ sizes_sent (arrays_listed store.now) line.now) }
 {
     let book = book_behind(alloc, store, line)?;
     if ran_out(&book) {

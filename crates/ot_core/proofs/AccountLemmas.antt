@@ -10,13 +10,13 @@ use Rattle.std.proofs.lemmas.List.{length-map, length-take, length-append, map-a
 use Rattle.ot_model.specs.Programs.{expanded_of}
 use Rattle.ot_check.specs.Jobs.{Spec}
 use Rattle.ot_book.specs.Answers.{State, opening, answers, answer_or_lost, is_checkpoint, Told, is_lost}
-use Rattle.ot_book.specs.Books.{Register, IsOpenFor, max_number, appended, cleared, logged, opened, open_line, state_in, IsFullFor, AnswersNow, OpensLine}
+use Rattle.ot_book.specs.Books.{Register, IsOpenFor, max_number, register_with_line, log_cleared, line_logged, request_opened, open_line, state_in, IsFullFor, AnswersNow, OpensLine}
 use Rattle.ot_book.specs.declared.book.Opened.{Opened}
 use Rattle.ot_book.specs.declared.book.Opened.TheVariants.{Full, Answered, ToRun}
 use Rattle.ot_book.specs.Room.{Room, takes, with_entry, empty_room, room_after, TakesAll}
 use Rattle.ot_book.proofs.BookLemmas.{answers-more, is_lost-answer_or_lost, state-cleared, state-logged, logged-by, runs-other}
 use Rattle.ot_book.proofs.RoomLemmas.{room-logged, takes-free, room_after-append, takes_all-more, takes_all-at}
-use Rattle.ot_core.specs.Accounts.{Account, told, answered, marked, first_room, room_asked, IsSound, IsUnopened, Waits, with_reply, with_open, next_line}
+use Rattle.ot_core.specs.Accounts.{Account, told_so_far, answered_count, lines_marked, first_room, room_asked, IsSoundAccount, IsUnopened, Waits, with_reply, with_open, next_line}
 use Rattle.ot_core.specs.AccountView.{account_of, IsTenant}
 use Rattle.ot_core.specs.declared.tenant.Tenant.TheInside.{Inside}
 
@@ -31,16 +31,16 @@ pub none-from : {A : Type 0} (o : Option A) → (IsSome o → ⊥) → o ≡ Non
 none-from None not = refl
 none-from (Some x) not = absurd (not refl)
 
-pub answered-≤ : (a : Account) → IsSound a → answered a ≤ length a.asked
+pub answered-≤ : (a : Account) → IsSoundAccount a → answered_count a ≤ length a.asked
 answered-≤ a sound = sound.within
 
-pub length-told : (a : Account) → length (told a) ≡ answered a
+pub length-told : (a : Account) → length (told_so_far a) ≡ answered_count a
 length-told a = omega (arith, length-append a.kept (map (λ (e : List ℕ × Told). e.1) a.book.log), length-map a.book.log (λ (e : List ℕ × Told). e.1))
 
-next-asked : (a : Account) → answered a < length a.asked → slice_get a.asked (answered a) ≡ Some (next_line a)
-next-asked a below = slice_get-get_or a.asked (answered a) [] below ∙ ap Some (sym (unwrap_or-slice_get a.asked (answered a) []))
+next-asked : (a : Account) → answered_count a < length a.asked → slice_get a.asked (answered_count a) ≡ Some (next_line a)
+next-asked a below = slice_get-get_or a.asked (answered_count a) [] below ∙ ap Some (sym (unwrap_or-slice_get a.asked (answered_count a) []))
 
-line-next : (a : Account) (line : List ℕ) → slice_get a.asked (answered a) ≡ Some line → next_line a ≡ line
+line-next : (a : Account) (line : List ℕ) → slice_get a.asked (answered_count a) ≡ Some line → next_line a ≡ line
 line-next a line is = ap (λ o. unwrap_or o []) is
 
 -- the number of the next line is one more than that of those answered
@@ -54,12 +54,12 @@ takes-within r line is = elim (leb_tells r.next max_number) [
   | inr at ↦ absurd (true≢false (sym is ∙ ap (λ t. if t then (if nat_le r.limit r.entries then is_checkpoint line else true) else false) at.0))
 ]
 
-pub sound-admitted : (a : Account) (line : List ℕ) → IsSound a → takes (room_asked a) line ≡ true → IsSound (record a { asked = a.asked ++ line ∷ [] })
+pub sound-admitted : (a : Account) (line : List ℕ) → IsSoundAccount a → takes (room_asked a) line ≡ true → IsSoundAccount (record a { asked = a.asked ++ line ∷ [] })
 sound-admitted a line sound room =
-    let n = answered a in
+    let n = answered_count a in
     let same : take n (a.asked ++ line ∷ []) ≡ take n a.asked = take-append-le n a.asked (line ∷ []) sound.within in
     let few : (room_asked a).next < 2 ^ 32 = takes-within (room_asked a) line room in record {
-      whole = ap (λ ls. answers a.book.limits (opening a.base) (marked ls (told a))) same ∙ sound.whole;
+      whole = ap (λ ls. answers a.book.limits (opening a.base) (lines_marked ls (told_so_far a))) same ∙ sound.whole;
       within = omega (arith, sound.within, length-append a.asked (line ∷ []));
       room = sound.room ∙ ap (room_after (first_room a)) (sym same);
       taken = takes_all-more (first_room a) a.asked line sound.taken room;
@@ -79,29 +79,29 @@ sound-admitted a line sound room =
 abbrev pub said_next : Account → Bool → Told
 said_next a lost = (answer_or_lost a.book.limits (state_in a.book) (next_line a) lost).0
 
-pub told-replied : (a : Account) (lost : Bool) → told (with_reply a lost) ≡ told a ++ said_next a lost ∷ []
+pub told-replied : (a : Account) (lost : Bool) → told_so_far (with_reply a lost) ≡ told_so_far a ++ said_next a lost ∷ []
 told-replied a lost = by (is_checkpoint (next_line a))
   where
-    by : (test : Bool) → (if test then told a else a.kept) ++ map (λ (e : List ℕ × Told). e.1) (if test then appended (cleared a.book) (next_line a) lost else appended a.book (next_line a) lost).log ≡ told a ++ said_next a lost ∷ []
-    by true = ap (λ s. told a ++ (answer_or_lost a.book.limits s (next_line a) lost).0 ∷ []) (state-cleared a.book)
+    by : (test : Bool) → (if test then told_so_far a else a.kept) ++ map (λ (e : List ℕ × Told). e.1) (if test then register_with_line (log_cleared a.book) (next_line a) lost else register_with_line a.book (next_line a) lost).log ≡ told_so_far a ++ said_next a lost ∷ []
+    by true = ap (λ s. told_so_far a ++ (answer_or_lost a.book.limits s (next_line a) lost).0 ∷ []) (state-cleared a.book)
     by false = ap (λ l. a.kept ++ l) (map-append (λ (e : List ℕ × Told). e.1) a.book.log ((next_line a, said_next a lost) ∷ []))
         ∙ sym (append_assoc a.kept (map (λ (e : List ℕ × Told). e.1) a.book.log) (said_next a lost ∷ []))
 
-pub answered-replied : (a : Account) (lost : Bool) → answered (with_reply a lost) ≡ answered a + 1
+pub answered-replied : (a : Account) (lost : Bool) → answered_count (with_reply a lost) ≡ answered_count a + 1
 answered-replied a lost =
-    omega (arith, length-told (with_reply a lost), length-told a, ap length (told-replied a lost), length-append (told a) (said_next a lost ∷ []))
+    omega (arith, length-told (with_reply a lost), length-told a, ap length (told-replied a lost), length-append (told_so_far a) (said_next a lost ∷ []))
 
 -- the marks of lines that were all answered, and of further ones
-pub marked-append : (lines rest : List (List ℕ)) (says more : List Told) → length lines ≡ length says → marked (lines ++ rest) (says ++ more) ≡ marked lines says ++ marked rest more
+pub marked-append : (lines rest : List (List ℕ)) (says more : List Told) → length lines ≡ length says → lines_marked (lines ++ rest) (says ++ more) ≡ lines_marked lines says ++ lines_marked rest more
 marked-append [] rest [] more many = refl
 marked-append [] rest (s ∷ says) more many = absurd (omega (arith, many))
 marked-append (l ∷ lines) rest [] more many = absurd (omega (arith, many))
 marked-append (l ∷ lines) rest (s ∷ says) more many = ap (λ (r : List (List ℕ × Bool)). (l, is_lost s) ∷ r) (marked-append lines rest says more (omega (arith, many)))
 
 -- the lines answered are one more
-taken-more : (a : Account) → answered a < length a.asked → take (answered a + 1) a.asked ≡ take (answered a) a.asked ++ next_line a ∷ []
+taken-more : (a : Account) → answered_count a < length a.asked → take (answered_count a + 1) a.asked ≡ take (answered_count a) a.asked ++ next_line a ∷ []
 taken-more a below =
-    take_more a.asked (answered a) [] below ∙ ap (λ l. take (answered a) a.asked ++ l ∷ []) (sym (unwrap_or-slice_get a.asked (answered a) []))
+    take_more a.asked (answered_count a) [] below ∙ ap (λ l. take (answered_count a) a.asked ++ l ∷ []) (sym (unwrap_or-slice_get a.asked (answered_count a) []))
 
 book-replied : (a : Account) (lost : Bool) → ((with_reply a lost).book.limits ≡ a.book.limits) × ((with_reply a lost).book.pending ≡ None)
 book-replied a lost =
@@ -115,35 +115,35 @@ pub open-other : (b : Register) (s : Spec) → IsOpenFor b s → is_checkpoint (
 open-other b s opens =
     ∥∥₁_elim opens.asks (Coded-set bool_code (is_checkpoint (open_line b)) false) (λ asks. runs-other b.limits b.store b.used (open_line b) (expanded_of s.checked.program) asks)
 
-sound-replied : (a : Account) (lost : Bool) → IsSound a → answered a < length a.asked → IsSound (with_reply a lost)
+sound-replied : (a : Account) (lost : Bool) → IsSoundAccount a → answered_count a < length a.asked → IsSoundAccount (with_reply a lost)
 sound-replied a lost sound below =
-    let n = answered a in
+    let n = answered_count a in
     let line = next_line a in
     let said = said_next a lost in
     let b = with_reply a lost in
     let limits = a.book.limits in
-    let count : answered b ≡ n + 1 = answered-replied a lost in
-    let lines : take (answered b) a.asked ≡ take n a.asked ++ line ∷ [] = ap (λ k. take k a.asked) count ∙ taken-more a below in
-    let many : length (take n a.asked) ≡ length (told a) = omega (arith, sound.within, length-take n a.asked, length-told a) in
+    let count : answered_count b ≡ n + 1 = answered-replied a lost in
+    let lines : take (answered_count b) a.asked ≡ take n a.asked ++ line ∷ [] = ap (λ k. take k a.asked) count ∙ taken-more a below in
+    let many : length (take n a.asked) ≡ length (told_so_far a) = omega (arith, sound.within, length-take n a.asked, length-told a) in
     let now : b.book.limits ≡ limits = (book-replied a lost).0 in
     let pending = (book-replied a lost).1 in record {
       whole =
-          ap (λ l. answers l (opening a.base) (marked (take (answered b) a.asked) (told b))) now
-          ∙ ap (λ ls. answers limits (opening a.base) (marked ls (told b))) lines
-          ∙ ap (λ says. answers limits (opening a.base) (marked (take n a.asked ++ line ∷ []) says)) (told-replied a lost)
-          ∙ ap (answers limits (opening a.base)) (marked-append (take n a.asked) (line ∷ []) (told a) (said ∷ []) many)
-          ∙ ap (λ m. answers limits (opening a.base) (marked (take n a.asked) (told a) ++ (line, m) ∷ [])) (is_lost-answer_or_lost limits (state_in a.book) line lost)
-          ∙ answers-more limits (opening a.base) (marked (take n a.asked) (told a)) (line, lost)
+          ap (λ l. answers l (opening a.base) (lines_marked (take (answered_count b) a.asked) (told_so_far b))) now
+          ∙ ap (λ ls. answers limits (opening a.base) (lines_marked ls (told_so_far b))) lines
+          ∙ ap (λ says. answers limits (opening a.base) (lines_marked (take n a.asked ++ line ∷ []) says)) (told-replied a lost)
+          ∙ ap (answers limits (opening a.base)) (marked-append (take n a.asked) (line ∷ []) (told_so_far a) (said ∷ []) many)
+          ∙ ap (λ m. answers limits (opening a.base) (lines_marked (take n a.asked) (told_so_far a) ++ (line, m) ∷ [])) (is_lost-answer_or_lost limits (state_in a.book) line lost)
+          ∙ answers-more limits (opening a.base) (lines_marked (take n a.asked) (told_so_far a)) (line, lost)
           ∙ ap (λ (r : List Told × State). (r.0 ++ (answer_or_lost limits r.1 line lost).0 ∷ [], (answer_or_lost limits r.1 line lost).1)) sound.whole
           ∙ ap (λ says. (says, (answer_or_lost limits (state_in a.book) line lost).1)) (sym (told-replied a lost))
-          ∙ ap (λ s. (told b, s)) (sym (state-logged a.book line lost));
+          ∙ ap (λ s. (told_so_far b, s)) (sym (state-logged a.book line lost));
       within = omega (arith, count, below);
       room =
           room-logged a.book line lost
           ∙ ap (λ r. with_entry r line) sound.room
           ∙ sym (room_after-append (first_room a) (take n a.asked) (line ∷ []))
           ∙ ap (room_after (first_room a)) (sym lines)
-          ∙ ap (λ l. room_after (empty_room l) (take (answered b) a.asked)) (sym now);
+          ∙ ap (λ l. room_after (empty_room l) (take (answered_count b) a.asked)) (sym now);
       taken = subst (λ l. TakesAll (empty_room l) a.asked) (sym now) sound.taken;
       few = sound.few;
       next = λ l is. absurd (none-some l (sym pending ∙ is));
@@ -152,18 +152,18 @@ sound-replied a lost sound below =
     }
 
 -- and so is the tenant
-pub tenant-replied : (a : Account) (lost : Bool) (t : Inside) → IsSound a → answered a < length a.asked → t.since ≡ (room_asked a).entries → account_of t ≡ with_reply a lost → IsTenant t
+pub tenant-replied : (a : Account) (lost : Bool) (t : Inside) → IsSoundAccount a → answered_count a < length a.asked → t.since ≡ (room_asked a).entries → account_of t ≡ with_reply a lost → IsTenant t
 tenant-replied a lost t sound below since is = record {
-  sound = subst IsSound (sym is) (sound-replied a lost sound below);
+  sound = subst IsSoundAccount (sym is) (sound-replied a lost sound below);
   since = since ∙ sym (entries-replied a lost) ∙ ap (λ b. (room_asked b).entries) (sym is);
 }
 
 -- the line that was read is the next one
-pub read-next : (a now : Account) (line : List ℕ) (n : ℕ) → a ≡ now → line ≡ unwrap_or (slice_get a.asked n) [] → n ≡ answered now → line ≡ next_line a
-read-next a now line n is read next = read ∙ ap (λ k. unwrap_or (slice_get a.asked k) []) (next ∙ ap answered (sym is))
+pub read-next : (a now : Account) (line : List ℕ) (n : ℕ) → a ≡ now → line ≡ unwrap_or (slice_get a.asked n) [] → n ≡ answered_count now → line ≡ next_line a
+read-next a now line n is read next = read ∙ ap (λ k. unwrap_or (slice_get a.asked k) []) (next ∙ ap answered_count (sym is))
 
 -- the next line's request is open
-pub sound-opened : (a : Account) (s : Spec) → IsSound a → answered a < length a.asked → IsOpenFor (opened a.book (next_line a)) s → IsSound (with_open a s)
+pub sound-opened : (a : Account) (s : Spec) → IsSoundAccount a → answered_count a < length a.asked → IsOpenFor (request_opened a.book (next_line a)) s → IsSoundAccount (with_open a s)
 sound-opened a s sound below runs = record {
   whole = sound.whole;
   within = sound.within;
@@ -172,62 +172,62 @@ sound-opened a s sound below runs = record {
   few = sound.few;
   next = λ l is. next-asked a below ∙ is;
   open_both = ((λ _. refl), (λ _. refl));
-  waits = λ t is. subst (IsOpenFor (opened a.book (next_line a))) (same_Some s t is) runs;
+  waits = λ t is. subst (IsOpenFor (request_opened a.book (next_line a))) (same_Some s t is) runs;
 }
 
 -- the book takes the next line
-pub free-next : (a : Account) → IsSound a → IsUnopened a → ¬ (IsFullFor a.book (next_line a))
+pub free-next : (a : Account) → IsSoundAccount a → IsUnopened a → ¬ (IsFullFor a.book (next_line a))
 free-next a sound unopened =
     let at = next-asked a unopened.0 in
     let closed : a.book.pending ≡ None = none-from a.book.pending (λ some. absurd (true≢false (sym (sound.open_both.0 some) ∙ ap is_some unopened.1))) in
-    takes-free a.book (next_line a) closed (ap (λ r. takes r (next_line a)) sound.room ∙ takes_all-at (first_room a) a.asked (answered a) (next_line a) sound.taken at)
+    takes-free a.book (next_line a) closed (ap (λ r. takes r (next_line a)) sound.room ∙ takes_all-at (first_room a) a.asked (answered_count a) (next_line a) sound.taken at)
 
 -- an open request is that of the next line
-pub pending-next : (a : Account) → IsSound a → IsSome a.spec → a.book.pending ≡ Some (next_line a)
+pub pending-next : (a : Account) → IsSoundAccount a → IsSome a.spec → a.book.pending ≡ Some (next_line a)
 pending-next a sound waiting =
     let p = the_some a.book.pending (sound.open_both.1 waiting) in
     p.1 ∙ ap Some (sym (line-next a p.0 (sound.next p.0 p.1)))
 
-pub below-open : (a : Account) → IsSound a → IsSome a.spec → answered a < length a.asked
+pub below-open : (a : Account) → IsSoundAccount a → IsSome a.spec → answered_count a < length a.asked
 below-open a sound waiting =
     let is = pending-next a sound waiting in
-    slice_get_within a.asked (answered a) (next_line a) (sound.next (next_line a) is)
+    slice_get_within a.asked (answered_count a) (next_line a) (sound.next (next_line a) is)
 
 -- the next line is no checkpoint: nothing more is kept
-pub reply-kept : (a : Account) (lost : Bool) (book : Register) (spec : Option Spec) → is_checkpoint (next_line a) ≡ false → book ≡ logged a.book (next_line a) lost → spec ≡ None →
+pub reply-kept : (a : Account) (lost : Bool) (book : Register) (spec : Option Spec) → is_checkpoint (next_line a) ≡ false → book ≡ line_logged a.book (next_line a) lost → spec ≡ None →
     with_reply a lost ≡ record a { book = book; spec = spec }
 reply-kept a lost book spec other logs gone =
     rw (logs, gone, other) refl
 
 -- the open request is answered
-pub closed-is : (a : Account) (lost : Bool) (book : Register) (spec : Option Spec) → IsSound a → IsSome a.spec
-    → book ≡ logged a.book (open_line a.book) lost → spec ≡ None
+pub closed-is : (a : Account) (lost : Bool) (book : Register) (spec : Option Spec) → IsSoundAccount a → IsSome a.spec
+    → book ≡ line_logged a.book (open_line a.book) lost → spec ≡ None
     → with_reply a lost ≡ record a { book = book; spec = spec }
 closed-is a lost book spec sound waiting logs gone =
     let same : open_line a.book ≡ next_line a = ap (λ o. unwrap_or o []) (pending-next a sound waiting) in
     let s = the_some a.spec waiting in
-    reply-kept a lost book spec (ap is_checkpoint (sym same) ∙ open-other a.book s.0 (sound.waits s.0 s.1)) (logs ∙ ap (λ l. logged a.book l lost) same) gone
+    reply-kept a lost book spec (ap is_checkpoint (sym same) ∙ open-other a.book s.0 (sound.waits s.0 s.1)) (logs ∙ ap (λ l. line_logged a.book l lost) same) gone
 
 -- the next line is answered at once, and is no checkpoint
-pub answered-is : (a : Account) (book : Register) (line : List ℕ) (lost : Bool) → is_checkpoint line ≡ false → line ≡ next_line a → book ≡ logged a.book line lost → a.spec ≡ None
+pub answered-is : (a : Account) (book : Register) (line : List ℕ) (lost : Bool) → is_checkpoint line ≡ false → line ≡ next_line a → book ≡ line_logged a.book line lost → a.spec ≡ None
     → record a { book = book } ≡ with_reply a lost
 answered-is a book line lost other at is closed =
-    sym (reply-kept a lost book a.spec (ap is_checkpoint (sym at) ∙ other) (is ∙ ap (λ l. logged a.book l lost) at) closed)
+    sym (reply-kept a lost book a.spec (ap is_checkpoint (sym at) ∙ other) (is ∙ ap (λ l. line_logged a.book l lost) at) closed)
 
 -- it is a checkpoint: all that was told is kept
-pub checkpoint-is : (a : Account) (book : Register) (kept : List Told) (line : List ℕ) → is_checkpoint line ≡ true → line ≡ next_line a → book ≡ logged a.book line false →
-    kept ≡ told a → a.spec ≡ None → record a { book = book; kept = kept } ≡ with_reply a false
+pub checkpoint-is : (a : Account) (book : Register) (kept : List Told) (line : List ℕ) → is_checkpoint line ≡ true → line ≡ next_line a → book ≡ line_logged a.book line false →
+    kept ≡ told_so_far a → a.spec ≡ None → record a { book = book; kept = kept } ≡ with_reply a false
 checkpoint-is a book kept line asks at is all closed =
     rw (all, is, at, ← closed, ap is_checkpoint (sym at) ∙ asks) refl
 
 -- its request is open
-pub opened-is : (a : Account) (book : Register) (line : List ℕ) (s : Spec) → line ≡ next_line a → book ≡ opened a.book line
+pub opened-is : (a : Account) (book : Register) (line : List ℕ) (s : Spec) → line ≡ next_line a → book ≡ request_opened a.book line
     → record a { book = book; spec = Some s } ≡ with_open a s
-opened-is a book line s at is = ap (λ b. record a { book = b; spec = Some s }) (is ∙ ap (opened a.book) at)
+opened-is a book line s at is = ap (λ b. record a { book = b; spec = Some s }) (is ∙ ap (request_opened a.book) at)
 
 -- a line whose request waits for a job is no checkpoint
 pub never-waits : (a b : Account) (s : Spec) (lost : Bool) → Waits a s b → is_checkpoint (next_line a) ≡ true → lost ≡ false
-never-waits a b s lost waits asks = absurd (true≢false (sym asks ∙ open-other (opened a.book (next_line a)) waits.spec waits.runs))
+never-waits a b s lost waits asks = absurd (true≢false (sym asks ∙ open-other (request_opened a.book (next_line a)) waits.spec waits.runs))
 
 -- ---- a line is asked
 
@@ -281,5 +281,5 @@ checkpoint-answered b new line Answered asks free opens not = not refl
 checkpoint-answered b new line (ToRun spec) asks free opens not =
     true≢false (sym asks ∙ ap (λ r. is_checkpoint (open_line r)) (sym opens.1) ∙ open-other new spec opens.2)
 
-pub checkpoint-logged : (b new : Register) (line : List ℕ) → is_checkpoint line ≡ true → AnswersNow b line new → new ≡ logged b line false
-checkpoint-logged b new line asks now = now.new_is ∙ ap (logged b line) (now.never asks)
+pub checkpoint-logged : (b new : Register) (line : List ℕ) → is_checkpoint line ≡ true → AnswersNow b line new → new ≡ line_logged b line false
+checkpoint-logged b new line asks now = now.new_is ∙ ap (line_logged b line) (now.never asks)

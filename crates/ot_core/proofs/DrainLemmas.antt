@@ -8,17 +8,17 @@ use Rattle.std.proofs.lemmas.Bool.Decides.{nat_tests}
 use Rattle.std.proofs.lemmas.List.Sums.{sum_by-set, sum_by-cons}
 use Rattle.std.proofs.lemmas.Option.{slice_get_within, get_or_from_slice_get, none-some, same_Some}
 use Rattle.ot_check.specs.Jobs.{Spec}
-use Rattle.ot_job.specs.Dealings.{Live, claimable_in, NoneOut, after_failure, state_of, weight_of, out_of, work_at}
+use Rattle.ot_job.specs.Dealings.{Live, claimable_in, NoneOut, after_failure, live_state, settles_left, out_of, work_at}
 use Rattle.ot_job.specs.declared.state.State.{State}
 use Rattle.ot_job.specs.declared.state.State.TheVariants.{Working, Failing, Ended, Failed}
 use Rattle.ot_job.proofs.DealingsLemmas.{starts-fresh, claimed-gives, settles-pays, fails-breaks}
-use Rattle.ot_core.specs.Accounts.{Account, answered, IsUnopened, with_reply}
-use Rattle.ot_hall.specs.Floors.{job_of, units_of}
-use Rattle.ot_core.specs.Scenes.{Scene, IsScene, IsHeld, hand_of, out_at, seat_of, moved, handed, OpensFor, RepliesTo, StartsFor, Finishes, CanOpen, CannotReply, Steps}
+use Rattle.ot_core.specs.Accounts.{Account, answered_count, IsUnopened, with_reply}
+use Rattle.ot_hall.specs.Floors.{job_of, tenant_units}
+use Rattle.ot_core.specs.Scenes.{Scene, IsScene, IsHeld, hand_of, out_at, seat_of, with_account, with_hand, OpensFor, RepliesTo, StartsFor, Finishes, CanOpen, CannotReply, Steps}
 use Rattle.ot_hall.specs.Lively.{IsLively, LivelyAt}
-use Rattle.ot_core.specs.Toil.{toil, toil_of, toil_by, unopened, one_if, free_hand, opens_of, closed_by, moves_at, full_hand, sum_below, count_of}
-use Rattle.ot_hall.specs.Lively.{over_of, over_by, claimable_of}
-use Rattle.ot_core.specs.Draining.{IsMove, MayStart, MayFinish, AllAnswered}
+use Rattle.ot_core.specs.Toil.{toil, toil_of, toil_by, unopened_count, one_if, free_hand, opens_of, closed_by, moves_at, full_hand, sum_below, moves_left}
+use Rattle.ot_hall.specs.Lively.{over_of, over_by, claimable_count}
+use Rattle.ot_core.specs.Draining.{IsMove, MayStart, MayFinishHand, AllAnswered}
 use Rattle.ot_core.specs.declared.held.Held.{Held}
 use Rattle.ot_core.specs.declared.event.Event.{Event}
 use Rattle.ot_core.specs.declared.event.Event.TheVariants as event
@@ -30,43 +30,43 @@ use Rattle.ot_core.proofs.SceneLemmas.{there, both-none}
 
 -- ---- less to do
 
-unopened-set : (s : Scene) (t : ℕ) (a b : Account) → slice_get s.accounts t ≡ Some a → sum_by unopened (set s.accounts t b) + unopened a ≡ sum_by unopened s.accounts + unopened b
+unopened-set : (s : Scene) (t : ℕ) (a b : Account) → slice_get s.accounts t ≡ Some a → sum_by unopened_count (set s.accounts t b) + unopened_count a ≡ sum_by unopened_count s.accounts + unopened_count b
 unopened-set s t a b at =
-    ap (λ x. sum_by unopened (set s.accounts t b) + unopened x) (sym (get_or_from_slice_get s.accounts t a a at))
-    ∙ sum_by-set unopened s.accounts t b a (slice_get_within s.accounts t a at)
+    ap (λ x. sum_by unopened_count (set s.accounts t b) + unopened_count x) (sym (get_or_from_slice_get s.accounts t a a at))
+    ∙ sum_by-set unopened_count s.accounts t b a (slice_get_within s.accounts t a at)
 
 -- one tenant moves
 falls-moved : (s : Scene) (t : ℕ) (a b : Account) (job : Option Live) (units : List ℕ) → slice_get s.accounts t ≡ Some a → t < length s.floor.jobs
-    → 200000 * unopened b + toil_of job < 200000 * unopened a + toil_of (job_of s.floor.jobs t) → toil (moved s t b (record { jobs = set s.floor.jobs t job; units = units })) < toil s
+    → 200000 * unopened_count b + toil_of job < 200000 * unopened_count a + toil_of (job_of s.floor.jobs t) → toil (with_account s t b (record { jobs = set s.floor.jobs t job; units = units })) < toil s
 falls-moved s t a b job units at within less =
     omega (arith, less, unopened-set s t a b at, sum_by-set toil_of s.floor.jobs t job None within)
 
 -- a tenant's account alone moves
-falls-account : (s : Scene) (t : ℕ) (a b : Account) → slice_get s.accounts t ≡ Some a → unopened b < unopened a → toil (moved s t b s.floor) < toil s
+falls-account : (s : Scene) (t : ℕ) (a b : Account) → slice_get s.accounts t ≡ Some a → unopened_count b < unopened_count a → toil (with_account s t b s.floor) < toil s
 falls-account s t a b at less = omega (arith, less, unopened-set s t a b at)
 
 -- one worker takes a piece or gives it back
 falls-handed : (s : Scene) (t w : ℕ) (job : Option Live) (units : List ℕ) (hand : Option Held) → t < length s.floor.jobs → w < length s.hands
-    → toil_of job + free_hand hand < toil_of (job_of s.floor.jobs t) + free_hand (hand_of s.hands w) → toil (handed s (record { jobs = set s.floor.jobs t job; units = units }) w hand) < toil s
+    → toil_of job + free_hand hand < toil_of (job_of s.floor.jobs t) + free_hand (hand_of s.hands w) → toil (with_hand s (record { jobs = set s.floor.jobs t job; units = units }) w hand) < toil s
 falls-handed s t w job units hand within below less =
     omega (arith, less, sum_by-set toil_of s.floor.jobs t job None within, sum_by-set free_hand s.hands w hand None below)
 
 -- a piece settles
-settled-less : (j k : Live) → state_of j ≡ Working → weight_of k < weight_of j → (state_of k ≡ Working) ⊎ (state_of k ≡ Ended) → toil_by (state_of k) k + 1 < toil_by (state_of j) j
+settled-less : (j k : Live) → live_state j ≡ Working → settles_left k < settles_left j → (live_state k ≡ Working) ⊎ (live_state k ≡ Ended) → toil_by (live_state k) k + 1 < toil_by (live_state j) j
 settled-less j k working less after = elim after [
   | inl still ↦ rw (still, working) (omega (arith, less))
   | inr ended ↦ rw (ended, working) (omega (arith, less))
 ]
 
 -- a piece fails
-failed-less : (j k : Live) → ((state_of j ≡ Working) × (out_of j ≤ weight_of j)) ⊎ (state_of j ≡ Failing) → out_of k + 1 ≡ out_of j → (state_of k ≡ Failing) ⊎ (state_of k ≡ Failed)
-    → toil_by (state_of k) k + 1 < toil_by (state_of j) j
+failed-less : (j k : Live) → ((live_state j ≡ Working) × (out_of j ≤ settles_left j)) ⊎ (live_state j ≡ Failing) → out_of k + 1 ≡ out_of j → (live_state k ≡ Failing) ⊎ (live_state k ≡ Failed)
+    → toil_by (live_state k) k + 1 < toil_by (live_state j) j
 failed-less j k before out after = elim before [
   | inl working ↦ rw working.0 (omega (arith, working.1, out, most))
   | inr was ↦ rw was (omega (arith, out, most))
 ]
   where
-    most : toil_by (state_of k) k ≤ 1 + 2 * out_of k
+    most : toil_by (live_state k) k ≤ 1 + 2 * out_of k
     most = elim after [ inl failing ↦ rw failing (omega arith) | inr over ↦ rw over (omega arith) ]
 
 after-failing : (n : ℕ) → (after_failure n ≡ Failing) ⊎ (after_failure n ≡ Failed)
@@ -109,15 +109,15 @@ seated false n w below is = absurd (true≢false (sym (ap is_some is)))
 pub seat-within : (x w : ℕ) → seat_of x ≡ Some w → w < 16
 seat-within x w is = seated (nat_lt 0 x && nat_lt x 17) (x - 1) w (λ t. grind (arith, nat_tests, t)) is
 
-less-replied : (a b : Account) (lost : Bool) → b ≡ with_reply a lost → a.spec ≡ None → answered a < length a.asked → unopened b < unopened a
-less-replied a b lost is free below = omega (arith, below, ap unopened is, answered-replied a lost, ap one_if free)
+less-replied : (a b : Account) (lost : Bool) → b ≡ with_reply a lost → a.spec ≡ None → answered_count a < length a.asked → unopened_count b < unopened_count a
+less-replied a b lost is free below = omega (arith, below, ap unopened_count is, answered-replied a lost, ap one_if free)
 
 few-open : (o : Option Spec) → one_if o ≤ 1
 few-open None = omega arith
 few-open (Some s) = omega arith
 
-same-replied : (a b : Account) (lost : Bool) → b ≡ with_reply a lost → unopened b ≤ unopened a
-same-replied a b lost is = omega (arith, ap unopened is, answered-replied a lost, few-open a.spec)
+same-replied : (a b : Account) (lost : Bool) → b ≡ with_reply a lost → unopened_count b ≤ unopened_count a
+same-replied a b lost is = omega (arith, ap unopened_count is, answered-replied a lost, few-open a.spec)
 
 falls-open : (old new : Scene) (t : ℕ) (stepped : Stepped) → IsScene old → CanOpen old t → OpensFor old t stepped new → toil new < toil old
 falls-open old new t NotNow scene can did = absurd (did.0 can)
@@ -132,9 +132,9 @@ falls-open old new t Job scene can did =
     let fresh = starts-fresh m.spec j m.submits.starts in
     let same : can.0 ≡ m.account = same_Some can.0 m.account (sym can.1 ∙ m.is) in
     let free : IsUnopened m.account = subst IsUnopened same can.2 in
-    let fewer : unopened m.next + 1 ≡ unopened m.account = omega (arith, free.0, ap unopened m.waits.new_is, ap one_if free.1) in
-    let most : toil_of (Some m.submits.job) ≡ 2 + 2 * weight_of j = ap (λ st. toil_by st j) fresh.working in
-    subst (λ s. toil s < toil old) (sym (m.new_is ∙ ap (moved old t m.next) m.submits.new_is))
+    let fewer : unopened_count m.next + 1 ≡ unopened_count m.account = omega (arith, free.0, ap unopened_count m.waits.new_is, ap one_if free.1) in
+    let most : toil_of (Some m.submits.job) ≡ 2 + 2 * settles_left j = ap (λ st. toil_by st j) fresh.working in
+    subst (λ s. toil s < toil old) (sym (m.new_is ∙ ap (with_account old t m.next) m.submits.new_is))
     (falls-moved old t m.account m.next (Some m.submits.job) old.floor.units m.is (there old t m.account scene m.is) (omega (arith, fewer, most, fresh.weight)))
 falls-open old new t other scene can did = absurd did
 
@@ -158,7 +158,7 @@ falls-reply old new t Replied scene more did =
     (falls-moved old t did.account b None old.floor.units did.is (there old t did.account scene did.is) (omega (arith, one, same-replied did.account b did.lost refl)))
 falls-reply old new t other scene more did = absurd did
 
-none-left : (o : Option Live) (jobs : List (Option Live)) (t : ℕ) → job_of jobs t ≡ o → 0 < claimable_of o → ((j : Live) → job_of jobs t ≡ Some j → claimable_in j ≡ []) → ⊥
+none-left : (o : Option Live) (jobs : List (Option Live)) (t : ℕ) → job_of jobs t ≡ o → 0 < claimable_count o → ((j : Live) → job_of jobs t ≡ Some j → claimable_in j ≡ []) → ⊥
 none-left None jobs t is more none = absurd (omega (arith, more))
 none-left (Some j) jobs t is more none = absurd (omega (arith, more, ap length (none j is)))
 
@@ -170,7 +170,7 @@ falls-start old new x (Some w) t pick (Started k) seat scene may did =
     let n = did.claims.next in
     let same : toil_of (Some did.claims.next) ≡ toil_of (job_of old.floor.jobs t) =
     ap (λ st. toil_by st n) (takes.state ∙ takes.working) ∙ ap (λ x. 2 + 2 * x) takes.weight ∙ sym (ap toil_of did.claims.is ∙ ap (λ st. toil_by st j) takes.working) in
-    subst (λ s. toil s < toil old) (sym (did.new_is ∙ ap (λ f. handed old f w (Some (record { tenant = t; piece = did.piece }))) did.claims.new_is))
+    subst (λ s. toil s < toil old) (sym (did.new_is ∙ ap (λ f. with_hand old f w (Some (record { tenant = t; piece = did.piece }))) did.claims.new_is))
     (falls-handed old t w (Some did.claims.next) old.floor.units _ (job-within old.floor.jobs t did.claims.job did.claims.is) (omega (arith, seat-within x w seat, scene.hands_many))
     (omega (arith, same, ap free_hand may.0)))
 falls-start old new x (Some w) t pick NotNow seat scene may did = elim did.0 [
@@ -179,23 +179,23 @@ falls-start old new x (Some w) t pick NotNow seat scene may did = elim did.0 [
 ]
 falls-start old new x (Some w) t pick other seat scene may did = absurd did
 
-falls-finish : (old new : Scene) (x : ℕ) (o : Option ℕ) (stepped : Stepped) → seat_of x ≡ o → IsScene old → MayFinish old o → Finishes old o stepped new → toil new < toil old
+falls-finish : (old new : Scene) (x : ℕ) (o : Option ℕ) (stepped : Stepped) → seat_of x ≡ o → IsScene old → MayFinishHand old o → Finishes old o stepped new → toil new < toil old
 falls-finish old new x None stepped seat scene may did = absurd may
 falls-finish old new x (Some w) (Finished n) seat scene may did =
     let t = did.held.tenant in
     let d = did.does_so in
     let pays = settles-pays d.job _ _ d.next d.settled in
     let less = settled-less d.job d.next pays.working pays.weight pays.after in
-    subst (λ s. toil s < toil old) (sym (did.new_is ∙ ap (λ f. handed old f w None) d.new_is))
-    (falls-handed old t w (Some d.next) (set old.floor.units t (units_of old.floor t + n)) None (job-within old.floor.jobs t d.job d.is) (omega (arith, seat-within x w seat, scene.hands_many))
+    subst (λ s. toil s < toil old) (sym (did.new_is ∙ ap (λ f. with_hand old f w None) d.new_is))
+    (falls-handed old t w (Some d.next) (set old.floor.units t (tenant_units old.floor t + n)) None (job-within old.floor.jobs t d.job d.is) (omega (arith, seat-within x w seat, scene.hands_many))
     (omega (arith, less, ap toil_of d.is, ap free_hand did.is)))
 falls-finish old new x (Some w) FinishedFailed seat scene may did =
     let t = did.held.tenant in
     let d = did.does_so in
     let breaks = fails-breaks d.job _ d.next d.failed in
-    let after : (state_of d.next ≡ Failing) ⊎ (state_of d.next ≡ Failed) = subst (λ st. (st ≡ Failing) ⊎ (st ≡ Failed)) (sym breaks.state) (after-failing (out_of d.next)) in
+    let after : (live_state d.next ≡ Failing) ⊎ (live_state d.next ≡ Failed) = subst (λ st. (st ≡ Failing) ⊎ (st ≡ Failed)) (sym breaks.state) (after-failing (out_of d.next)) in
     let less = failed-less d.job d.next breaks.going breaks.returns.out after in
-    subst (λ s. toil s < toil old) (sym (did.new_is ∙ ap (λ f. handed old f w None) d.new_is))
+    subst (λ s. toil s < toil old) (sym (did.new_is ∙ ap (λ f. with_hand old f w None) d.new_is))
     (falls-handed old t w (Some d.next) old.floor.units None (job-within old.floor.jobs t d.job d.is) (omega (arith, seat-within x w seat, scene.hands_many))
     (omega (arith, less, ap toil_of d.is, ap free_hand did.is)))
 falls-finish old new x (Some w) NotNow seat scene may did = absurd (true≢false (sym may ∙ ap is_some did.0))
@@ -219,31 +219,31 @@ calm s scene free t j job = λ k. none-from (work_at j k) (λ some.
     none-some held.held (sym (free held.hand) ∙ held.is))
 
 -- a job with no piece out has a move
-state-of : (j : Live) → IsLively j → NoneOut j → (st : State) → state_of j ≡ st → 0 < over_by (state_of j) + length (claimable_in j)
+state-of : (j : Live) → IsLively j → NoneOut j → (st : State) → live_state j ≡ st → 0 < over_by (live_state j) + length (claimable_in j)
 state-of j lively none Working is = omega (arith, lively.works is none)
 state-of j lively none Failing is = absurd (lively.fails is none)
 state-of j lively none over is = omega (arith, ap over_by is)
 
-no-job : (s : Scene) (t : ℕ) (o : Option Live) → IsScene s → ((w : ℕ) → hand_of s.hands w ≡ None) → job_of s.floor.jobs t ≡ o → LivelyAt o → over_of o ≡ 0 → claimable_of o ≡ 0 → o ≡ None
+no-job : (s : Scene) (t : ℕ) (o : Option Live) → IsScene s → ((w : ℕ) → hand_of s.hands w ≡ None) → job_of s.floor.jobs t ≡ o → LivelyAt o → over_of o ≡ 0 → claimable_count o ≡ 0 → o ≡ None
 no-job s t None scene free is lively over none = refl
 no-job s t (Some j) scene free is lively over none =
-    absurd (omega (arith, state-of j lively (calm s scene free t j is) (state_of j) refl, over, none))
+    absurd (omega (arith, state-of j lively (calm s scene free t j is) (live_state j) refl, over, none))
 
-opens-one : (a : Account) → a.spec ≡ None → answered a < length a.asked → opens_of (Some a) ≡ 1
+opens-one : (a : Account) → a.spec ≡ None → answered_count a < length a.asked → opens_of (Some a) ≡ 1
 opens-one a free below =
-    let less : nat_lt (answered a) (length a.asked) ≡ true = grind (arith, nat_tests, below) in
+    let less : nat_lt (answered_count a) (length a.asked) ≡ true = grind (arith, nat_tests, below) in
     ap (λ b. if b then closed_by a.spec else 0) less ∙ ap closed_by free
 
-pub all-answered : (s : Scene) → IsScene s → ((t : ℕ) → t < length s.accounts → LivelyAt (job_of s.floor.jobs t)) → count_of s ≡ 0 → AllAnswered s
+pub all-answered : (s : Scene) → IsScene s → ((t : ℕ) → t < length s.accounts → LivelyAt (job_of s.floor.jobs t)) → moves_left s ≡ 0 → AllAnswered s
 all-answered s scene lively none t a at =
     let within = slice_get_within s.accounts t a at in
     let full : sum_by full_hand s.hands ≡ 0 = omega (arith, none) in
     let moves : moves_at s t ≡ 0 = none-below (moves_at s) (length s.accounts) (omega (arith, none)) t within in
     let hands : sum_by free_hand s.hands ≡ 16 = omega (arith, free-full s.hands, full, scene.hands_many) in
-    let starts : 16 * claimable_of (job_of s.floor.jobs t) ≡ sum_by free_hand s.hands * claimable_of (job_of s.floor.jobs t) = ap (λ n. n * claimable_of (job_of s.floor.jobs t)) (sym hands) in
+    let starts : 16 * claimable_count (job_of s.floor.jobs t) ≡ sum_by free_hand s.hands * claimable_count (job_of s.floor.jobs t) = ap (λ n. n * claimable_count (job_of s.floor.jobs t)) (sym hands) in
     let gone : job_of s.floor.jobs t ≡ None = no-job s t (job_of s.floor.jobs t) scene (all-free s.hands full) refl (lively t within) (omega (arith, moves)) (omega (arith, moves, starts)) in
     let free : a.spec ≡ None = (both-none a.spec (job_of s.floor.jobs t) (scene.each t a at).pairs).1 gone in
-    elim (cases_lt (answered a) (length a.asked)) [
+    elim (cases_lt (answered_count a) (length a.asked)) [
       | inl more ↦ absurd (omega (arith, moves, ap opens_of at, opens-one a free more))
       | inr all ↦ omega (arith, all, answered-≤ a (scene.each t a at).sound)
     ]
@@ -258,7 +258,7 @@ pub free-few : (s now : Scene) (free : ℕ) → s ≡ now → length s.hands ≡
 free-few s now free is many free_is = omega (arith, free-full now.hands, subst (λ (x : Scene). length x.hands ≡ 16) is many, free_is)
 
 pub count-is : (s now : Scene) (count tenant free : ℕ) → s ≡ now → IsScene s → tenant ≡ length s.accounts → count ≡ sum_below (moves_at now) tenant → free ≡ sum_by free_hand now.hands
-    → count + (16 - free) ≡ count_of now
+    → count + (16 - free) ≡ moves_left now
 count-is s now count tenant free same scene all is free_is =
     let counted : count ≡ sum_below (moves_at now) (length now.accounts) = is ∙ ap (sum_below (moves_at now)) (all ∙ ap (λ (x : Scene). length x.accounts) same) in
     omega (arith, counted, free_is, free-full now.hands, subst (λ (x : Scene). length x.hands ≡ 16) same scene.hands_many)

@@ -6,7 +6,7 @@ use Rattle.std.proofs.lemmas.Option.{none-some, same_Some}
 use Rattle.std.proofs.lemmas.List.{get_or-set_same, get_or-set_other}
 use Rattle.ot_job.specs.Dealings.{Live}
 use Rattle.ot_hall.specs.Floors.{job_of}
-use Rattle.ot_core.specs.Scenes.{AreHeld, IsHeld, hand_of, held_work, out_at}
+use Rattle.ot_core.specs.Scenes.{AreInHands, IsHeld, hand_of, held_work, out_at}
 use Rattle.ot_core.specs.declared.held.Held.{Held}
 
 -- the same two numbers, or not
@@ -30,9 +30,9 @@ hand-other : (hands : List (Option Held)) (w v : ℕ) (x : Option Held) → v �
 hand-other hands w v x other = get_or-set_other hands w v x None other
 
 -- the piece of a task comes to a free hand
-pub held-taken : (old new : List (Option Live)) (hands : List (Option Held)) (w : ℕ) (h : Held) → AreHeld old hands → w < length hands → hand_of hands w ≡ None
+pub held-taken : (old new : List (Option Live)) (hands : List (Option Held)) (w : ℕ) (h : Held) → AreInHands old hands → w < length hands → hand_of hands w ≡ None
     → out_at (job_of old h.tenant) h.piece.task ≡ None → out_at (job_of new h.tenant) h.piece.task ≡ Some (held_work h)
-    → OthersOut old new h.tenant h.piece.task → AreHeld new (set hands w (Some h))
+    → OthersOut old new h.tenant h.piece.task → AreInHands new (set hands w (Some h))
 held-taken old new hands w h held below free was now others =
     let fresh : (v : ℕ) (g : Held) → hand_of hands v ≡ Some g → g.tenant ≡ h.tenant → g.piece.task ≡ h.piece.task → ⊥ =
     λ v g is t k. none-some (held_work g) (sym was ∙ ap (λ u. out_at (job_of old u) h.piece.task) (sym t) ∙ ap (out_at (job_of old g.tenant)) (sym k) ∙ held.out v g is) in
@@ -74,8 +74,8 @@ held-taken old new hands w h held below free was now others =
     }
 
 -- a hand gives its piece back
-pub held-given : (old new : List (Option Live)) (hands : List (Option Held)) (w : ℕ) (h : Held) → AreHeld old hands → w < length hands → hand_of hands w ≡ Some h
-    → out_at (job_of new h.tenant) h.piece.task ≡ None → OthersOut old new h.tenant h.piece.task → AreHeld new (set hands w None)
+pub held-given : (old new : List (Option Live)) (hands : List (Option Held)) (w : ℕ) (h : Held) → AreInHands old hands → w < length hands → hand_of hands w ≡ Some h
+    → out_at (job_of new h.tenant) h.piece.task ≡ None → OthersOut old new h.tenant h.piece.task → AreInHands new (set hands w None)
 held-given old new hands w h held below mine gone others =
     let theirs : (v : ℕ) (g : Held) → hand_of (set hands w None) v ≡ Some g → (v ≢ w) × (hand_of hands v ≡ Some g) =
     λ v g is. elim (cases_eq v w) [

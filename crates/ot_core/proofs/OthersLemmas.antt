@@ -4,11 +4,11 @@ use Rattle.std.proofs.lemmas.Bool.{cases_eq, cases_lt}
 use Rattle.std.proofs.lemmas.Bool.Decides.{nat_tests}
 use Rattle.std.specs.Prelude.{◌==◌, Option, Some, None, Result, Ok, Err, IfOk, OnOk, slice_get, option_map, if◌then◌else◌, false}
 use Rattle.std.proofs.lemmas.List.{get_or-set_same, get_or-set_other, get_or_past, length-set}
-use Rattle.ot_job.specs.Dealings.{Live, aborted}
+use Rattle.ot_job.specs.Dealings.{Live, job_aborted}
 use Rattle.ot_job.specs.Taken.{Came as Done}
 use Rattle.ot_core.specs.Accounts.{Account}
-use Rattle.ot_hall.specs.Floors.{job_of, Floor, with_job, with_settled, units_of, SettlesFor}
-use Rattle.ot_core.specs.Scenes.{Scene, hand_of, seat_of, moved, handed, AdmitsFor, OpensFor, StartsFor, Finishes, RepliesTo, AbortsFor, GivesBack, BreaksJob, Steps, IsAsItWas, LeavesOthers, of_tenant, holder}
+use Rattle.ot_hall.specs.Floors.{job_of, Floor, with_job, with_settled, tenant_units, SettlesFor}
+use Rattle.ot_core.specs.Scenes.{Scene, hand_of, seat_of, with_account, with_hand, AdmitsFor, OpensFor, StartsFor, Finishes, RepliesTo, AbortsFor, GivesBack, BreaksJob, Steps, IsAsItWas, LeavesOthers, of_tenant, holder}
 use Rattle.ot_core.specs.declared.held.Held.{Held}
 use Rattle.ot_core.specs.declared.event.Event.{Event}
 use Rattle.ot_core.specs.declared.event.Event.TheVariants as event
@@ -28,13 +28,13 @@ job-floor : (f g : Floor) (t : ℕ) (job : Option Live) → g ≡ with_job f t j
 job-floor f g t job is = subst (FloorBut f t) (sym is) (record { jobs = but-set f.jobs t job; units = but-none f.units t })
 
 settled-floor : (f g : Floor) (t : ℕ) (job : Live) (n : ℕ) → g ≡ with_settled f t job n → FloorBut f t g
-settled-floor f g t job n is = subst (FloorBut f t) (sym is) (record { jobs = but-set f.jobs t (Some job); units = but-set f.units t (units_of f t + n) })
+settled-floor f g t job n is = subst (FloorBut f t) (sym is) (record { jobs = but-set f.jobs t (Some job); units = but-set f.units t (tenant_units f t + n) })
 
 same : (u : ℕ) (old new : Scene) → new ≡ old → IsAsItWas u old new
 same u old new is = record {
   account = ap (λ (s : Scene). slice_get s.accounts u) is;
   job = ap (λ (s : Scene). job_of s.floor.jobs u) is;
-  units = ap (λ (s : Scene). units_of s.floor u) is;
+  units = ap (λ (s : Scene). tenant_units s.floor u) is;
   hands = λ w. ap (λ (s : Scene). of_tenant u (hand_of s.hands w)) is;
 }
 
@@ -48,8 +48,8 @@ by-one u t old new is other accounts but hands new_is = subst (IsAsItWas u old) 
   hands = hands;
 })
 
-by-moved : (u t : ℕ) (old new : Scene) (b : Account) (floor : Floor) → u ≢ t → FloorBut old.floor t floor → new ≡ moved old t b floor → IsAsItWas u old new
-by-moved u t old new b floor other but = by-one u t old new (moved old t b floor) other (but-set old.accounts t b) but (λ w. refl)
+by-moved : (u t : ℕ) (old new : Scene) (b : Account) (floor : Floor) → u ≢ t → FloorBut old.floor t floor → new ≡ with_account old t b floor → IsAsItWas u old new
+by-moved u t old new b floor other but = by-one u t old new (with_account old t b floor) other (but-set old.accounts t b) but (λ w. refl)
 
 -- a piece of another tenant
 not_own : (u : ℕ) (h : Held) → u ≢ h.tenant → of_tenant u (Some h) ≡ None
@@ -70,8 +70,8 @@ hand-other u w v hands hand was now = elim (cases_eq v w) [
 ]
 
 by-handed : (u t w : ℕ) (old new : Scene) (floor : Floor) (hand : Option Held) → u ≢ t → FloorBut old.floor t floor → of_tenant u (hand_of old.hands w) ≡ None → of_tenant u hand ≡ None
-    → new ≡ handed old floor w hand → IsAsItWas u old new
-by-handed u t w old new floor hand other but was now = by-one u t old new (handed old floor w hand) other (but-none old.accounts t) but (λ v. hand-other u w v old.hands hand was now)
+    → new ≡ with_hand old floor w hand → IsAsItWas u old new
+by-handed u t w old new floor hand other but was now = by-one u t old new (with_hand old floor w hand) other (but-none old.accounts t) but (λ v. hand-other u w v old.hands hand was now)
 
 some-other : (u t : ℕ) → Some u ≢ Some t → u ≢ t
 some-other u t not is = not (ap Some is)
@@ -119,7 +119,7 @@ others-reply t old new other did = absurd did
 
 others-abort : (t : ℕ) (old new : Scene) (stepped : Stepped) → AbortsFor old t stepped new → (u : ℕ) → u ≢ t → IsAsItWas u old new
 others-abort t old new NotNow did = λ u not. same u old new did.1
-others-abort t old new Aborted did = λ u not. by-one u t old new (record old { floor = did.floor }) not (but-none old.accounts t) (job-floor old.floor did.floor t (Some (aborted did.aborts.job)) did.aborts.new_is) (λ v. refl) did.new_is
+others-abort t old new Aborted did = λ u not. by-one u t old new (record old { floor = did.floor }) not (but-none old.accounts t) (job-floor old.floor did.floor t (Some (job_aborted did.aborts.job)) did.aborts.new_is) (λ v. refl) did.new_is
 others-abort t old new other did = absurd did
 
 pub others : (e : Event) (old new : Scene) (stepped : Stepped) → Steps old e stepped new → LeavesOthers e old new

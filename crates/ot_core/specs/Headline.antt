@@ -9,14 +9,14 @@ use Rattle.std.specs.Prelude.{◌≡◌, ◌≤◌, ℕ, List, map, length, take
 use Rattle.ot_store.specs.Arrays.{Named}
 use Rattle.ot_store.specs.declared.limits.Limits.{Limits}
 use Rattle.ot_book.specs.Answers.{Told, is_lost, opening, answers}
-use Rattle.ot_core.specs.Accounts.{Account, told, marked}
+use Rattle.ot_core.specs.Accounts.{Account, told_so_far, lines_marked}
 use Rattle.ot_core.specs.Scenes.{Scene}
 
 -- ---- one tenant
 
 -- what all lines are told, one after another from these arrays, where want of memory is told as in `says`
-abbrev pub due : Limits → List Named → List (List ℕ) → List Told → List Told
-due limits base lines says = (answers limits (opening base) (marked lines says)).0
+abbrev pub due_to : Limits → List Named → List (List ℕ) → List Told → List Told
+due_to limits base lines says = (answers limits (opening base) (lines_marked lines says)).0
 
 -- what all lines are told where memory never runs out
 abbrev pub due_whole : Limits → List Named → List (List ℕ) → List Told
@@ -32,23 +32,23 @@ NoneLost says = (i : ℕ) (said : Told) → slice_get says i ≡ Some said → i
 
 -- what the tenant was told is the first of what its own requests are told
 abbrev pub IsTold : Account → Type 0
-IsTold a = AreFirst (told a) (due a.book.limits a.base a.asked (told a))
+IsTold a = AreFirst (told_so_far a) (due_to a.book.limits a.base a.asked (told_so_far a))
 
 abbrev pub IsToldWhole : Account → Type 0
-IsToldWhole a = AreFirst (told a) (due_whole a.book.limits a.base a.asked)
+IsToldWhole a = AreFirst (told_so_far a) (due_whole a.book.limits a.base a.asked)
 
 -- ---- all tenants of a world
 
-abbrev pub Tells : Scene → Type 0
-Tells s = (t : ℕ) (a : Account) → slice_get s.accounts t ≡ Some a → IsTold a × (NoneLost (told a) → IsToldWhole a)
+abbrev pub TellsAsAlone : Scene → Type 0
+TellsAsAlone s = (t : ℕ) (a : Account) → slice_get s.accounts t ≡ Some a → IsTold a × (NoneLost (told_so_far a) → IsToldWhole a)
 
 -- ---- once all lines are answered
 
 -- each line that the tenant asked has its reply, and they are all that its own requests are told
 pub record IsToldAll (a : Account) : Type 0 where
-  pub many : length (told a) ≡ length a.asked
-  pub all : told a ≡ due a.book.limits a.base a.asked (told a)
-  pub whole : NoneLost (told a) → told a ≡ due_whole a.book.limits a.base a.asked
+  pub many : length (told_so_far a) ≡ length a.asked
+  pub all : told_so_far a ≡ due_to a.book.limits a.base a.asked (told_so_far a)
+  pub whole : NoneLost (told_so_far a) → told_so_far a ≡ due_whole a.book.limits a.base a.asked
 
 abbrev pub TellsAll : Scene → Type 0
 TellsAll s = (t : ℕ) (a : Account) → slice_get s.accounts t ≡ Some a → IsToldAll a
@@ -74,10 +74,10 @@ abbrev pub AgreeOn : Scene → Scene → ℕ → Type 0
 AgreeOn s r t = (a b : Account) → slice_get s.accounts t ≡ Some a → slice_get r.accounts t ≡ Some b → AsksSame a b
 
 abbrev pub NoneLostIn : Scene → ℕ → Type 0
-NoneLostIn s t = (a : Account) → slice_get s.accounts t ≡ Some a → NoneLost (told a)
+NoneLostIn s t = (a : Account) → slice_get s.accounts t ≡ Some a → NoneLost (told_so_far a)
 
 abbrev pub LostAlike : Scene → Scene → ℕ → ℕ → Type 0
-LostAlike s r t i = (a b : Account) → slice_get s.accounts t ≡ Some a → slice_get r.accounts t ≡ Some b → SameLosses (told a) (told b) i
+LostAlike s r t i = (a b : Account) → slice_get s.accounts t ≡ Some a → slice_get r.accounts t ≡ Some b → SameLosses (told_so_far a) (told_so_far b) i
 
 abbrev pub ToldAlike : Scene → Scene → ℕ → ℕ → Type 0
-ToldAlike s r t i = (a b : Account) → slice_get s.accounts t ≡ Some a → slice_get r.accounts t ≡ Some b → AgreeAt (told a) (told b) i
+ToldAlike s r t i = (a b : Account) → slice_get s.accounts t ≡ Some a → slice_get r.accounts t ≡ Some b → AgreeAt (told_so_far a) (told_so_far b) i

@@ -1,12 +1,12 @@
 -- A world: its tenants, their jobs, and the pieces in the hands of workers.
 use Rattle.std.specs.Prelude.{◌≡◌, ◌≢◌, ◌+◌, ◌==◌, if◌then◌else◌, ◌⊎◌, ℕ, List, option_map, IsSome, Bool, true, false, Option, Some, None, slice_get, slice_set, ◌≤◌, ◌*◌, ◌-◌, ◌&&◌, nat_lt, length, slice_index_or, [], ◌∷◌, take}
 use Rattle.ot_check.specs.Jobs.{Spec}
-use Rattle.ot_job.specs.Dealings.{Live, FailsBy, brought, state_of, IsOf, Work, work_of, work_at, settled_units}
+use Rattle.ot_job.specs.Dealings.{Live, FailsBy, work_brought, live_state, IsOf, Work, work_of, work_at, settled_units}
 use Rattle.ot_job.specs.Taken.{Taken as Piece, Came as Done}
 use Rattle.ot_job.specs.declared.state.State.TheVariants as state
-use Rattle.ot_core.specs.Accounts.{Account, IsSound, answered, IsFull, MayAsk, IsUnopened, IsAnswered, Waits, with_reply}
+use Rattle.ot_core.specs.Accounts.{Account, IsSoundAccount, answered_count, LacksRoom, MayAsk, IsUnopened, IsAnswered, Waits, with_reply}
 use Rattle.ot_core.specs.Accounts as asking
-use Rattle.ot_hall.specs.Floors.{job_of, Floor, units_of, with_job, SubmitsFor, NothingAt, ClaimsFor, IsWorking, SettlesFor, AbortsJob}
+use Rattle.ot_hall.specs.Floors.{job_of, Floor, tenant_units, with_job, SubmitsFor, NothingAt, ClaimsFor, IsWorking, SettlesFor, AbortsJob}
 use Rattle.ot_core.specs.declared.held.Held.{Held}
 use Rattle.ot_core.specs.declared.event.Stepped.{Stepped}
 use Rattle.ot_core.specs.declared.event.Event.{Event}
@@ -40,9 +40,9 @@ units_in (Some j) = settled_units j
 
 -- a tenant's account, its job and its units go together
 pub record Agrees (a : Account) (job : Option Live) (units : ℕ) : Type 0 where
-  pub sound : IsSound a
+  pub sound : IsSoundAccount a
   pub pairs : Pairs a.spec job
-  pub paid : units ≤ 20000 * answered a + units_in job
+  pub paid : units ≤ 20000 * answered_count a + units_in job
   pub bounded : units_in job ≤ 20000
 
 -- the piece of a task of this job that is out
@@ -63,28 +63,28 @@ pub record IsHeld (hands : List (Option Held)) (tenant task : ℕ) : Type 0 wher
   pub task_is : held.piece.task ≡ task
 
 -- the pieces in hands are those that are out
-pub record AreHeld (jobs : List (Option Live)) (hands : List (Option Held)) : Type 0 where
+pub record AreInHands (jobs : List (Option Live)) (hands : List (Option Held)) : Type 0 where
   pub out : (w : ℕ) (h : Held) → hand_of hands w ≡ Some h → out_at (job_of jobs h.tenant) h.piece.task ≡ Some (held_work h)
   pub one : (v w : ℕ) (g h : Held) → hand_of hands v ≡ Some g → hand_of hands w ≡ Some h → g.tenant ≡ h.tenant → g.piece.task ≡ h.piece.task → v ≡ w
   pub all : (t k : ℕ) (work : Work) → out_at (job_of jobs t) k ≡ Some work → IsHeld hands t k
 
 pub record IsScene (s : Scene) : Type 0 where
-  pub each : (t : ℕ) (a : Account) → slice_get s.accounts t ≡ Some a → Agrees a (job_of s.floor.jobs t) (units_of s.floor t)
+  pub each : (t : ℕ) (a : Account) → slice_get s.accounts t ≡ Some a → Agrees a (job_of s.floor.jobs t) (tenant_units s.floor t)
   pub jobs_many : length s.floor.jobs ≡ length s.accounts
   pub units_many : length s.floor.units ≡ length s.accounts
   pub few : length s.accounts ≤ 64
   pub hands_many : length s.hands ≡ 16
-  pub held : AreHeld s.floor.jobs s.hands
+  pub held : AreInHands s.floor.jobs s.hands
 
 -- What each event does.
 
 -- the world with another account of one tenant, and this floor
-abbrev pub moved : Scene → ℕ → Account → Floor → Scene
-moved s t a floor = record { accounts = slice_set s.accounts t a; floor = floor; hands = s.hands }
+abbrev pub with_account : Scene → ℕ → Account → Floor → Scene
+with_account s t a floor = record { accounts = slice_set s.accounts t a; floor = floor; hands = s.hands }
 
 -- the world with another thing in one hand, and this floor
-abbrev pub handed : Scene → Floor → ℕ → Option Held → Scene
-handed s floor w hand = record { accounts = s.accounts; floor = floor; hands = slice_set s.hands w hand }
+abbrev pub with_hand : Scene → Floor → ℕ → Option Held → Scene
+with_hand s floor w hand = record { accounts = s.accounts; floor = floor; hands = slice_set s.hands w hand }
 
 -- ---- a tenant asks a line
 
@@ -94,7 +94,7 @@ pub record Moves (P : Account → Account → Type 0) (old : Scene) (t : ℕ) (n
   pub is : slice_get old.accounts t ≡ Some account
   pub next : Account
   pub does : P account next
-  pub new_is : new ≡ moved old t next old.floor
+  pub new_is : new ≡ with_account old t next old.floor
 
 -- there is such a tenant, and this holds of it
 abbrev pub HasTenant : (Account → Type 0) → Scene → ℕ → Type 0
@@ -102,7 +102,7 @@ HasTenant P s t = (a : Account) × (slice_get s.accounts t ≡ Some a) × P a
 
 abbrev pub AdmitsFor : Scene → ℕ → List ℕ → Stepped → Scene → Type 0
 AdmitsFor old t line NotNow new = (slice_get old.accounts t ≡ None) × (new ≡ old)
-AdmitsFor old t line Full new = HasTenant (λ a. IsFull a line) old t × (new ≡ old)
+AdmitsFor old t line Full new = HasTenant (λ a. LacksRoom a line) old t × (new ≡ old)
 AdmitsFor old t line Asked new = Moves (λ a b. asking.AdmitsLine a line true b) old t new
 AdmitsFor old t line other new = ⊥
 
@@ -120,7 +120,7 @@ pub record StartsJob (old : Scene) (t : ℕ) (new : Scene) : Type 0 where
   pub waits : Waits account spec next
   pub floor : Floor
   pub submits : SubmitsFor old.floor t spec floor
-  pub new_is : new ≡ moved old t next floor
+  pub new_is : new ≡ with_account old t next floor
 
 abbrev pub OpensFor : Scene → ℕ → Stepped → Scene → Type 0
 OpensFor old t NotNow new = (¬ (CanOpen old t)) × (new ≡ old)
@@ -137,7 +137,7 @@ pub record HandTakes (old : Scene) (w t pick task : ℕ) (new : Scene) : Type 0 
   pub floor : Floor
   pub claims : ClaimsFor old.floor t pick (w + 1) piece floor
   pub task_is : task ≡ piece.task
-  pub new_is : new ≡ handed old floor w (Some (record { tenant = t; piece = piece }))
+  pub new_is : new ≡ with_hand old floor w (Some (record { tenant = t; piece = piece }))
 
 -- the hand is full, or the tenant has no claimable task
 abbrev pub CannotStart : Scene → ℕ → ℕ → Type 0
@@ -165,10 +165,10 @@ pub record GivesBack (old : Scene) (w : ℕ) (does : Floor → ℕ → Done → 
   pub is : hand_of old.hands w ≡ Some held
   pub done : Done
   pub task_is : done.task ≡ held.piece.task
-  pub ran : brought done ≡ held_work held
+  pub ran : work_brought done ≡ held_work held
   pub floor : Floor
   pub does_so : does old.floor held.tenant done floor
-  pub new_is : new ≡ handed old floor w None
+  pub new_is : new ≡ with_hand old floor w None
 
 abbrev pub Finishes : Scene → Option ℕ → Stepped → Scene → Type 0
 Finishes old None stepped new = (stepped ≡ NotNow) × (new ≡ old)
@@ -186,13 +186,13 @@ pub record EndsJob (old : Scene) (t : ℕ) (new : Scene) : Type 0 where
   pub job : Live
   pub job_is : job_of old.floor.jobs t ≡ Some job
   pub lost : Bool
-  pub over : ((lost ≡ false) × (state_of job ≡ state.Ended)) ⊎ ((lost ≡ true) × (state_of job ≡ state.Failed))
-  pub new_is : new ≡ moved old t (with_reply account lost) (with_job old.floor t None)
+  pub over : ((lost ≡ false) × (live_state job ≡ state.Ended)) ⊎ ((lost ≡ true) × (live_state job ≡ state.Failed))
+  pub new_is : new ≡ with_account old t (with_reply account lost) (with_job old.floor t None)
 
 -- no job of the tenant is over
 abbrev pub CannotReply : Option Live → Type 0
 CannotReply None = Unit {0}
-CannotReply (Some j) = (state_of j ≡ state.Working) ⊎ (state_of j ≡ state.Failing)
+CannotReply (Some j) = (live_state j ≡ state.Working) ⊎ (live_state j ≡ state.Failing)
 
 abbrev pub RepliesTo : Scene → ℕ → Stepped → Scene → Type 0
 RepliesTo old t NotNow new = CannotReply (job_of old.floor.jobs t) × (new ≡ old)
@@ -268,7 +268,7 @@ of_tenant t (Some h) = if h.tenant == t then Some h else None
 pub record IsAsItWas (t : ℕ) (old new : Scene) : Type 0 where
   pub account : slice_get new.accounts t ≡ slice_get old.accounts t
   pub job : job_of new.floor.jobs t ≡ job_of old.floor.jobs t
-  pub units : units_of new.floor t ≡ units_of old.floor t
+  pub units : tenant_units new.floor t ≡ tenant_units old.floor t
   pub hands : (w : ℕ) → of_tenant t (hand_of new.hands w) ≡ of_tenant t (hand_of old.hands w)
 
 abbrev pub LeavesOthers : Event → Scene → Scene → Type 0

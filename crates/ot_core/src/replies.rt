@@ -19,11 +19,11 @@ impl<'a> Model for Replies<'a> {
 
     ghost Value = { List (ℕ × Told) };
 
-    ghost use Rattle.ot_core.specs.Accounts.{replies_from, answered};
+    ghost use Rattle.ot_core.specs.Accounts.{replies_from, answered_count};
 
     ghost view = { λ r. replies_from r.tenant.now r.place };
 
-    ghost invariant = { λ r. r.place ≤ answered r.tenant.now };
+    ghost invariant = { λ r. r.place ≤ answered_count r.tenant.now };
 }
 
 impl<'a> Replies<'a> {

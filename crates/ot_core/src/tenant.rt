@@ -44,14 +44,14 @@ impl Tenant {
     ghost use Rattle.ot_check.specs.Jobs.{IsMeaning};
     ghost use Rattle.ot_book.specs.Answers.{is_checkpoint};
     ghost use Rattle.ot_book.specs.Books.{new_register};
-    ghost use Rattle.ot_core.specs.Accounts.{Account, IsSound, answered, AdmitsLine, OpensNext, with_reply, new_account, next_line, MayAsk, IsUnopened, reply_in};
+    ghost use Rattle.ot_core.specs.Accounts.{Account, IsSoundAccount, answered_count, AdmitsLine, OpensNext, with_reply, new_account, next_line, MayAsk, IsUnopened, reply_in};
     ghost use Rattle.ot_core.specs.Headline.{IsTold};
 
     /// A tenant that asked nothing yet.
     pub(crate) fn new(alloc: Global, book: Book, base: Store) -> Tenant
         requires { book ≡ new_register book.name book.limits base }
         ensures is { result ≡ new_account book }
-        ensures sound { IsSound result }
+        ensures sound { IsSoundAccount result }
     {
         let _ = book.log();
         let _ = book.limits();
@@ -69,7 +69,7 @@ impl Tenant {
     pub(crate) fn admit(&mut self, alloc: Global, line: &[u8]) -> Result<bool, AllocError>
         ensures admitted { IfOk result (λ took. AdmitsLine self.old line.now took self.new) }
         ensures memory { OnErr result (MayAsk self.old × (self.new ≡ self.old)) }
-        ensures sound { IsSound self.new }
+        ensures sound { IsSoundAccount self.new }
     {
         if self.asked.len() >= MAX_LINES {
             return Ok(false);
@@ -89,7 +89,7 @@ impl Tenant {
         requires { IsUnopened self.old }
         ensures opened { IfOk result (λ job. OpensNext self.old job self.new) }
         ensures memory { OnErr result (self.new ≡ self.old) }
-        ensures sound { IsSound self.new }
+        ensures sound { IsSoundAccount self.new }
     {
         let next = self.answered();
         let line = line_at(&self.asked, next);
@@ -116,7 +116,7 @@ impl Tenant {
         requires checkpoint { is_checkpoint (next_line self.old) ≡ true }
         ensures replied { OnOk result (self.new ≡ with_reply self.old false) }
         ensures memory { OnErr result (self.new ≡ self.old) }
-        ensures sound { IsSound self.new }
+        ensures sound { IsSoundAccount self.new }
     {
         let next = self.answered();
         let copies = copy_told(alloc, self.book.log())?;
@@ -132,7 +132,7 @@ impl Tenant {
     pub(crate) fn close(&mut self, outcome: Outcome)
         requires { (s : _) × (self.old.spec ≡ Some s) × IsMeaning s outcome }
         ensures is { self.new ≡ with_reply self.old false }
-        ensures sound { IsSound self.new }
+        ensures sound { IsSoundAccount self.new }
     {
         let Some(spec) = self.spec.take() else {
             unreachable!()
@@ -144,7 +144,7 @@ impl Tenant {
     pub(crate) fn close_refused(&mut self)
         requires { IsSome self.old.spec }
         ensures is { self.new ≡ with_reply self.old true }
-        ensures sound { IsSound self.new }
+        ensures sound { IsSoundAccount self.new }
     {
         let Some(spec) = self.spec.take() else {
             unreachable!()
@@ -212,7 +212,7 @@ impl Tenant {
 
     /// How many of its lines were answered.
     pub(crate) fn answered(&self) -> usize
-        ensures { result ≡ answered self.now }
+        ensures { result ≡ answered_count self.now }
     {
         self.kept.len() + self.book.log().len()
     }

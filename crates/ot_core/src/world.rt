@@ -1,5 +1,5 @@
 ghost use Rattle.std.specs.Prelude.{◌≡◌, ◌<◌, ℕ, length, ◌≤◌, vec_len, map, IfOk, OnOk, OnErr, Some, option_map, option_copied, slice_get, All, replicate, None};
-ghost use Rattle.ot_core.specs.Headline.{AgreeOn, NoneLostIn, LostAlike, ToldAlike, Tells, TellsAll};
+ghost use Rattle.ot_core.specs.Headline.{AgreeOn, NoneLostIn, LostAlike, ToldAlike, TellsAsAlone, TellsAll};
 ghost use Rattle.ot_core.specs.Scenes.{seat_of, IsScene, RunsTo, RunsPart, AdmitsFor, OpensFor, StartsFor, Finishes, RepliesTo, AbortsFor, Steps, HasTenant, CanOpen, MayTake, RunsOut, LeavesOthers};
 
 use crate::event::{Event, Stepped};
@@ -40,11 +40,11 @@ impl Model for World {
 }
 
 impl World {
-    ghost use Rattle.ot_hall.specs.Floors.{units_of, total_of, job_of};
+    ghost use Rattle.ot_hall.specs.Floors.{tenant_units, total_of, job_of};
     ghost use Rattle.std.specs.List.{sum_by};
     ghost use Rattle.ot_hall.specs.Lively.{LivelyAt};
-    ghost use Rattle.ot_core.specs.Toil.{free_hand, count_of, moves_at, opens_of, full_hand};
-    ghost use Rattle.ot_core.specs.Draining.{Drains, DrainsPart, AllAnswered, IsMove, IsFreeWorker, MayFinish};
+    ghost use Rattle.ot_core.specs.Toil.{free_hand, moves_left, moves_at, opens_of, full_hand};
+    ghost use Rattle.ot_core.specs.Draining.{Drains, DrainsPart, AllAnswered, IsMove, IsFreeWorker, MayFinishHand};
 
     /// Tenants with these names, limits and arrays, who asked nothing yet.
     pub fn new(alloc: Global, openings: Vec<(String, Limits, Store)>) -> Result<World, AllocError>
@@ -72,7 +72,7 @@ impl World {
     pub fn run(&mut self, alloc: Global, events: &[Event<'_>]) -> Result<(), AllocError>
         ensures ran { OnOk result (RunsTo self.old events.now self.new) }
         ensures part { OnErr result (RunsPart self.old events.now self.new) }
-        ensures headline { Tells self.new }
+        ensures headline { TellsAsAlone self.new }
     {
         let ran = self.take_all(alloc, events);
         self.tells();
@@ -102,7 +102,7 @@ impl World {
         ensures drained { OnOk result (Drains self.old self.new) }
         ensures part { OnErr result (DrainsPart self.old self.new) }
         ensures answered { OnOk result (AllAnswered self.new) }
-        ensures headline { Tells self.new }
+        ensures headline { TellsAsAlone self.new }
         ensures all { OnOk result (TellsAll self.new) }
     {
         let drained = self.take_moves(alloc, chooser);
@@ -132,7 +132,7 @@ impl World {
 
     // How many moves there are.
     fn count(&self) -> u64
-        ensures is { result ≡ count_of self.now }
+        ensures is { result ≡ moves_left self.now }
         ensures answered { result ≡ 0 → AllAnswered self.now }
     {
         let free = self.free_hands();
@@ -145,7 +145,7 @@ impl World {
 
     // One of the moves.
     fn event_at(&self, k: u64) -> Event<'static>
-        requires { k < count_of self.now }
+        requires { k < moves_left self.now }
         ensures scene { IsScene self.now }
         ensures enabled { IsMove self.now result }
     {
@@ -238,7 +238,7 @@ impl World {
     // The worker whose hand is full and before which so many are.
     fn nth_full(&self, n: u64) -> u32
         requires { n < sum_by full_hand self.now.hands }
-        ensures { MayFinish self.now (seat_of result) }
+        ensures { MayFinishHand self.now (seat_of result) }
     {
         let mut left = n;
         for hand in 0..self.hands.len() {
@@ -286,7 +286,7 @@ impl World {
 
     /// The units that were settled for a tenant, and for all.
     pub fn units(&self, tenant: u32) -> (u64, u64)
-        ensures { result ≡ (units_of self.now.floor tenant, total_of self.now.floor) }
+        ensures { result ≡ (tenant_units self.now.floor tenant, total_of self.now.floor) }
     {
         self.hall.units(tenant)
     }
@@ -299,7 +299,7 @@ impl World {
         ensures stepped { IfOk result (λ stepped. Steps self.old event.entry stepped self.new) }
         ensures others { OnOk result (LeavesOthers event.entry self.old self.new) }
         ensures memory { OnErr result (RunsOut self.old event.entry self.new) }
-        ensures headline { Tells self.new }
+        ensures headline { TellsAsAlone self.new }
     {
         let stepped = self.take(alloc, event);
         self.tells();
@@ -442,13 +442,13 @@ impl World {
 
     /// The replies given to each tenant are the first ones of those that its own requests give.
     pub fn tells(&self)
-        ensures { Tells self.now }
+        ensures { TellsAsAlone self.now }
     {
         let _ = &self.tenants;
     }
 }
 
-ghost use Rattle.ot_core.specs.Accounts.{replies_of, MayAsk, IsSound};
+ghost use Rattle.ot_core.specs.Accounts.{replies_of, MayAsk, IsSoundAccount};
 ghost use Rattle.ot_core.specs.Openings.{new_scene, opening_of};
 
 // Tenants who asked nothing yet.
@@ -457,7 +457,7 @@ fn open_books(
     openings: Vec<(String, Limits, Store)>,
 ) -> Result<Vec<Tenant>, AllocError>
     ensures are { IfOk result (λ tenants. tenants.items ≡ map opening_of openings.items) }
-    ensures sound { IfOk result (λ tenants. All IsSound tenants.items) }
+    ensures sound { IfOk result (λ tenants. All IsSoundAccount tenants.items) }
 {
     let mut tenants = Vec::new(alloc);
     for (name, limits, store) in openings {

@@ -6,7 +6,7 @@ use Rattle.std.proofs.lemmas.Option.{slice_get_within}
 use Rattle.std.proofs.lemmas.List.{map-append, length-map, length-append}
 use Rattle.std.proofs.lemmas.List.Sums.{sum_by_push}
 use Rattle.ot_depend.specs.Siblings.{Sibling, has, times}
-use Rattle.ot_depend.specs.Kept.{decls, IsDirect, ends_with, with_last, Kid, siblings, owes, due, IsLinked, enlisted}
+use Rattle.ot_depend.specs.Kept.{decls, IsDirect, ends_with, with_last, Kid, siblings, owes, due, IsLinked, kids_enlisted}
 use Rattle.ot_depend.proofs.HeartLemmas.{times-none, due-none}
 use Rattle.ot_depend.proofs.ListLemmas.{slice_get-push_place, has-with_last, has-with_last-other, times-with_last, times-with_last-other}
 use Rattle.ot_depend.proofs.LinkLemmas.{grown, enlisted_back, siblings-enlisted, length-enlisted, due-enlisted-other, IsDirect-behind, IsDirect-before, no_direct}
@@ -28,19 +28,19 @@ due-next kids linked = due-none (length kids) kids (λ i k there. by i k there k
 module _ (kids : List Kid) (earlier : List ℕ) (new : Kid) (linked : IsLinked kids) (nobody : new.waiters ≡ [])
     (found : (i : ℕ) → has i earlier ≡ true → IsDirect (decls (siblings kids) ++ new.it.uses ∷ []) i (length kids))
     (finds : (i : ℕ) → IsDirect (decls (siblings kids) ++ new.it.uses ∷ []) i (length kids) → has i earlier ≡ true)
-    (waits : new.waiting ≡ due (length kids) (enlisted (length kids) kids earlier)) where
-  pub siblings-add : siblings (enlisted (length kids) kids earlier ++ new ∷ []) ≡ siblings kids ++ new.it ∷ []
-  siblings-add = map-append (λ (k : Kid). k.it) (enlisted (length kids) kids earlier) (new ∷ []) ∙ ap (λ ss. ss ++ new.it ∷ []) (siblings-enlisted (length kids) earlier kids)
+    (waits : new.waiting ≡ due (length kids) (kids_enlisted (length kids) kids earlier)) where
+  pub siblings-add : siblings (kids_enlisted (length kids) kids earlier ++ new ∷ []) ≡ siblings kids ++ new.it ∷ []
+  siblings-add = map-append (λ (k : Kid). k.it) (kids_enlisted (length kids) kids earlier) (new ∷ []) ∙ ap (λ ss. ss ++ new.it ∷ []) (siblings-enlisted (length kids) earlier kids)
 
-  pub decls-add : decls (siblings (enlisted (length kids) kids earlier ++ new ∷ [])) ≡ decls (siblings kids) ++ new.it.uses ∷ []
+  pub decls-add : decls (siblings (kids_enlisted (length kids) kids earlier ++ new ∷ [])) ≡ decls (siblings kids) ++ new.it.uses ∷ []
   decls-add = ap decls siblings-add ∙ map-append (λ (s : Sibling). s.uses) (siblings kids) (new.it ∷ [])
 
   count : length (decls (siblings kids)) ≡ length kids
   count = length-map (siblings kids) (λ (s : Sibling). s.uses) ∙ length-map kids (λ (t : Kid). t.it)
 
   -- a child is one of those before, or the new one
-  place : (j : ℕ) (k : Kid) → slice_get (enlisted (length kids) kids earlier ++ new ∷ []) j ≡ Some k → (slice_get (enlisted (length kids) kids earlier) j ≡ Some k) ⊎ ((j ≡ length kids) × (k ≡ new))
-  place j k there = elim (slice_get-push_place (enlisted (length kids) kids earlier) new j k there) [
+  place : (j : ℕ) (k : Kid) → slice_get (kids_enlisted (length kids) kids earlier ++ new ∷ []) j ≡ Some k → (slice_get (kids_enlisted (length kids) kids earlier) j ≡ Some k) ⊎ ((j ≡ length kids) × (k ≡ new))
+  place j k there = elim (slice_get-push_place (kids_enlisted (length kids) kids earlier) new j k there) [
     | inl old ↦ inl old
     | inr last ↦ inr (last.0 ∙ length-enlisted (length kids) earlier kids, last.1)
   ]
@@ -92,16 +92,16 @@ module _ (kids : List Kid) (earlier : List ℕ) (new : Kid) (linked : IsLinked k
       most true = omega arith
       most false = omega arith
 
-  due-add : (j : ℕ) → due j (enlisted (length kids) kids earlier ++ new ∷ []) ≡ due j (enlisted (length kids) kids earlier)
+  due-add : (j : ℕ) → due j (kids_enlisted (length kids) kids earlier ++ new ∷ []) ≡ due j (kids_enlisted (length kids) kids earlier)
   due-add j =
       let none : owes j new ≡ 0 = by new.it.finished in
-      omega (arith, sum_by_push (owes j) (enlisted (length kids) kids earlier) new)
+      omega (arith, sum_by_push (owes j) (kids_enlisted (length kids) kids earlier) new)
     where
       by : (b : Bool) → cond b 0 (times j new.waiters) ≡ 0
       by true = refl
       by false = ap (times j) nobody
 
-  pub IsLinked-add : IsLinked (enlisted (length kids) kids earlier ++ new ∷ [])
+  pub IsLinked-add : IsLinked (kids_enlisted (length kids) kids earlier ++ new ∷ [])
   IsLinked-add = record {
     told = λ a b k there still waits. rw decls-add (elim (place a k there) [
       | inl old ↦ let t = enlisted_back (length kids) earlier kids a k old in told_old a b k t.0 t.1 t.2 t.4 still waits (cases_eq b (length kids)) (has a earlier) refl
@@ -122,6 +122,6 @@ module _ (kids : List Kid) (earlier : List ℕ) (new : Kid) (linked : IsLinked k
       | inl old ↦ let t = enlisted_back (length kids) earlier kids j k old in
           let within : j < length kids = slice_get_within kids j t.0 t.1 in
           t.3 ∙ linked.counted j t.0 t.1 ∙ sym (due-enlisted-other j (length kids) earlier kids (λ is. omega (arith, is))) ∙ sym (due-add j)
-      | inr last ↦ ap (λ (t : Kid). t.waiting) last.1 ∙ waits ∙ ap (λ n. due n (enlisted (length kids) kids earlier)) (sym last.0) ∙ sym (due-add j)
+      | inr last ↦ ap (λ (t : Kid). t.waiting) last.1 ∙ waits ∙ ap (λ n. due n (kids_enlisted (length kids) kids earlier)) (sym last.0) ∙ sym (due-add j)
     ];
   }

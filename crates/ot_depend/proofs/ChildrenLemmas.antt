@@ -9,7 +9,7 @@ use Rattle.std.proofs.lemmas.List.Folds.{list_any_at}
 use Rattle.std.proofs.lemmas.List.Sums.{fold_more}
 use Rattle.ot_model.proofs.CellsLemmas.{set-updated, map-updated, length-updated}
 use Rattle.ot_model.specs.Cells.{updated}
-use Rattle.ot_depend.specs.Kept.{Kid, woken, one_less, enlisted, enlist, waiters_of}
+use Rattle.ot_depend.specs.Kept.{Kid, woken, one_less, kids_enlisted, enlist, waiters_of}
 use Rattle.ot_depend.specs.Siblings.{has}
 use Rattle.ot_depend.specs.Children.{kid_of, kids_of}
 use Rattle.ot_depend.specs.declared.child.Child.{Child}
@@ -55,8 +55,8 @@ pub same_count : (xs ys : List Child) → kids_of xs ≡ kids_of ys → length x
 same_count xs ys same = sym (length-map xs kid_of) ∙ ap length same ∙ length-map ys kid_of
 
 pub enlisted_more : (child : ℕ) (kids : List Kid) (earlier : List ℕ) (i : ℕ) → i < length earlier →
-    updated (enlisted child kids (take i earlier)) (get_or earlier i 0) (enlist child) ≡ enlisted child kids (take (i + 1) earlier)
+    updated (kids_enlisted child kids (take i earlier)) (get_or earlier i 0) (enlist child) ≡ kids_enlisted child kids (take (i + 1) earlier)
 enlisted_more child kids earlier i within = sym (fold_more (λ (ks : List Kid) p. updated ks p (enlist child)) kids earlier i 0 within)
 
-pub length-enlisted_kids : (child : ℕ) (earlier : List ℕ) (old now : List Child) → kids_of now ≡ enlisted child (kids_of old) earlier → length now ≡ length old
+pub length-enlisted_kids : (child : ℕ) (earlier : List ℕ) (old now : List Child) → kids_of now ≡ kids_enlisted child (kids_of old) earlier → length now ≡ length old
 length-enlisted_kids child earlier old now is = sym (length-map now kid_of) ∙ ap length is ∙ length-enlisted child earlier (kids_of old) ∙ length-map old kid_of

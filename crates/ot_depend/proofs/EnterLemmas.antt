@@ -11,7 +11,7 @@ use Rattle.ot_model.specs.Cells.{updated, same_cell}
 use Rattle.ot_model.specs.declared.expr.Cell.{Cell}
 use Rattle.ot_model.specs.declared.stmt.Use.{Use}
 use Rattle.ot_depend.specs.Siblings.{is_write, uses_cell, writes_cell, has}
-use Rattle.ot_depend.specs.Kept.{with_last, Entry, RowIs, entered}
+use Rattle.ot_depend.specs.Kept.{with_last, Entry, RowIs, row_entered_by}
 use Rattle.ot_depend.specs.Cells.{Line, entry_at, nobody, enter, enter_all, RowsTell}
 use Rattle.ot_depend.specs.declared.cells.Spot.{Spot}
 use Rattle.ot_depend.proofs.ReadyLemmas.{one_cell, cell_itself}
@@ -69,7 +69,7 @@ module _ (ds : List (List Use)) (us : List Use) (one : Use) (c : Cell) (e : Entr
       by_w i (inr apart) = ap (writes_cell c) (last_decl ds us (us ++ one ∷ []) i apart)
 
   -- at its cell the new one is entered
-  pub row_entered : same_cell one.cell c ≡ true → RowIs (λ i. uses_cell c (get_or (ds ++ (us ++ one ∷ []) ∷ []) i [])) (λ i. writes_cell c (get_or (ds ++ (us ++ one ∷ []) ∷ []) i [])) (entered (length ds) one.mode e).writer (entered (length ds) one.mode e).users
+  pub row_entered : same_cell one.cell c ≡ true → RowIs (λ i. uses_cell c (get_or (ds ++ (us ++ one ∷ []) ∷ []) i [])) (λ i. writes_cell c (get_or (ds ++ (us ++ one ∷ []) ∷ []) i [])) (row_entered_by (length ds) one.mode e).writer (row_entered_by (length ds) one.mode e).users
   row_entered same = by (is_write one.mode) refl
     where
       here : u2 (length ds) ≡ true
@@ -97,13 +97,13 @@ tell_more : (ds : List (List Use)) (us : List Use) (at : Cell → Option ℕ) (l
     RowsTell (ds ++ (us ++ s.one ∷ []) ∷ []) at (updated lines s.place (enter (length ds) s.one.mode))
 tell_more ds us at lines s tell sound placed = λ c. by c (same_cell s.one.cell c) refl
   where
-    here : (c : Cell) → s.one.cell ≡ c → entry_at (updated lines s.place (enter (length ds) s.one.mode)) (at c) ≡ entered (length ds) s.one.mode (entry_at lines (at c))
+    here : (c : Cell) → s.one.cell ≡ c → entry_at (updated lines s.place (enter (length ds) s.one.mode)) (at c) ≡ row_entered_by (length ds) s.one.mode (entry_at lines (at c))
     here c same =
         let at_c : at c ≡ Some s.place = ap at (sym same) ∙ placed in
         let l = sound s.one.cell s.place placed in
         ap (entry_at (updated lines s.place (enter (length ds) s.one.mode))) at_c
         ∙ ap (λ o. unwrap_or (option_map (λ l. l.entry) o) nobody) (slice_get-updated lines s.place (enter (length ds) s.one.mode) ∙ ap (option_map (enter (length ds) s.one.mode)) l.1)
-        ∙ ap (entered (length ds) s.one.mode) (ap (λ o. unwrap_or (option_map (λ l. l.entry) o) nobody) (sym l.1)) ∙ ap (λ o. entered (length ds) s.one.mode (entry_at lines o)) (sym at_c)
+        ∙ ap (row_entered_by (length ds) s.one.mode) (ap (λ o. unwrap_or (option_map (λ l. l.entry) o) nobody) (sym l.1)) ∙ ap (λ o. row_entered_by (length ds) s.one.mode (entry_at lines o)) (sym at_c)
 
     apart : (c : Cell) → (s.one.cell ≡ c → ⊥) → (o : Option ℕ) → at c ≡ o → entry_at (updated lines s.place (enter (length ds) s.one.mode)) o ≡ entry_at lines o
     apart c other None is = refl

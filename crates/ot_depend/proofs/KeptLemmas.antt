@@ -8,8 +8,8 @@ use Rattle.std.proofs.lemmas.List.Sums.{sum_by_push, get_or-le-sum_by}
 use Rattle.ot_model.specs.Cells.{updated}
 use Rattle.ot_model.specs.declared.expr.Cell.{Cell}
 use Rattle.ot_model.specs.declared.stmt.Use.{Use}
-use Rattle.ot_depend.specs.Siblings.{Sibling, IsReady, created, with_finished, is_unfinished, is_unfinished_in, has, times}
-use Rattle.ot_depend.specs.Kept.{decls, IsDirect, Kid, siblings, owes, due, woken, ended, enlisted, waiters_of, WaitForAll}
+use Rattle.ot_depend.specs.Siblings.{Sibling, IsReady, sibling_created, with_finished, is_unfinished, is_unfinished_in, has, times}
+use Rattle.ot_depend.specs.Kept.{decls, IsDirect, Kid, siblings, owes, due, woken, kid_ended, kids_enlisted, waiters_of, WaitForAll}
 use Rattle.ot_depend.specs.Cells.{place_of, lines_of, entry_of, IsSound, IsPlaced, RowsTell, enter_all, found_all}
 use Rattle.ot_depend.specs.Groups.{count_of}
 use Rattle.ot_depend.specs.View.{IsTrueOf}
@@ -54,11 +54,11 @@ woken_it kids told i me k known there = let t = woken_back told kids i k there i
 module _ (kids : List Kid) (cells : Table) (groups : Groups) (unfinished : ℕ) (old : IsTrueOf kids cells groups unfinished) where
   module _ (cells2 : Table) (groups2 : Groups) (us : List Use) (gs : List ℕ) (waiting : ℕ) (spots : List Spot) (earlier : List ℕ)
       (uses_are : map (λ s. s.one) spots ≡ us) (placed : All (IsPlaced cells) spots) (found : earlier ≡ found_all (lines_of cells.rows.items) spots)
-      (waits : waiting ≡ due (length kids) (enlisted (length kids) kids earlier))
+      (waits : waiting ≡ due (length kids) (kids_enlisted (length kids) kids earlier))
       (lines : lines_of cells2.rows.items ≡ enter_all (length kids) (lines_of cells.rows.items) spots) (places : (c : Cell) → place_of cells2 c ≡ place_of cells c)
       (counts : (g : ℕ) → count_of groups2 g ≡ count_of groups g + cond (list_any (λ x. x == g) gs) 1 0) where
     new : Kid
-    new = record { it = created us gs; waiting = waiting; waiters = [] }
+    new = record { it = sibling_created us gs; waiting = waiting; waiters = [] }
 
     count : length (decls (siblings kids)) ≡ length kids
     count = length-map (siblings kids) (λ (s : Sibling). s.uses) ∙ length-map kids (λ (t : Kid). t.it)
@@ -74,8 +74,8 @@ module _ (kids : List Kid) (cells : Table) (groups : Groups) (unfinished : ℕ) 
         subst (λ (vs : List Use). IsDirect (decls (siblings kids) ++ vs ∷ []) i (length (decls (siblings kids)))) (sym uses_are) (subst (λ (n : ℕ). IsDirect (decls (siblings kids) ++ us ∷ []) i n) (sym count) direct) in
         ap (has i) found ∙ direct_found (decls (siblings kids)) (place_of cells) (lines_of cells.rows.items) spots old.rows (Placed-from_All cells spots placed) i back
 
-    pub siblings_added : siblings (enlisted (length kids) kids earlier ++ record { it = created us gs; waiting = waiting; waiters = [] } ∷ []) ≡ siblings kids ++ created us gs ∷ []
-    siblings_added = siblings-add kids earlier (record { it = created us gs; waiting = waiting; waiters = [] }) old.linked refl finds is_found waits
+    pub siblings_added : siblings (kids_enlisted (length kids) kids earlier ++ record { it = sibling_created us gs; waiting = waiting; waiters = [] } ∷ []) ≡ siblings kids ++ sibling_created us gs ∷ []
+    siblings_added = siblings-add kids earlier (record { it = sibling_created us gs; waiting = waiting; waiters = [] }) old.linked refl finds is_found waits
 
     rows_added : RowsTell (decls (siblings kids) ++ us ∷ []) (place_of cells2) (lines_of cells2.rows.items)
     rows_added =
@@ -88,16 +88,16 @@ module _ (kids : List Kid) (cells : Table) (groups : Groups) (unfinished : ℕ) 
     sound_added : IsSound cells2
     sound_added = λ c p is. rw lines (Sound-all (length kids) (place_of cells) spots (lines_of cells.rows.items) old.sound c p (sym (places c) ∙ is))
 
-    pub kept_added : IsTrueOf (enlisted (length kids) kids earlier ++ record { it = created us gs; waiting = waiting; waiters = [] } ∷ []) cells2 groups2 (unfinished + 1)
+    pub kept_added : IsTrueOf (kids_enlisted (length kids) kids earlier ++ record { it = sibling_created us gs; waiting = waiting; waiters = [] } ∷ []) cells2 groups2 (unfinished + 1)
     kept_added =
-        let new : Kid = record { it = created us gs; waiting = waiting; waiters = [] } in
+        let new : Kid = record { it = sibling_created us gs; waiting = waiting; waiters = [] } in
         record {
-          ready = rw siblings_added (FinishedAreReady-push (siblings kids) (created us gs) refl old.ready);
+          ready = rw siblings_added (FinishedAreReady-push (siblings kids) (sibling_created us gs) refl old.ready);
           linked = IsLinked-add kids earlier new old.linked refl finds is_found waits;
           sound = sound_added;
           rows = rw (decls-add kids earlier new old.linked refl finds is_found waits) rows_added;
-          in_group = λ g. rw siblings_added (omega (arith, counts g, old.in_group g, sum_by_push (λ s. cond {A = ℕ} (is_unfinished_in g s) 1 0) (siblings kids) (created us gs)));
-          all = rw siblings_added (omega (arith, old.all, sum_by_push (λ s. cond {A = ℕ} (is_unfinished s) 1 0) (siblings kids) (created us gs)));
+          in_group = λ g. rw siblings_added (omega (arith, counts g, old.in_group g, sum_by_push (λ s. cond {A = ℕ} (is_unfinished_in g s) 1 0) (siblings kids) (sibling_created us gs)));
+          all = rw siblings_added (omega (arith, old.all, sum_by_push (λ s. cond {A = ℕ} (is_unfinished s) 1 0) (siblings kids) (sibling_created us gs)));
         }
 
   module _ (i : ℕ) (me : Kid) (known : slice_get kids i ≡ Some me) (not_yet : me.it.finished ≡ false) where
@@ -130,11 +130,11 @@ module _ (kids : List Kid) (cells : Table) (groups : Groups) (unfinished : ℕ) 
         let within = slice_get_within (siblings kids) i me.it at_i in
         omega (arith, old.all, rw (get_or_from_slice_get (siblings kids) i me.it me.it at_i) at (get_or-le-sum_by (λ s. cond {A = ℕ} (is_unfinished s) 1 0) (siblings kids) i me.it within))
 
-    pub siblings_finished : siblings (updated (woken kids (waiters_of kids i)) i ended) ≡ with_finished (siblings kids) i
+    pub siblings_finished : siblings (updated (woken kids (waiters_of kids i)) i kid_ended) ≡ with_finished (siblings kids) i
     siblings_finished = rw waiters_are (siblings-end kids i me old.linked known not_yet)
 
     pub kept_finished : (groups2 : Groups) → IsReady (siblings kids) i → ((g : ℕ) → count_of groups2 g + cond (list_any (λ x. x == g) me.it.groups) 1 0 ≡ count_of groups g) →
-        IsTrueOf (updated (woken kids (waiters_of kids i)) i ended) cells groups2 (unfinished - 1)
+        IsTrueOf (updated (woken kids (waiters_of kids i)) i kid_ended) cells groups2 (unfinished - 1)
     kept_finished groups2 ready counts = record {
       ready = rw siblings_finished (FinishedAreReady-finished (siblings kids) i ready old.ready);
       linked = rw waiters_are (IsLinked-end kids i me old.linked known not_yet);
@@ -149,19 +149,19 @@ module _ (kids : List Kid) (cells : Table) (groups : Groups) (unfinished : ℕ) 
 -- the children and what is kept beside them, once one was added
 pub after_add : (kids : List Kid) (cells : Table) (groups : Groups) (unfinished : ℕ) → IsTrueOf kids cells groups unfinished → (cells2 : Table) (groups2 : Groups) (us : List Use) (gs : List ℕ)
     (child waiting : ℕ) (spots : List Spot) (earlier : List ℕ) (kids2 : List Kid) → child ≡ length kids → map (λ s. s.one) spots ≡ us → All (IsPlaced cells) spots →
-    earlier ≡ found_all (lines_of cells.rows.items) spots → kids2 ≡ enlisted child kids earlier → due child kids + waiting ≡ due child kids2 →
+    earlier ≡ found_all (lines_of cells.rows.items) spots → kids2 ≡ kids_enlisted child kids earlier → due child kids + waiting ≡ due child kids2 →
     lines_of cells2.rows.items ≡ enter_all child (lines_of cells.rows.items) spots → ((c : Cell) → place_of cells2 c ≡ place_of cells c) →
     ((g : ℕ) → count_of groups2 g ≡ count_of groups g + cond (list_any (λ x. x == g) gs) 1 0) →
-    (siblings (kids2 ++ record { it = created us gs; waiting = waiting; waiters = [] } ∷ []) ≡ siblings kids ++ created us gs ∷ [])
-    × IsTrueOf (kids2 ++ record { it = created us gs; waiting = waiting; waiters = [] } ∷ []) cells2 groups2 (unfinished + 1)
+    (siblings (kids2 ++ record { it = sibling_created us gs; waiting = waiting; waiters = [] } ∷ []) ≡ siblings kids ++ sibling_created us gs ∷ [])
+    × IsTrueOf (kids2 ++ record { it = sibling_created us gs; waiting = waiting; waiters = [] } ∷ []) cells2 groups2 (unfinished + 1)
 after_add kids cells groups unfinished old cells2 groups2 us gs child waiting spots earlier kids2 n_is uses_are placed found exact waits lines places counts =
-    let now : kids2 ≡ enlisted (length kids) kids earlier = exact ∙ ap (λ n. enlisted n kids earlier) n_is in
-    let sum : due (length kids) kids + waiting ≡ due (length kids) (enlisted (length kids) kids earlier) =
+    let now : kids2 ≡ kids_enlisted (length kids) kids earlier = exact ∙ ap (λ n. kids_enlisted n kids earlier) n_is in
+    let sum : due (length kids) kids + waiting ≡ due (length kids) (kids_enlisted (length kids) kids earlier) =
     ap (λ n. due n kids + waiting) (sym n_is) ∙ waits ∙ ap (λ n. due n kids2) n_is ∙ ap (due (length kids)) now in
-    let is : waiting ≡ due (length kids) (enlisted (length kids) kids earlier) = omega (arith, due-next kids old.linked) in
+    let is : waiting ≡ due (length kids) (kids_enlisted (length kids) kids earlier) = omega (arith, due-next kids old.linked) in
     let at_n : lines_of cells2.rows.items ≡ enter_all (length kids) (lines_of cells.rows.items) spots = lines ∙ ap (λ n. enter_all n (lines_of cells.rows.items) spots) n_is in
-    let put : kids2 ++ record { it = created us gs; waiting = waiting; waiters = [] } ∷ [] ≡ enlisted (length kids) kids earlier ++ record { it = created us gs; waiting = waiting; waiters = [] } ∷ [] =
-    ap (λ ks. ks ++ record { it = created us gs; waiting = waiting; waiters = [] } ∷ []) now in (
+    let put : kids2 ++ record { it = sibling_created us gs; waiting = waiting; waiters = [] } ∷ [] ≡ kids_enlisted (length kids) kids earlier ++ record { it = sibling_created us gs; waiting = waiting; waiters = [] } ∷ [] =
+    ap (λ ks. ks ++ record { it = sibling_created us gs; waiting = waiting; waiters = [] } ∷ []) now in (
       ap siblings put ∙ siblings_added kids cells groups unfinished old cells2 groups2 us gs waiting spots earlier uses_are placed found is at_n places counts,
       subst (λ (ks : List Kid). IsTrueOf ks cells2 groups2 (unfinished + 1)) (sym put) (kept_added kids cells groups unfinished old cells2 groups2 us gs waiting spots earlier uses_are placed found is at_n places counts),
     )

@@ -10,7 +10,7 @@ use Rattle.ot_model.specs.Cells.{updated}
 use Rattle.ot_model.specs.declared.expr.Cell.{Cell}
 use Rattle.ot_model.specs.declared.stmt.Use.{Use}
 use Rattle.ot_depend.specs.Siblings.{Sibling, with_finished, uses_cell, has, times}
-use Rattle.ot_depend.specs.Kept.{decls, IsDirect, ends_with, with_last, Kid, siblings, owes, due, IsLinked, one_less, woken, ended, enlist, enlisted}
+use Rattle.ot_depend.specs.Kept.{decls, IsDirect, ends_with, with_last, Kid, siblings, owes, due, IsLinked, one_less, woken, kid_ended, enlist, kids_enlisted}
 use Rattle.ot_depend.proofs.ListLemmas.{updated_back, map-updated-by, sum_by-updated-same, sum_by-updated, with_last-twice, times-with_last, times-with_last-other, times-cons}
 
 -- ---- those that are told wait for less
@@ -53,25 +53,25 @@ due-woken : (j : ℕ) (told : List ℕ) (kids : List Kid) → due j (woken kids 
 due-woken j [] kids = refl
 due-woken j (w ∷ ws) kids = due-woken j ws (updated kids w one_less) ∙ sum_by-updated-same (owes j) one_less (λ k. refl) kids w
 
-pub siblings-ended : (kids : List Kid) (i : ℕ) → siblings (updated kids i ended) ≡ with_finished (siblings kids) i
-siblings-ended kids i = map-updated-by (λ (k : Kid). k.it) ended (λ s. record s { finished = true }) (λ k. refl) kids i
+pub siblings-ended : (kids : List Kid) (i : ℕ) → siblings (updated kids i kid_ended) ≡ with_finished (siblings kids) i
+siblings-ended kids i = map-updated-by (λ (k : Kid). k.it) kid_ended (λ s. record s { finished = true }) (λ k. refl) kids i
 
 decls-finished : (ss : List Sibling) (i : ℕ) → decls (with_finished ss i) ≡ decls ss
 decls-finished ss i = map-updated (λ (s : Sibling). s.uses) ss i (λ s. record s { finished = true }) (λ s. refl)
 
 module _ (kids : List Kid) (i : ℕ) (me : Kid) (linked : IsLinked kids) (known : slice_get kids i ≡ Some me) (unfinished : me.it.finished ≡ false) where
   -- what the children are for those that read them
-  pub siblings-end : siblings (updated (woken kids me.waiters) i ended) ≡ with_finished (siblings kids) i
+  pub siblings-end : siblings (updated (woken kids me.waiters) i kid_ended) ≡ with_finished (siblings kids) i
   siblings-end = siblings-ended (woken kids me.waiters) i ∙ ap (λ ss. with_finished ss i) (siblings-woken me.waiters kids)
 
-  pub decls-end : decls (siblings (updated (woken kids me.waiters) i ended)) ≡ decls (siblings kids)
+  pub decls-end : decls (siblings (updated (woken kids me.waiters) i kid_ended)) ≡ decls (siblings kids)
   decls-end = ap decls siblings-end ∙ decls-finished (siblings kids) i
 
   -- a child that has not finished then, as it was
-  pub end_back : (j : ℕ) (k : Kid) → slice_get (updated (woken kids me.waiters) i ended) j ≡ Some k →
+  pub end_back : (j : ℕ) (k : Kid) → slice_get (updated (woken kids me.waiters) i kid_ended) j ≡ Some k →
       (t : Kid) × (slice_get kids j ≡ Some t) × (k.waiters ≡ t.waiters) × (k.waiting ≡ t.waiting - times j me.waiters) × (k.it.finished ≡ false → t.it.finished ≡ false)
   end_back j k there =
-      let now = updated_back ended (woken kids me.waiters) i j k there in
+      let now = updated_back kid_ended (woken kids me.waiters) i j k there in
       let old = woken_back me.waiters kids j now.0 now.1 in
       elim now.2 [
         | inl here ↦ (
@@ -90,10 +90,10 @@ module _ (kids : List Kid) (i : ℕ) (me : Kid) (linked : IsLinked kids) (known 
         )
       ]
 
-  due-end : (j : ℕ) → due j (updated (woken kids me.waiters) i ended) ≡ due j kids - times j me.waiters
+  due-end : (j : ℕ) → due j (updated (woken kids me.waiters) i kid_ended) ≡ due j kids - times j me.waiters
   due-end j = by (slice_get (woken kids me.waiters) i) refl
     where
-      by : (o : Option Kid) → slice_get (woken kids me.waiters) i ≡ o → due j (updated (woken kids me.waiters) i ended) ≡ due j kids - times j me.waiters
+      by : (o : Option Kid) → slice_get (woken kids me.waiters) i ≡ o → due j (updated (woken kids me.waiters) i kid_ended) ≡ due j kids - times j me.waiters
       by None none = absurd (none-some me.it (
           sym (slice_get-map (λ (t : Kid). t.it) (woken kids me.waiters) i ∙ ap (option_map (λ (t : Kid). t.it)) none)
           ∙ ap (λ ss. slice_get ss i) (siblings-woken me.waiters kids)
@@ -103,11 +103,11 @@ module _ (kids : List Kid) (i : ℕ) (me : Kid) (linked : IsLinked kids) (known 
           let same : me ≡ old.0 = same_Some me old.0 (sym known ∙ old.1) in
           let still : t.it.finished ≡ false = ap (λ (r : Sibling). r.finished) old.2 ∙ ap (λ (x : Kid). x.it.finished) (sym same) ∙ unfinished in
           let is : owes j t ≡ times j me.waiters = ap (λ b. cond b 0 (times j t.waiters)) still ∙ ap (times j) (old.3 ∙ ap (λ (x : Kid). x.waiters) (sym same)) in
-          let none : owes j (ended t) ≡ 0 = refl in
-          omega (arith, sum_by-updated (owes j) ended (woken kids me.waiters) i t there, due-woken j me.waiters kids)
+          let none : owes j (kid_ended t) ≡ 0 = refl in
+          omega (arith, sum_by-updated (owes j) kid_ended (woken kids me.waiters) i t there, due-woken j me.waiters kids)
 
   -- the lists and numbers are as they have to be
-  pub IsLinked-end : IsLinked (updated (woken kids me.waiters) i ended)
+  pub IsLinked-end : IsLinked (updated (woken kids me.waiters) i kid_ended)
   IsLinked-end = record {
     told = λ a b k there still waits. let t = end_back a k there in
         rw decls-end (linked.told a b t.0 t.1 (t.4 still) (ap (has b) (sym t.2) ∙ waits));
@@ -129,7 +129,7 @@ grown-twice false true child xs = with_last-twice child xs
 grown-twice false false child xs = refl
 
 -- a child after this one was put to those that wait for it
-pub enlisted_back : (child : ℕ) (earlier : List ℕ) (kids : List Kid) (i : ℕ) (k : Kid) → slice_get (enlisted child kids earlier) i ≡ Some k →
+pub enlisted_back : (child : ℕ) (earlier : List ℕ) (kids : List Kid) (i : ℕ) (k : Kid) → slice_get (kids_enlisted child kids earlier) i ≡ Some k →
     (t : Kid) × (slice_get kids i ≡ Some t) × (k.it ≡ t.it) × (k.waiting ≡ t.waiting) × (k.waiters ≡ grown t.it.finished (has i earlier) child t.waiters)
 enlisted_back child [] kids i k there = (k, there, refl, refl, same k.it.finished)
   where
@@ -158,13 +158,13 @@ enlisted_back child (e ∷ es) kids i k there =
       )
     ]
 
-pub siblings-enlisted : (child : ℕ) (earlier : List ℕ) (kids : List Kid) → siblings (enlisted child kids earlier) ≡ siblings kids
+pub siblings-enlisted : (child : ℕ) (earlier : List ℕ) (kids : List Kid) → siblings (kids_enlisted child kids earlier) ≡ siblings kids
 siblings-enlisted child [] kids = refl
 siblings-enlisted child (e ∷ es) kids = siblings-enlisted child es (updated kids e (enlist child)) ∙ map-updated (λ (k : Kid). k.it) kids e (enlist child) (λ k. refl)
 
-pub length-enlisted : (child : ℕ) (earlier : List ℕ) (kids : List Kid) → length (enlisted child kids earlier) ≡ length kids
+pub length-enlisted : (child : ℕ) (earlier : List ℕ) (kids : List Kid) → length (kids_enlisted child kids earlier) ≡ length kids
 length-enlisted child earlier kids =
-    sym (length-map (enlisted child kids earlier) (λ (k : Kid). k.it)) ∙ ap length (siblings-enlisted child earlier kids) ∙ length-map kids (λ (k : Kid). k.it)
+    sym (length-map (kids_enlisted child kids earlier) (λ (k : Kid). k.it)) ∙ ap length (siblings-enlisted child earlier kids) ∙ length-map kids (λ (k : Kid). k.it)
 
 owes-enlist-other : (j child : ℕ) → j ≢ child → (k : Kid) → owes j (enlist child k) ≡ owes j k
 owes-enlist-other j child apart k = by k.it.finished
@@ -173,7 +173,7 @@ owes-enlist-other j child apart k = by k.it.finished
     by true = refl
     by false = times-with_last-other j child k.waiters apart
 
-pub due-enlisted-other : (j child : ℕ) (earlier : List ℕ) (kids : List Kid) → j ≢ child → due j (enlisted child kids earlier) ≡ due j kids
+pub due-enlisted-other : (j child : ℕ) (earlier : List ℕ) (kids : List Kid) → j ≢ child → due j (kids_enlisted child kids earlier) ≡ due j kids
 due-enlisted-other j child [] kids apart = refl
 due-enlisted-other j child (e ∷ es) kids apart = due-enlisted-other j child es (updated kids e (enlist child)) apart ∙ sum_by-updated-same (owes j) (enlist child) (owes-enlist-other j child apart) kids e
 

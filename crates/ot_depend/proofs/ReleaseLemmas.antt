@@ -7,7 +7,7 @@ use Rattle.std.proofs.lemmas.Option.{same_Some, none-some, slice_get-map, slice_
 use Rattle.ot_model.proofs.CellsLemmas.{map-updated, length-updated}
 use Rattle.ot_model.specs.Cells.{updated}
 use Rattle.ot_depend.specs.Siblings.{FinishedAreReady, is_ready, count_direct, waiting_for, has, times, LetsTheSame, WaitForLess}
-use Rattle.ot_depend.specs.Kept.{Kid, siblings, owes, due, IsLinked, woken, ended, waiters_of, WaitForAll}
+use Rattle.ot_depend.specs.Kept.{Kid, siblings, owes, due, IsLinked, woken, kid_ended, waiters_of, WaitForAll}
 use Rattle.ot_depend.specs.View.{IsTrueOf}
 use Rattle.ot_depend.specs.declared.cells.Table.{Table}
 use Rattle.ot_depend.specs.declared.groups.Groups.{Groups}
@@ -106,12 +106,12 @@ ready-unknown kids j none =
     rw gone refl
 
 module _ (kids : List Kid) (i : ℕ) (me : Kid) (linked : IsLinked kids) (all : FinishedAreReady (siblings kids)) (known : slice_get kids i ≡ Some me) (unfinished : me.it.finished ≡ false)
-    (all-now : FinishedAreReady (siblings (updated (woken kids me.waiters) i ended))) where
+    (all-now : FinishedAreReady (siblings (updated (woken kids me.waiters) i kid_ended))) where
   abbrev now : List Kid
-  now = updated (woken kids me.waiters) i ended
+  now = updated (woken kids me.waiters) i kid_ended
 
   long : length now ≡ length kids
-  long = length-updated (woken kids me.waiters) i ended ∙ length-woken me.waiters kids
+  long = length-updated (woken kids me.waiters) i kid_ended ∙ length-woken me.waiters kids
 
   pub ready-kept : LetsTheSame me.waiters (siblings kids) (siblings now)
   ready-kept j none = by (slice_get now j) refl
@@ -132,7 +132,7 @@ waiting-unknown kids j none =
 
 module _ (kids : List Kid) (i : ℕ) (me : Kid) (linked : IsLinked kids) (known : slice_get kids i ≡ Some me) (unfinished : me.it.finished ≡ false) (wait : WaitForAll kids me.waiters) where
   abbrev after : List Kid
-  after = updated (woken kids me.waiters) i ended
+  after = updated (woken kids me.waiters) i kid_ended
 
   -- each child waits for as many less as it is told of
   pub waits-less : WaitForLess me.waiters (siblings kids) (siblings after)
@@ -143,9 +143,9 @@ module _ (kids : List Kid) (i : ℕ) (me : Kid) (linked : IsLinked kids) (known 
       enough false t at told = omega (arith, times-none j me.waiters told)
 
       by : (o : Option Kid) (b : Bool) → slice_get after j ≡ o → has j me.waiters ≡ b → waiting_for (siblings kids) j ≡ waiting_for (siblings after) j + times j me.waiters
-      by None true gone told = let k = wait j told in absurd (none-some k.0 (sym (past-none kids j (omega (arith, none-past after j gone, length-updated (woken kids me.waiters) i ended, length-woken me.waiters kids))) ∙ k.1))
+      by None true gone told = let k = wait j told in absurd (none-some k.0 (sym (past-none kids j (omega (arith, none-past after j gone, length-updated (woken kids me.waiters) i kid_ended, length-woken me.waiters kids))) ∙ k.1))
       by None false gone told =
-          let old = waiting-unknown kids j (past-none kids j (omega (arith, none-past after j gone, length-updated (woken kids me.waiters) i ended, length-woken me.waiters kids))) in
+          let old = waiting-unknown kids j (past-none kids j (omega (arith, none-past after j gone, length-updated (woken kids me.waiters) i kid_ended, length-woken me.waiters kids))) in
           let now = waiting-unknown after j gone in
           omega (arith, old, now, times-none j me.waiters told)
       by (Some k) b there told =
@@ -162,10 +162,10 @@ waiters-known kids i me linked known unfinished = λ k d within.
     slice_get_within (siblings kids) (get_or me.waiters k d) its.0 its.1
 
 -- the child that has finished, with the list that it still has
-pub released : (kids : List Kid) (i : ℕ) (me : Kid) (kids1 : List Kid) (r : Kid) → slice_get kids i ≡ Some me → kids1 ≡ updated (woken kids me.waiters) i ended → slice_get kids1 i ≡ Some r →
+pub released : (kids : List Kid) (i : ℕ) (me : Kid) (kids1 : List Kid) (r : Kid) → slice_get kids i ≡ Some me → kids1 ≡ updated (woken kids me.waiters) i kid_ended → slice_get kids1 i ≡ Some r →
     (r.it.finished ≡ true) × (r.waiters ≡ me.waiters)
 released kids i me kids1 r known is there =
-    let now = updated_back ended (woken kids me.waiters) i i r (ap (λ ks. slice_get ks i) (sym is) ∙ there) in
+    let now = updated_back kid_ended (woken kids me.waiters) i i r (ap (λ ks. slice_get ks i) (sym is) ∙ there) in
     let old = woken_back me.waiters kids i now.0 now.1 in
     elim now.2 [
       | inl here ↦ (ap (λ (t : Kid). t.it.finished) here.1, ap (λ (t : Kid). t.waiters) here.1 ∙ old.3 ∙ ap (λ (t : Kid). t.waiters) (same_Some old.0 me (sym old.1 ∙ known)))

@@ -6,7 +6,7 @@ use Rattle.std.proofs.lemmas.Option.{same_Some}
 use Rattle.std.proofs.lemmas.List.Folds.{list_any-append}
 use Rattle.ot_model.specs.declared.stmt.Mode.{Mode}
 use Rattle.ot_depend.specs.Siblings.{is_write, has}
-use Rattle.ot_depend.specs.Kept.{Entry, RowIs, found}
+use Rattle.ot_depend.specs.Kept.{Entry, RowIs, row_waits_for}
 
 -- a number in two lists behind one another is in one of them
 pub has-append : (n : ℕ) (xs ys : List ℕ) → has n (xs ++ ys) ≡ (has n xs || has n ys)
@@ -58,7 +58,7 @@ has_option i None there = absurd (true≢false (sym there))
 has_option i (Some k) there = elim (or_cases _ false there) [ inl is ↦ ap Some (eqb-true k i is) | inr rest ↦ absurd (true≢false (sym rest)) ]
 
 -- who is found uses the cell, one of the two writes it, and no one since
-pub found_sound : (u w : ℕ → Bool) (e : Entry) (mode : Mode) (i : ℕ) → RowIs u w e.writer e.users → ((k : ℕ) → w k ≡ true → u k ≡ true) → has i (found e mode) ≡ true →
+pub found_sound : (u w : ℕ → Bool) (e : Entry) (mode : Mode) (i : ℕ) → RowIs u w e.writer e.users → ((k : ℕ) → w k ≡ true → u k ≡ true) → has i (row_waits_for e mode) ≡ true →
     (u i ≡ true) × ((w i || is_write mode) ≡ true) × ((k : ℕ) → i < k → w k ≡ false)
 found_sound u w e mode i row uses there = elim (or_cases _ _ (sym (has-append i (option_to_list e.writer) (cond (is_write mode) e.users [])) ∙ there)) [
   | inl first ↦ let is : e.writer ≡ Some i = has_option i e.writer first in
@@ -82,7 +82,7 @@ found_sound u w e mode i row uses there = elim (or_cases _ _ (sym (has-append i 
 
 -- and whoever does so is found
 pub found_complete : (u w : ℕ → Bool) (e : Entry) (mode : Mode) (i : ℕ) → RowIs u w e.writer e.users → u i ≡ true → (w i || is_write mode) ≡ true → ((k : ℕ) → i < k → w k ≡ false) →
-    has i (found e mode) ≡ true
+    has i (row_waits_for e mode) ≡ true
 found_complete u w e mode i row uses one none = has-append i (option_to_list e.writer) (cond (is_write mode) e.users []) ∙ elim (or_cases (w i) (is_write mode) one) [
   | inl writes ↦ by_writer (row.last i writes)
   | inr is ↦ elim (row.all i uses) [

@@ -7,7 +7,7 @@ use Rattle.std.proofs.lemmas.List.{map-append, map-set, length-map, get_or-map, 
 use Rattle.std.proofs.lemmas.List.Sums.{fold_more}
 use Rattle.ot_model.proofs.CellsLemmas.{set-updated, length-updated}
 use Rattle.ot_model.specs.Cells.{updated}
-use Rattle.ot_depend.specs.Kept.{found}
+use Rattle.ot_depend.specs.Kept.{row_waits_for}
 use Rattle.ot_depend.specs.Cells.{Line, line_of, lines_of, entry_in, entry_at, nobody, enter, enter_all, found_all}
 use Rattle.ot_depend.specs.declared.cells.Row.{Row}
 use Rattle.ot_depend.specs.declared.cells.Spot.{Spot}
@@ -47,12 +47,12 @@ entry_read rows i r within is =
 
 -- one spot more
 pub found_more : (lines : List Line) (spots : List Spot) (i : ℕ) (d : Spot) (before : List ℕ) → i < length spots → before ≡ found_all lines (take i spots) →
-    before ++ found (entry_at lines (Some (get_or spots i d).place)) (get_or spots i d).one.mode ≡ found_all lines (take (i + 1) spots)
+    before ++ row_waits_for (entry_at lines (Some (get_or spots i d).place)) (get_or spots i d).one.mode ≡ found_all lines (take (i + 1) spots)
 found_more lines spots i d before within is =
     ap (λ xs. xs ++ f (get_or spots i d)) is ∙ flat_map_more f [] (take i spots) (get_or spots i d) ∙ ap (flat_map f) (sym (take_more spots i d within))
   where
     f : Spot → List ℕ
-    f s = found (entry_at lines (Some s.place)) s.one.mode
+    f s = row_waits_for (entry_at lines (Some s.place)) s.one.mode
 
 pub enter_more : (child : ℕ) (lines : List Line) (spots : List Spot) (i : ℕ) (d : Spot) → i < length spots →
     updated (enter_all child lines (take i spots)) (get_or spots i d).place (enter child (get_or spots i d).one.mode) ≡ enter_all child lines (take (i + 1) spots)

@@ -10,7 +10,7 @@ use Rattle.ot_model.specs.Cells.{same_cell}
 use Rattle.ot_model.specs.declared.expr.Cell.{Cell}
 use Rattle.ot_model.specs.declared.stmt.Use.{Use}
 use Rattle.ot_depend.specs.Siblings.{is_write, uses_cell, writes_cell, has}
-use Rattle.ot_depend.specs.Kept.{IsDirect, found}
+use Rattle.ot_depend.specs.Kept.{IsDirect, row_waits_for}
 use Rattle.ot_depend.specs.Cells.{Line, entry_at, found_all, RowsTell}
 use Rattle.ot_depend.specs.declared.cells.Spot.{Spot}
 use Rattle.ot_depend.proofs.ReadyLemmas.{cell_itself}
@@ -46,11 +46,11 @@ module _ (ds : List (List Use)) (at : Cell → Option ℕ) (lines : List Line) (
   pub found_direct : (i : ℕ) → has i (found_all lines spots) ≡ true → IsDirect (ds ++ map (λ s. s.one) spots ∷ []) i (length ds)
   found_direct i among =
       let us : List Use = map (λ s. s.one) spots in
-      let from = flat_from (λ (s : Spot). found (entry_at lines (Some s.place)) s.one.mode) i spots among in
+      let from = flat_from (λ (s : Spot). row_waits_for (entry_at lines (Some s.place)) s.one.mode) i spots among in
       let s : Spot = from.1 in
       let c : Cell = s.one.cell in
       let here : slice_get us from.0 ≡ Some s.one = slice_get-map (λ (s : Spot). s.one) spots from.0 ∙ ap (option_map (λ (s : Spot). s.one)) from.2 in
-      let is : has i (found (entry_at lines (at c)) s.one.mode) ≡ true = ap (λ o. has i (found (entry_at lines o) s.one.mode)) (placed from.0 s from.2) ∙ from.3 in
+      let is : has i (row_waits_for (entry_at lines (at c)) s.one.mode) ≡ true = ap (λ o. has i (row_waits_for (entry_at lines o) s.one.mode)) (placed from.0 s from.2) ∙ from.3 in
       let told = found_sound (λ i. uses_cell c (get_or ds i [])) (λ i. writes_cell c (get_or ds i [])) (entry_at lines (at c)) s.one.mode i (tell c) (λ k. writes-uses c (get_or ds k [])) is in
       let within : i < length ds = use_within ds c i told.0 in
       let at_n : get_or (ds ++ us ∷ []) (length ds) [] ≡ us = get_or_push ds us [] (length ds) refl in
@@ -97,4 +97,4 @@ module _ (ds : List (List Use)) (at : Cell → Option ℕ) (lines : List Line) (
           let c : Cell = direct.cell in
           let among = found_complete (λ i. uses_cell c (get_or ds i [])) (λ i. writes_cell c (get_or ds i [])) (entry_at lines (at c)) s.one.mode i (tell c) used one none in
           let at_c : at c ≡ Some s.place = ap at (sym same) ∙ placed k s there in
-          flat_has (λ (s : Spot). found (entry_at lines (Some s.place)) s.one.mode) i spots k s there (ap (λ o. has i (found (entry_at lines o) s.one.mode)) (sym at_c) ∙ among)
+          flat_has (λ (s : Spot). row_waits_for (entry_at lines (Some s.place)) s.one.mode) i spots k s there (ap (λ o. has i (row_waits_for (entry_at lines o) s.one.mode)) (sym at_c) ∙ among)

@@ -12,7 +12,7 @@ use Rattle.ot_model.specs.declared.stmt.Mode.{Mode}
 use Rattle.ot_model.specs.declared.stmt.Use.{Use}
 use Rattle.ot_depend.specs.Siblings.{Sibling, FinishedAreReady, AreFree, is_unfinished, is_awaited, waits_for, with_finished, is_write, uses_cell, writes_cell, has}
 use Rattle.ot_model.specs.Cells.{depends_on}
-use Rattle.ot_depend.specs.Kept.{Kid, Entry, RowIs, decls, siblings, found}
+use Rattle.ot_depend.specs.Kept.{Kid, Entry, RowIs, decls, siblings, row_waits_for}
 use Rattle.ot_depend.specs.Cells.{entry_of, place_of, lines_of, RowsTell, is_pending, must_wait, some_must_wait}
 use Rattle.ot_depend.specs.declared.cells.Table.{Table}
 use Rattle.ot_depend.proofs.HeartLemmas.{use_found, use_there, write_found, write_there, writes-uses, MeetsAt, MeetsAt-from_DependsOn, DependsOn-from_MeetsAt, decl_at, known_from_use, awaited}
@@ -35,8 +35,8 @@ any_at p (r ∷ ss) (suc i) s known passes = or_right (p r) (list_any p ss) (any
 -- a number in a list that passes a test
 any_number : (p : ℕ → Bool) (xs : List ℕ) → list_any p xs ≡ true → (n : ℕ) × (has n xs ≡ true) × (p n ≡ true)
 any_number p xs passed =
-    let found = Any-from_list_any p xs passed in
-    (found.1, any_tested (λ x. x ≡ found.1) (λ x. x == found.1) (λ x. eq-eqb x found.1) xs (found.0, found.1, found.2, found.3, refl), found.4)
+    let row_waits_for = Any-from_list_any p xs passed in
+    (row_waits_for.1, any_tested (λ x. x ≡ row_waits_for.1) (λ x. x == row_waits_for.1) (λ x. eq-eqb x row_waits_for.1) xs (row_waits_for.0, row_waits_for.1, row_waits_for.2, row_waits_for.3, refl), row_waits_for.4)
 
 number_any : (p : ℕ → Bool) (n : ℕ) (xs : List ℕ) → has n xs ≡ true → p n ≡ true → list_any p xs ≡ true
 number_any p n xs there passes = any_tested (λ x. x ≡ n) p (λ x is. ap p is ∙ passes) xs (any_found (λ x. x ≡ n) (λ x. x == n) (λ x. eqb-true x n) xs there)
@@ -85,7 +85,7 @@ module _ (kids : List Kid) (ready : FinishedAreReady (siblings kids)) where
       pending = pending-from_known kids i s known unfinished
 
       told : (k : ℕ) → (has k (option_to_list e.writer) || has k (cond (is_write mode) e.users [])) ≡ true → is_pending kids k ≡ true → must_wait kids mode e ≡ true
-      told k there = number_any (is_pending kids) k (found e mode) (has-append k (option_to_list e.writer) (cond (is_write mode) e.users []) ∙ there)
+      told k there = number_any (is_pending kids) k (row_waits_for e mode) (has-append k (option_to_list e.writer) (cond (is_write mode) e.users []) ∙ there)
 
       by_writer : (k : ℕ) × (e.writer ≡ Some k) × (i ≤ k) → must_wait kids mode e ≡ true
       by_writer (k, is, after) = told k (or_left _ (has k (cond (is_write mode) e.users [])) (ap (λ o. has k (option_to_list o)) is ∙ or_left _ false (eq-eqb k k refl))) (elim (cases_eq i k) [
@@ -100,7 +100,7 @@ module _ (kids : List Kid) (ready : FinishedAreReady (siblings kids)) where
     waits_for-from_rows uses passed =
         let u = Any-from_list_any (λ v. must_wait kids v.mode (entry_of t v.cell)) uses passed in
         let c = u.1.cell in
-        let child = any_number (is_pending kids) (found (entry_of t c) u.1.mode) u.4 in
+        let child = any_number (is_pending kids) (row_waits_for (entry_of t c) u.1.mode) u.4 in
         let s = known-from_pending kids child.0 child.2 in
         let told = found_sound (uses_at c) (writes_at c) (entry_of t c) u.1.mode child.0 (tell c) (λ k. writes-uses c (get_or (decls (siblings kids)) k [])) child.1 in
         let its = decl_at (siblings kids) child.0 s.0 s.1 in

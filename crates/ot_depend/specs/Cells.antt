@@ -6,7 +6,7 @@ use Rattle.ot_model.specs.declared.expr.Cell.{Cell}
 use Rattle.ot_model.specs.declared.stmt.Mode.{Mode}
 use Rattle.ot_model.specs.declared.stmt.Use.{Use}
 use Rattle.ot_depend.specs.Siblings.{uses_cell, writes_cell}
-use Rattle.ot_depend.specs.Kept.{Entry, RowIs, entered, found, HasRoom, Admits, Kid}
+use Rattle.ot_depend.specs.Kept.{Entry, RowIs, row_entered_by, row_waits_for, HasRoom, Admits, Kid}
 use Rattle.ot_depend.specs.Places.{place_in}
 use Rattle.ot_depend.specs.declared.cells.Row.{Row}
 use Rattle.ot_depend.specs.declared.cells.Spot.{Spot}
@@ -60,7 +60,7 @@ AdmitsIn child t s = (r : Row) → slice_get t.rows.items s.place ≡ Some r →
 
 -- the line once the child uses its cell so
 abbrev pub enter : ℕ → Mode → Line → Line
-enter child mode l = record l { entry = entered child mode l.entry }
+enter child mode l = record l { entry = row_entered_by child mode l.entry }
 
 -- the lines once the child has these uses
 abbrev pub enter_all : ℕ → List Line → List Spot → List Line
@@ -68,7 +68,7 @@ enter_all child lines spots = fold (λ ls s. updated ls s.place (enter child s.o
 
 -- for whom a child with these uses waits by itself
 abbrev pub found_all : List Line → List Spot → List ℕ
-found_all lines spots = flat_map (λ s. found (entry_at lines (Some s.place)) s.one.mode) spots
+found_all lines spots = flat_map (λ s. row_waits_for (entry_at lines (Some s.place)) s.one.mode) spots
 
 -- the rows tell who uses and who writes each cell
 abbrev pub RowsTell : List (List Use) → (Cell → Option ℕ) → List Line → Type 0
@@ -82,7 +82,7 @@ is_pending kids child = unwrap_or (option_map (λ k. not k.it.finished) (slice_g
 
 -- whether one of those in the row has not finished for whom a use of the cell has to wait
 abbrev pub must_wait : List Kid → Mode → Entry → Bool
-must_wait kids mode e = list_any (is_pending kids) (found e mode)
+must_wait kids mode e = list_any (is_pending kids) (row_waits_for e mode)
 
 -- whether one of these uses has to wait
 abbrev pub some_must_wait : List Kid → Table → List Use → Bool

@@ -44,12 +44,12 @@ pub record RowIs (u w : ℕ → Bool) (writer : Option ℕ) (users : List ℕ) :
   pub all : (i : ℕ) → u i ≡ true → (has i users ≡ true) ⊎ ((k : ℕ) × (writer ≡ Some k) × (i ≤ k))
 
 -- the children in a row for which one that now uses the cell so has to wait
-abbrev pub found : Entry → Mode → List ℕ
-found e mode = option_to_list e.writer ++ cond (is_write mode) e.users []
+abbrev pub row_waits_for : Entry → Mode → List ℕ
+row_waits_for e mode = option_to_list e.writer ++ cond (is_write mode) e.users []
 
 -- the row once this child uses the cell so
-abbrev pub entered : ℕ → Mode → Entry → Entry
-entered child mode e = record { writer = cond (is_write mode) (Some child) e.writer; users = cond (is_write mode) [] (with_last child e.users) }
+abbrev pub row_entered_by : ℕ → Mode → Entry → Entry
+row_entered_by child mode e = record { writer = cond (is_write mode) (Some child) e.writer; users = cond (is_write mode) [] (with_last child e.users) }
 
 -- a child with the number of unfinished siblings that it waits for by itself, and the children that wait so for it
 pub record Kid : Type 0 where
@@ -83,16 +83,16 @@ abbrev pub woken : List Kid → List ℕ → List Kid
 woken kids told = fold (λ ks w. updated ks w one_less) kids told
 
 -- a child that has finished
-abbrev pub ended : Kid → Kid
-ended k = record k { it = record k.it { finished = true } }
+abbrev pub kid_ended : Kid → Kid
+kid_ended k = record k { it = record k.it { finished = true } }
 
 -- a child once this one waits for it, where it has not finished
 abbrev pub enlist : ℕ → Kid → Kid
 enlist child k = record k { waiters = cond k.it.finished k.waiters (with_last child k.waiters) }
 
 -- the children once this one waits for these
-abbrev pub enlisted : ℕ → List Kid → List ℕ → List Kid
-enlisted child kids earlier = fold (λ ks p. updated ks p (enlist child)) kids earlier
+abbrev pub kids_enlisted : ℕ → List Kid → List ℕ → List Kid
+kids_enlisted child kids earlier = fold (λ ks p. updated ks p (enlist child)) kids earlier
 
 -- those that wait for the child at this place
 abbrev pub waiters_of : List Kid → ℕ → List ℕ

@@ -14,8 +14,8 @@ pub record Sibling : Type 0 where
   pub finished : Bool
 
 -- a child as it is created
-abbrev pub created : List Use → List ℕ → Sibling
-created uses groups = record { uses = uses; groups = groups; finished = false }
+abbrev pub sibling_created : List Use → List ℕ → Sibling
+sibling_created uses groups = record { uses = uses; groups = groups; finished = false }
 
 -- the same children, this one finished
 abbrev pub with_finished : List Sibling → ℕ → List Sibling

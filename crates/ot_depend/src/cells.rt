@@ -37,7 +37,7 @@ pub(crate) struct Table {
 }
 
 impl Row {
-    ghost use Rattle.ot_depend.specs.Kept.{Admits, found};
+    ghost use Rattle.ot_depend.specs.Kept.{Admits, row_waits_for};
 
     /// A child uses the cell so. There is to be room for it. It takes no memory.
     fn enter(&mut self, child: usize, mode: Mode)
@@ -55,7 +55,7 @@ impl Row {
 
     /// Puts the children behind the list for whom one that uses the cell so has to wait.
     fn list(&self, mode: Mode, earlier: &mut Vec<usize>) -> Result<(), AllocError>
-        ensures { OnOk result (earlier.new.items ≡ earlier.old.items ++ found (entry_in self.now) mode) }
+        ensures { OnOk result (earlier.new.items ≡ earlier.old.items ++ row_waits_for (entry_in self.now) mode) }
     {
         if let Some(writer) = self.writer {
             earlier.push(writer)?;

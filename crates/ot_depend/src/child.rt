@@ -2,7 +2,7 @@
 ghost use Rattle.std.specs.Prelude.{◌≡◌, ◌+◌, ◌<◌, ◌||◌, false, OnOk, All, length, not, vec_capacity};
 ghost use Rattle.std.specs.List.{list_any};
 ghost use Rattle.ot_depend.specs.Cells.{is_pending};
-ghost use Rattle.ot_depend.specs.Kept.{ends_with, due, enlist, enlisted, woken, waiters_of, WaitForAll, HasRoom, Admits};
+ghost use Rattle.ot_depend.specs.Kept.{ends_with, due, enlist, kids_enlisted, woken, waiters_of, WaitForAll, HasRoom, Admits};
 ghost use Rattle.ot_depend.specs.Children.{kid_of, kids_of, HasRoomAt, AdmitsAt};
 
 use crate::numbers::{make_room, put_last};
@@ -64,7 +64,7 @@ pub(crate) fn make_rooms(children: &mut Vec<Child>, earlier: &[usize]) -> Result
 pub(crate) fn enlist(children: &mut Vec<Child>, earlier: &[usize], later: usize) -> usize
     requires known { All (λ p. p < length children.old.items) earlier.now }
     requires room { All (AdmitsAt later children.old.items) earlier.now }
-    ensures exact { kids_of children.new.items ≡ enlisted later (kids_of children.old.items) earlier.now }
+    ensures exact { kids_of children.new.items ≡ kids_enlisted later (kids_of children.old.items) earlier.now }
     ensures capacity { vec_capacity children.new ≡ vec_capacity children.old }
     ensures waiting { due later (kids_of children.old.items) + result ≡ due later (kids_of children.new.items) }
 {

@@ -1,7 +1,7 @@
 //! The children of a body with what is kept beside them: the rows of the cells and the counters.
 ghost use Rattle.std.specs.Prelude.{◌≡◌, ◌++◌, ◌∷◌, [], ◌↔◌, ◌+◌, ◌<◌, ◌≤◌, ℕ, IsTrue, OnOk, Some, true, false, length, take, slice_get, All};
 ghost use Rattle.ot_model.specs.declared.stmt.Use.{Use};
-ghost use Rattle.ot_depend.specs.Siblings.{waiting_for, created, with_finished, IsReady, IsUnfinished, waits_for, AreFree};
+ghost use Rattle.ot_depend.specs.Siblings.{waiting_for, sibling_created, with_finished, IsReady, IsUnfinished, waits_for, AreFree};
 
 use crate::cells::{Spot, Table};
 use crate::child::{Child, enlist, make_rooms, wake};
@@ -30,7 +30,7 @@ impl Kept {
     ghost use Rattle.std.specs.Arc.{arc_value};
     ghost use Rattle.ot_depend.specs.View.{kids_in, siblings_in, IsKept, IsPlanned};
     ghost use Rattle.ot_model.specs.Cells.{updated};
-    ghost use Rattle.ot_depend.specs.Kept.{woken, waiters_of, ended};
+    ghost use Rattle.ot_depend.specs.Kept.{woken, waiters_of, kid_ended};
     ghost use Rattle.ot_depend.specs.Siblings.{LetsTheSame, WaitForLess};
 
     /// No children. It takes no memory.
@@ -72,7 +72,7 @@ impl Kept {
         requires kept { IsKept self.old }
         requires planned { IsPlanned self.old (arc_value decl) groups.items }
         ensures number { result ≡ length (siblings_in self.old) }
-        ensures added { siblings_in self.new ≡ siblings_in self.old ++ created (arc_value decl) groups.items ∷ [] }
+        ensures added { siblings_in self.new ≡ siblings_in self.old ++ sibling_created (arc_value decl) groups.items ∷ [] }
         ensures kept { IsKept self.new }
     {
         let child = self.children.len();
@@ -96,7 +96,7 @@ impl Kept {
         requires ready { IsReady (siblings_in self.old) child }
         requires unfinished { IsUnfinished (siblings_in self.old) child }
         ensures marked { siblings_in self.new ≡ with_finished (siblings_in self.old) child }
-        ensures kids { kids_in self.new ≡ updated (woken (kids_in self.old) (waiters_of (kids_in self.old) child)) child ended }
+        ensures kids { kids_in self.new ≡ updated (woken (kids_in self.old) (waiters_of (kids_in self.old) child)) child kid_ended }
         ensures kept { IsKept self.new }
     {
         wake(&mut self.children, child);

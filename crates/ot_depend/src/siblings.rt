@@ -29,7 +29,7 @@ impl Model for Siblings {
 impl Siblings {
     ghost use Rattle.std.specs.Arc.{arc_value};
     ghost use Rattle.ot_model.specs.declared.stmt.Use.{Use};
-    ghost use Rattle.ot_depend.specs.Siblings.{waiting_for, IsReady, IsUnfinished, FinishedAreReady, created, with_finished, is_ready, is_unfinished, is_unfinished_in, waits_for, AreFree, LetsTheSame, WaitForLess};
+    ghost use Rattle.ot_depend.specs.Siblings.{waiting_for, IsReady, IsUnfinished, FinishedAreReady, sibling_created, with_finished, is_ready, is_unfinished, is_unfinished_in, waits_for, AreFree, LetsTheSame, WaitForLess};
 
     /// No children. It takes no memory.
     pub fn new(alloc: Global) -> Siblings
@@ -49,7 +49,7 @@ impl Siblings {
         groups: &[u32],
     ) -> Result<usize, AllocError>
         ensures number { IfOk result (λ child. child ≡ length self.old) }
-        ensures added { OnOk result (self.new ≡ self.old ++ created (arc_value decl) groups.now ∷ []) }
+        ensures added { OnOk result (self.new ≡ self.old ++ sibling_created (arc_value decl) groups.now ∷ []) }
         ensures refused { OnErr result (self.new ≡ self.old) }
     {
         let groups = groups.to_vec(alloc)?;

@@ -1,12 +1,12 @@
 //! Slots of code.
 ghost use Rattle.std.specs.Prelude.{◌≡◌};
-ghost use Rattle.ot_exec_flow.specs.Given.{given};
+ghost use Rattle.ot_exec_flow.specs.Given.{number_given};
 
 use ot_exec_code::{Code, Form};
 
 /// The slot that a form gives, if it gives one.
 pub fn given_by(form: &Form) -> Option<u32>
-    ensures { result ≡ given form.now }
+    ensures { result ≡ number_given form.now }
 {
     match form {
         Form::Number(to, _)

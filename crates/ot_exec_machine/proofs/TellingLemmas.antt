@@ -4,7 +4,7 @@ use Rattle.std.specs.Prelude.{Option, Some, None, Result, Ok, IfOk}
 use Rattle.std.specs.declared.alloc.AllocError.{AllocError}
 use Rattle.std.proofs.lemmas.Bool.{cases_lt}
 use Rattle.std.proofs.lemmas.List.{append-nil}
-use Rattle.ot_exec_outline.specs.Followed.{answered}
+use Rattle.ot_exec_outline.specs.Followed.{list_answer}
 use Rattle.ot_exec_outline.specs.Ways.{Ending, Settled, AsksMore, endings, Begins}
 use Rattle.ot_exec_outline.proofs.AskedLemmas.{settled-end, more-end, both-ends, begins_more}
 use Rattle.ot_exec_code.specs.declared.form.Code.{Code}
@@ -62,7 +62,7 @@ both_met fault [] ys budget = refl
 both_met fault (AsksMore ∷ xs) ys budget = refl
 both_met fault (Settled given ∷ xs) ys zero = refl
 both_met fault (Settled given ∷ xs) ys (suc budget) =
-    on_then fault ys given (fault (answered given)) budget (met_in fault xs budget) (met_in fault (xs ++ ys) budget) (both_met fault xs ys budget)
+    on_then fault ys given (fault (list_answer given)) budget (met_in fault xs budget) (met_in fault (xs ++ ys) budget) (both_met fault xs ys budget)
 
 abbrev pub Same : ((ℕ → Bool) → Option Fault) → ((ℕ → Bool) → ℕ) → Type 0
 Same fault asked = (p q : ℕ → Bool) → ((k : ℕ) → k < asked p → p k ≡ q k) → fault p ≡ fault q
@@ -77,9 +77,9 @@ one_fault : (given : List Bool) (f : Option Fault) (budget : ℕ) (rest : Found 
 one_fault given None budget rest h = refl
 one_fault given (Some f) budget rest h = absurd (apart_one given f h)
 
-alone : (fault : (ℕ → Bool) → Option Fault) (given : List Bool) (budget : ℕ) → (met_in fault (Settled given ∷ []) budget).0 ≡ None_met → fault (answered given) ≡ None
+alone : (fault : (ℕ → Bool) → Option Fault) (given : List Bool) (budget : ℕ) → (met_in fault (Settled given ∷ []) budget).0 ≡ None_met → fault (list_answer given) ≡ None
 alone fault given zero h = absurd (apart_many h)
-alone fault given (suc budget) h = one_fault given (fault (answered given)) budget (None_met, budget) h
+alone fault given (suc budget) h = one_fault given (fault (list_answer given)) budget (None_met, budget) h
 
 first_none : (fault : (ℕ → Bool) → Option Fault) (ys : List Ending) (r : Found × ℕ) → (then_in fault ys r).0 ≡ None_met → r.0 ≡ None_met
 first_none fault ys (None_met, budget) h = refl
@@ -92,9 +92,9 @@ later_none fault ys (One_met given f, budget) h = absurd (apart_one given f h)
 later_none fault ys (Many, budget) h = absurd (apart_many h)
 
 -- the way that the answers settle is that of all answers that begin with them
-settled : (fault : (ℕ → Bool) → Option Fault) (asked : (ℕ → Bool) → ℕ) (given : List Bool) → Same fault asked → asked (answered given) ≤ length given
-    → fault (answered given) ≡ None → (answers : ℕ → Bool) → Begins given answers → fault answers ≡ None
-settled fault asked given same few none answers begins = sym (same (answered given) answers (λ k l. sym (begins k (omega (arith, l, few))))) ∙ none
+settled : (fault : (ℕ → Bool) → Option Fault) (asked : (ℕ → Bool) → ℕ) (given : List Bool) → Same fault asked → asked (list_answer given) ≤ length given
+    → fault (list_answer given) ≡ None → (answers : ℕ → Bool) → Begins given answers → fault answers ≡ None
+settled fault asked given same few none answers begins = sym (same (list_answer given) answers (λ k l. sym (begins k (omega (arith, l, few))))) ∙ none
 
 by_next : (fault : (ℕ → Bool) → Option Fault) (given : List Bool) → ((answers : ℕ → Bool) → Begins (given ++ true ∷ []) answers → fault answers ≡ None)
     → ((answers : ℕ → Bool) → Begins (given ++ false ∷ []) answers → fault answers ≡ None)
@@ -106,12 +106,12 @@ by_next fault given first second answers begins false h = second answers (begins
 pub nowhere : (fault : (ℕ → Bool) → Option Fault) (asked : (ℕ → Bool) → ℕ) → Same fault asked → (more : ℕ) (given : List Bool) (budget : ℕ)
     → (met_in fault (endings asked more given) budget).0 ≡ None_met → (answers : ℕ → Bool) → Begins given answers → fault answers ≡ None
 nowhere fault asked same zero given budget none =
-    elim (cases_lt (length given) (asked (answered given))) [
+    elim (cases_lt (length given) (asked (list_answer given))) [
       | inl over ↦ absurd (apart_many (subst (λ (es : List Ending). (met_in fault es budget).0 ≡ None_met) (more-end asked given over) none))
       | inr few ↦ settled fault asked given same few (alone fault given budget (subst (λ (es : List Ending). (met_in fault es budget).0 ≡ None_met) (settled-end asked 0 given few) none))
     ]
 nowhere fault asked same (suc more) given budget none =
-    elim (cases_lt (length given) (asked (answered given))) [
+    elim (cases_lt (length given) (asked (list_answer given))) [
       | inl over ↦
           let ones = endings asked more (given ++ true ∷ []) in
           let twos = endings asked more (given ++ false ∷ []) in
@@ -123,8 +123,8 @@ nowhere fault asked same (suc more) given budget none =
       | inr few ↦ settled fault asked given same few (alone fault given budget (subst (λ (es : List Ending). (met_in fault es budget).0 ≡ None_met) (settled-end asked (suc more) given few) none))
     ]
 
-pub alone_met : (fault : (ℕ → Bool) → Option Fault) (asked : (ℕ → Bool) → ℕ) (more : ℕ) (given : List Bool) (budget left : ℕ) (f : Option Fault) → asked (answered given) ≤ length given
-    → budget ≡ suc left → f ≡ fault (answered given) → (r : Found × ℕ) → r ≡ met_on given f left (None_met, left) → r ≡ met_in fault (endings asked more given) budget
+pub alone_met : (fault : (ℕ → Bool) → Option Fault) (asked : (ℕ → Bool) → ℕ) (more : ℕ) (given : List Bool) (budget left : ℕ) (f : Option Fault) → asked (list_answer given) ≤ length given
+    → budget ≡ suc left → f ≡ fault (list_answer given) → (r : Found × ℕ) → r ≡ met_on given f left (None_met, left) → r ≡ met_in fault (endings asked more given) budget
 alone_met fault asked more given budget left f few taken is r told =
     told ∙ ap (λ (f : Option Fault). met_on given f left (None_met, left)) is
     ∙ ap (met_in fault (Settled given ∷ [])) (sym taken) ∙ ap (λ (es : List Ending). met_in fault es budget) (sym (settled-end asked more given few))

@@ -8,7 +8,7 @@ use Rattle.ot_exec_state.specs.Locks.{Locks}
 use Rattle.ot_exec_state.specs.declared.siblings.Siblings.{Siblings}
 
 -- the form that is next, slots, objects, what happened, what is open, locks, siblings in no order, how many tasks there have been, and whether the run has ended
-pub record State : Type 0 where
+pub record MachineState : Type 0 where
   pub at : ℕ
   pub slots : Slots
   pub memory : Memory
@@ -19,19 +19,19 @@ pub record State : Type 0 where
   pub tasks : ℕ
   pub ended : Bool
 
-abbrev pub state : ℕ → Slots → Memory → Trail → Nest → Locks → List Siblings → ℕ → Bool → State
+abbrev pub state : ℕ → Slots → Memory → Trail → Nest → Locks → List Siblings → ℕ → Bool → MachineState
 state at slots memory trail nest locks siblings tasks ended =
     record { at = at; slots = slots; memory = memory; trail = trail; nest = nest; locks = locks; siblings = siblings; tasks = tasks; ended = ended }
 
 -- with other slots, with another trail, with other locks; and from another form on
-abbrev pub with_slots : State → Slots → State
+abbrev pub with_slots : MachineState → Slots → MachineState
 with_slots s slots = state s.at slots s.memory s.trail s.nest s.locks s.siblings s.tasks s.ended
 
-abbrev pub with_trail : State → Trail → State
+abbrev pub with_trail : MachineState → Trail → MachineState
 with_trail s trail = state s.at s.slots s.memory trail s.nest s.locks s.siblings s.tasks s.ended
 
-abbrev pub with_locks : State → Locks → State
+abbrev pub with_locks : MachineState → Locks → MachineState
 with_locks s locks = state s.at s.slots s.memory s.trail s.nest locks s.siblings s.tasks s.ended
 
-abbrev pub from : ℕ → State → State
+abbrev pub from : ℕ → MachineState → MachineState
 from at s = state at s.slots s.memory s.trail s.nest s.locks s.siblings s.tasks s.ended

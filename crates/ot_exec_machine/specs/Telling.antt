@@ -1,6 +1,6 @@
 -- What is told of runs: the contexts in which an event stands, and the first fault on a way.
 use Rattle.std.specs.Prelude.{ℕ, zero, suc, ◌==◌, Bool, List, [], ◌∷◌, Option, Some, None, slice_get, if◌then◌else◌, Ok, Err}
-use Rattle.ot_exec_outline.specs.Followed.{answered}
+use Rattle.ot_exec_outline.specs.Followed.{list_answer}
 use Rattle.ot_exec_outline.specs.Ways.{Ending, Settled, AsksMore}
 use Rattle.ot_exec_machine.specs.Runs.{Reached}
 use Rattle.ot_exec_machine.specs.declared.faults.Met.{Met}
@@ -49,4 +49,4 @@ abbrev pub met_in : ((ℕ → Bool) → Option Fault) → List Ending → ℕ �
 met_in fault [] budget = (None_met, budget)
 met_in fault (AsksMore ∷ ends) budget = (Many, budget)
 met_in fault (Settled given ∷ ends) zero = (Many, 0)
-met_in fault (Settled given ∷ ends) (suc budget) = met_on given (fault (answered given)) budget (met_in fault ends budget)
+met_in fault (Settled given ∷ ends) (suc budget) = met_on given (fault (list_answer given)) budget (met_in fault ends budget)

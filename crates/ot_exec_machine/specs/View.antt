@@ -3,5 +3,5 @@ use Rattle.ot_exec_state.specs.View.{slots_of, memory_of, trail_of, nest_of, loc
 use Rattle.ot_exec_machine.specs.State as states
 use Rattle.ot_exec_machine.specs.declared.machine.Machine.{Machine}
 
-abbrev pub state_of : Machine → states.State
-state_of x = states.state x.at (slots_of x.slots) (memory_of x.memory) (trail_of x.trail) (nest_of x.nest) (locks_of x.locks) x.siblings.items x.tasks x.ended
+abbrev pub machine_state : Machine → states.MachineState
+machine_state x = states.state x.at (slots_of x.slots) (memory_of x.memory) (trail_of x.trail) (nest_of x.nest) (locks_of x.locks) x.siblings.items x.tasks x.ended

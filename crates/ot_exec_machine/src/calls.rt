@@ -1,8 +1,8 @@
 //! Where the machine goes on: branches, calls and contexts.
 ghost use Rattle.std.specs.Prelude.{◌≡◌};
 ghost use Rattle.ot_exec_state.specs.Results.{Gives};
-ghost use Rattle.ot_exec_machine.specs.Steps.{function, turn_of, is_call, frame_here, resumed, branching, repeating, calling, calling_by, returning, turning, going_back};
-ghost use Rattle.ot_exec_machine.specs.View.{state_of};
+ghost use Rattle.ot_exec_machine.specs.Steps.{function, turn_of, is_kept_by_call, frame_here, state_resumed, branching, repeating, calling, calling_by, returning, turning, going_back};
+ghost use Rattle.ot_exec_machine.specs.View.{machine_state};
 ghost use Rattle.ot_exec_state.specs.View.{nest_of};
 
 use crate::machine::Machine;
@@ -37,7 +37,7 @@ fn turn_of(value: Value) -> Entered
 }
 
 fn is_call(kept: Kept) -> bool
-    ensures { result ≡ is_call kept }
+    ensures { result ≡ is_kept_by_call kept }
 {
     match kept {
         Kept::Call => true,
@@ -48,7 +48,7 @@ fn is_call(kept: Kept) -> bool
 impl Machine {
     #[tactic(auto, unfolding(crate::specs::Steps::branching))]
     pub(crate) fn branch(&mut self, slot: u32, to: u32, answer: bool) -> Result<(), Halt>
-        ensures { Gives (λ _. state_of self.new) result (branching slot to answer (state_of self.old)) }
+        ensures { Gives (λ _. machine_state self.new) result (branching slot to answer (machine_state self.old)) }
     {
         let value = self.slots.read(slot)?;
         if !value.is_so(answer) {
@@ -59,7 +59,7 @@ impl Machine {
 
     #[tactic(auto, unfolding(crate::specs::Steps::repeating))]
     pub(crate) fn repeat(&mut self, slot: u32, to: u32) -> Result<(), Halt>
-        ensures { Gives (λ _. state_of self.new) result (repeating slot to (state_of self.old)) }
+        ensures { Gives (λ _. machine_state self.new) result (repeating slot to (machine_state self.old)) }
     {
         let value = self.slots.read(slot)?;
         if is_unknown(value) {
@@ -80,7 +80,7 @@ impl Machine {
         function: u32,
         first: u32,
     ) -> Result<(), Halt>
-        ensures { Gives (λ _. state_of self.new) result (calling code.now limits site function first (state_of self.old)) }
+        ensures { Gives (λ _. machine_state self.new) result (calling code.now limits site function first (machine_state self.old)) }
     {
         match code.functions.get(function as usize) {
             Some(called) => {
@@ -104,7 +104,7 @@ impl Machine {
         slot: u32,
         first: u32,
     ) -> Result<(), Halt>
-        ensures { Gives (λ _. state_of self.new) result (calling_by code.now limits site slot first (state_of self.old)) }
+        ensures { Gives (λ _. machine_state self.new) result (calling_by code.now limits site slot first (machine_state self.old)) }
     {
         let value = self.slots.read(slot)?;
         let called = function(value)?;
@@ -113,7 +113,7 @@ impl Machine {
 
     /// What goes on at this form where a frame ends that begins now.
     pub(crate) fn frame(&self, back: usize, kept: Kept) -> Frame
-        ensures { result ≡ frame_here back kept (state_of self.now) }
+        ensures { result ≡ frame_here back kept (machine_state self.now) }
     {
         Frame {
             back,
@@ -127,7 +127,7 @@ impl Machine {
     }
 
     pub(crate) fn resume(&mut self, frame: Frame)
-        ensures { state_of self.new ≡ resumed (state_of self.old) frame.back frame.base frame.task frame.context (nest_of self.old.nest) }
+        ensures { machine_state self.new ≡ state_resumed (machine_state self.old) frame.back frame.base frame.task frame.context (nest_of self.old.nest) }
     {
         self.at = frame.back;
         self.slots.base = frame.base;
@@ -136,7 +136,7 @@ impl Machine {
 
     #[tactic(auto, unfolding(crate::specs::Steps::returning))]
     pub(crate) fn give_back(&mut self) -> Result<(), Halt>
-        ensures { Gives (λ _. state_of self.new) result (returning (state_of self.old)) }
+        ensures { Gives (λ _. machine_state self.new) result (returning (machine_state self.old)) }
     {
         let frame = self.nest.close()?;
         if !is_call(frame.kept) {
@@ -148,7 +148,7 @@ impl Machine {
 
     #[tactic(auto, unfolding(crate::specs::Steps::turning))]
     pub(crate) fn turn(&mut self, limits: Limits, site: u32, slot: u32) -> Result<(), Halt>
-        ensures { Gives (λ _. state_of self.new) result (turning limits site slot (state_of self.old)) }
+        ensures { Gives (λ _. machine_state self.new) result (turning limits site slot (machine_state self.old)) }
     {
         let value = self.slots.read(slot)?;
         self.trail.enter(limits, site, turn_of(value))?;
@@ -157,7 +157,7 @@ impl Machine {
 
     #[tactic(auto, unfolding(crate::specs::Steps::going_back))]
     pub(crate) fn go_back(&mut self, limits: Limits, slot: u32) -> Result<(), Halt>
-        ensures { Gives (λ _. state_of self.new) result (going_back limits slot (state_of self.old)) }
+        ensures { Gives (λ _. machine_state self.new) result (going_back limits slot (machine_state self.old)) }
     {
         let value = self.slots.read(slot)?;
         let context = number(Reason::Broken, value)?;

@@ -1,8 +1,8 @@
 //! What the machine does with objects and cells.
 ghost use Rattle.std.specs.Prelude.{◌≡◌};
 ghost use Rattle.ot_exec_state.specs.Results.{Gives};
-ghost use Rattle.ot_exec_machine.specs.Steps.{first_value, beginning, allocating, ending, loading, storing, loading_own, storing_own, reading_range, writing_range};
-ghost use Rattle.ot_exec_machine.specs.View.{state_of};
+ghost use Rattle.ot_exec_machine.specs.Steps.{first_value, object_begun, allocating, object_ended, loading, storing, loading_own, storing_own, reading_range, writing_range};
+ghost use Rattle.ot_exec_machine.specs.View.{machine_state};
 
 use crate::locks::{seen, written};
 use crate::machine::Machine;
@@ -23,7 +23,7 @@ fn first_value(zero: bool) -> Value
 }
 
 impl Machine {
-    #[tactic(auto, unfolding(crate::specs::Steps::beginning))]
+    #[tactic(auto, unfolding(crate::specs::Steps::object_begun))]
     pub(crate) fn begin(
         &mut self,
         limits: Limits,
@@ -32,7 +32,7 @@ impl Machine {
         name: u32,
         zero: bool,
     ) -> Result<(), Halt>
-        ensures { Gives (λ _. state_of self.new) result (beginning limits to count name zero (state_of self.old)) }
+        ensures { Gives (λ _. machine_state self.new) result (object_begun limits to count name zero (machine_state self.old)) }
     {
         let object = self.memory.begin(limits, count, first_value(zero), name)?;
         self.slots.put(to, Value::Pointer(object, 0))?;
@@ -49,7 +49,7 @@ impl Machine {
         cells: u32,
         zero: bool,
     ) -> Result<(), Halt>
-        ensures { Gives (λ _. state_of self.new) result (allocating limits to name slot cells zero (state_of self.old)) }
+        ensures { Gives (λ _. machine_state self.new) result (allocating limits to name slot cells zero (machine_state self.old)) }
     {
         let value = self.slots.read(slot)?;
         let count = number(Reason::UnknownLength, value)?;
@@ -64,7 +64,7 @@ impl Machine {
         }
     }
 
-    #[tactic(auto, unfolding(crate::specs::Steps::ending))]
+    #[tactic(auto, unfolding(crate::specs::Steps::object_ended))]
     pub(crate) fn end(
         &mut self,
         alloc: Global,
@@ -72,7 +72,7 @@ impl Machine {
         site: u32,
         slot: u32,
     ) -> Result<(), Halt>
-        ensures { Gives (λ _. state_of self.new) result (ending limits site slot (state_of self.old)) }
+        ensures { Gives (λ _. machine_state self.new) result (object_ended limits site slot (machine_state self.old)) }
     {
         let place = self.slots.read(slot)?;
         let span = self.memory.finish(place)?;
@@ -91,7 +91,7 @@ impl Machine {
         to: u32,
         slot: u32,
     ) -> Result<(), Halt>
-        ensures { Gives (λ _. state_of self.new) result (loading code.now limits site to slot (state_of self.old)) }
+        ensures { Gives (λ _. machine_state self.new) result (loading code.now limits site to slot (machine_state self.old)) }
     {
         let place = self.slots.read(slot)?;
         let span = self.memory.span(place, 1)?;
@@ -113,7 +113,7 @@ impl Machine {
         slot: u32,
         other: u32,
     ) -> Result<(), Halt>
-        ensures { Gives (λ _. state_of self.new) result (storing code.now limits site slot other (state_of self.old)) }
+        ensures { Gives (λ _. machine_state self.new) result (storing code.now limits site slot other (machine_state self.old)) }
     {
         let place = self.slots.read(slot)?;
         let value = self.slots.read(other)?;
@@ -128,7 +128,7 @@ impl Machine {
 
     #[tactic(auto, unfolding(crate::specs::Steps::loading_own))]
     pub(crate) fn load_own(&mut self, to: u32, slot: u32) -> Result<(), Halt>
-        ensures { Gives (λ _. state_of self.new) result (loading_own to slot (state_of self.old)) }
+        ensures { Gives (λ _. machine_state self.new) result (loading_own to slot (machine_state self.old)) }
     {
         let place = self.slots.read(slot)?;
         let span = self.memory.span(place, 1)?;
@@ -138,7 +138,7 @@ impl Machine {
 
     #[tactic(auto, unfolding(crate::specs::Steps::storing_own))]
     pub(crate) fn store_own(&mut self, limits: Limits, slot: u32, other: u32) -> Result<(), Halt>
-        ensures { Gives (λ _. state_of self.new) result (storing_own limits slot other (state_of self.old)) }
+        ensures { Gives (λ _. machine_state self.new) result (storing_own limits slot other (machine_state self.old)) }
     {
         let place = self.slots.read(slot)?;
         let value = self.slots.read(other)?;
@@ -157,7 +157,7 @@ impl Machine {
         slot: u32,
         other: u32,
     ) -> Result<(), Halt>
-        ensures { Gives (λ _. state_of self.new) result (reading_range limits site slot other (state_of self.old)) }
+        ensures { Gives (λ _. machine_state self.new) result (reading_range limits site slot other (machine_state self.old)) }
     {
         let place = self.slots.read(slot)?;
         let value = self.slots.read(other)?;
@@ -179,7 +179,7 @@ impl Machine {
         slot: u32,
         other: u32,
     ) -> Result<(), Halt>
-        ensures { Gives (λ _. state_of self.new) result (writing_range code.now limits site slot other (state_of self.old)) }
+        ensures { Gives (λ _. machine_state self.new) result (writing_range code.now limits site slot other (machine_state self.old)) }
     {
         let place = self.slots.read(slot)?;
         let value = self.slots.read(other)?;

@@ -1,6 +1,6 @@
 //! Faults on the ways of code.
 ghost use Rattle.std.specs.Prelude.{◌≡◌, ◌++◌, ◌∷◌, [], ◌==◌, ℕ, Bool, None, IfOk, Ok, zero};
-ghost use Rattle.ot_exec_outline.specs.Followed.{answered};
+ghost use Rattle.ot_exec_outline.specs.Followed.{list_answer};
 ghost use Rattle.ot_exec_outline.specs.Ways.{endings, Begins};
 ghost use Rattle.ot_exec_machine.specs.Runs.{run_of, asked_in};
 ghost use Rattle.ot_exec_machine.specs.Telling.{fault_of, found_in, met_on, met_in, None_met};
@@ -62,8 +62,8 @@ struct Outcome {
 }
 
 fn way_of(alloc: Global, ways: &Ways<'_>, given: &[bool]) -> Result<Outcome, AllocError>
-    ensures fault { IfOk result (λ way. way.fault ≡ fault_of (run_of ways.now.code.now ways.now.limits (answered given.now))) }
-    ensures asked { IfOk result (λ way. way.asked ≡ asked_in (run_of ways.now.code.now ways.now.limits (answered given.now))) }
+    ensures fault { IfOk result (λ way. way.fault ≡ fault_of (run_of ways.now.code.now ways.now.limits (list_answer given.now))) }
+    ensures asked { IfOk result (λ way. way.asked ≡ asked_in (run_of ways.now.code.now ways.now.limits (list_answer given.now))) }
 {
     let run = run_code(alloc, ways.code, ways.limits, given)?;
     Ok(Outcome {

@@ -3,7 +3,7 @@ ghost use Rattle.std.specs.Prelude.{◌≡◌};
 ghost use Rattle.ot_exec_state.specs.Results.{Gives};
 ghost use Rattle.ot_exec_machine.specs.State.{from};
 ghost use Rattle.ot_exec_machine.specs.Steps.{putting, copying, operating, converting, advancing, measuring};
-ghost use Rattle.ot_exec_machine.specs.View.{state_of};
+ghost use Rattle.ot_exec_machine.specs.View.{machine_state};
 ghost use Rattle.ot_exec_state.specs.declared.value.Value.TheVariants.{Number};
 
 use ot_exec_code::{Kind, Operation};
@@ -29,7 +29,7 @@ pub(crate) struct Machine {
 impl Machine {
     #[tactic(auto, unfolding(crate::specs::Steps::putting))]
     pub(crate) fn put(&mut self, to: u32, value: Value) -> Result<(), Halt>
-        ensures { Gives (λ _. state_of self.new) result (putting to value (state_of self.old)) }
+        ensures { Gives (λ _. machine_state self.new) result (putting to value (machine_state self.old)) }
     {
         self.slots.put(to, value)?;
         Ok(())
@@ -37,7 +37,7 @@ impl Machine {
 
     #[tactic(auto, unfolding(crate::specs::Steps::copying))]
     pub(crate) fn copy(&mut self, to: u32, slot: u32) -> Result<(), Halt>
-        ensures { Gives (λ _. state_of self.new) result (copying to slot (state_of self.old)) }
+        ensures { Gives (λ _. machine_state self.new) result (copying to slot (machine_state self.old)) }
     {
         let value = self.slots.read(slot)?;
         self.put(to, value)
@@ -52,7 +52,7 @@ impl Machine {
         one: u32,
         other: u32,
     ) -> Result<(), Halt>
-        ensures { Gives (λ _. state_of self.new) result (operating to operation kind one other (state_of self.old)) }
+        ensures { Gives (λ _. machine_state self.new) result (operating to operation kind one other (machine_state self.old)) }
     {
         let one = self.slots.read(one)?;
         let other = self.slots.read(other)?;
@@ -62,7 +62,7 @@ impl Machine {
 
     #[tactic(auto, unfolding(crate::specs::Steps::converting))]
     pub(crate) fn convert(&mut self, to: u32, kind: Kind, slot: u32) -> Result<(), Halt>
-        ensures { Gives (λ _. state_of self.new) result (converting to kind slot (state_of self.old)) }
+        ensures { Gives (λ _. machine_state self.new) result (converting to kind slot (machine_state self.old)) }
     {
         let value = self.slots.read(slot)?;
         self.put(to, converted(kind, value))
@@ -77,7 +77,7 @@ impl Machine {
         stride: u32,
         cells: u32,
     ) -> Result<(), Halt>
-        ensures { Gives (λ _. state_of self.new) result (advancing to place slot stride cells (state_of self.old)) }
+        ensures { Gives (λ _. machine_state self.new) result (advancing to place slot stride cells (machine_state self.old)) }
     {
         let place = self.slots.read(place)?;
         let count = self.slots.read(slot)?;
@@ -86,7 +86,7 @@ impl Machine {
 
     #[tactic(auto, unfolding(crate::specs::Steps::measuring))]
     pub(crate) fn measure(&mut self, to: u32, one: u32, other: u32, stride: u32) -> Result<(), Halt>
-        ensures { Gives (λ _. state_of self.new) result (measuring to one other stride (state_of self.old)) }
+        ensures { Gives (λ _. machine_state self.new) result (measuring to one other stride (machine_state self.old)) }
     {
         let one = self.slots.read(one)?;
         let other = self.slots.read(other)?;
@@ -94,7 +94,7 @@ impl Machine {
     }
 
     pub(crate) fn put_context(&mut self, to: u32) -> Result<(), Halt>
-        ensures { Gives (λ _. state_of self.new) result (putting to (Number self.old.trail.context) (state_of self.old)) }
+        ensures { Gives (λ _. machine_state self.new) result (putting to (Number self.old.trail.context) (machine_state self.old)) }
     {
         let context = self.trail.context;
         self.put(to, Value::Number(u64::from(context)))
@@ -102,7 +102,7 @@ impl Machine {
 
     /// The run goes on there.
     pub(crate) fn jump(&mut self, to: u32)
-        ensures { state_of self.new ≡ from to (state_of self.old) }
+        ensures { machine_state self.new ≡ from to (machine_state self.old) }
     {
         self.at = to as usize;
     }

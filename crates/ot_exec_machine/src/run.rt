@@ -1,12 +1,12 @@
 //! The run of code.
 ghost use Rattle.std.specs.Prelude.{◌≡◌, ◌<◌, ◌≤◌, ◌+◌, ◌^◌, ◌∷◌, [], length, IfOk, Ok, Err};
-ghost use Rattle.ot_exec_outline.specs.Followed.{answered};
+ghost use Rattle.ot_exec_outline.specs.Followed.{list_answer};
 ghost use Rattle.ot_exec_state.specs.Results.{Gives};
-ghost use Rattle.ot_exec_machine.specs.Runs.{next, told, fault_in, run, beginning, few, run_of, Tells, Leads};
+ghost use Rattle.ot_exec_machine.specs.Runs.{next, step_told, fault_in, run_steps, first_state, few, run_of, TellsEvents, LeadsTo};
 ghost use Rattle.ot_exec_machine.specs.State.{from};
 ghost use Rattle.ot_exec_machine.specs.Steps.{step};
 ghost use Rattle.ot_exec_state.specs.Trail.{trail, context};
-ghost use Rattle.ot_exec_machine.specs.View.{state_of};
+ghost use Rattle.ot_exec_machine.specs.View.{machine_state};
 ghost use Rattle.ot_exec_state.specs.View.{trail_of};
 ghost use Rattle.ot_exec_machine.specs.declared.run.Stopped.TheVariants.{By};
 ghost use Rattle.ot_exec_state.specs.declared.trail.Entered.TheVariants as entered;
@@ -43,7 +43,7 @@ pub(crate) enum Stopped {
 
 /// The answer to a question; to one behind these it is no.
 fn answered(answers: &[bool], question: usize) -> bool
-    ensures { result ≡ answered answers.now question }
+    ensures { result ≡ list_answer answers.now question }
 {
     match answers.get(question) {
         Some(answer) => *answer,
@@ -53,7 +53,7 @@ fn answered(answers: &[bool], question: usize) -> bool
 
 impl Machine {
     fn fault(&self, reason: Reason, asked: usize) -> Stopped
-        ensures { result ≡ By (fault_in (state_of self.now) asked reason) }
+        ensures { result ≡ By (fault_in (machine_state self.now) asked reason) }
     {
         Stopped::By(Fault {
             reason,
@@ -74,7 +74,7 @@ impl Machine {
         asked: usize,
     ) -> Result<usize, Stopped>
         requires { asked < 2 ^ 63 }
-        ensures told { Leads (λ more. (state_of self.new, more)) result (next code.now limits (answered answers.now) asked (state_of self.old)) }
+        ensures told { LeadsTo (λ more. (machine_state self.new, more)) result (next code.now limits (list_answer answers.now) asked (machine_state self.old)) }
         ensures one { IfOk result (λ more. more ≤ asked + 1) }
     {
         match code.forms.get(self.at) {
@@ -101,8 +101,8 @@ impl Machine {
         asked: usize,
     ) -> Result<usize, Stopped>
         requires { self.old.at < 2 ^ 63 }
-        ensures told { Leads (λ more. (state_of self.new, more)) result
-            (told (state_of self.old) asked (step code.now limits form.now answer (from (self.old.at + 1) (state_of self.old)))) }
+        ensures told { LeadsTo (λ more. (machine_state self.new, more)) result
+            (step_told (machine_state self.old) asked (step code.now limits form.now answer (from (self.old.at + 1) (machine_state self.old)))) }
         ensures asked { IfOk result (λ more. more ≡ asked) }
     {
         let at = self.at;
@@ -128,7 +128,7 @@ impl Machine {
         limits: Limits,
         answers: &[bool],
     ) -> Result<usize, Stopped>
-        ensures { Leads (λ asked. (state_of self.new, asked)) result (run code.now limits (answered answers.now) limits.steps 0 (state_of self.old)) }
+        ensures { LeadsTo (λ asked. (machine_state self.new, asked)) result (run_steps code.now limits (list_answer answers.now) limits.steps 0 (machine_state self.old)) }
     {
         let mut asked = 0;
         for _ in 0..limits.steps {
@@ -141,9 +141,9 @@ impl Machine {
     }
 
     /// The state in which code begins.
-    #[tactic(auto, unfolding(crate::specs::Runs::beginning))]
+    #[tactic(auto, unfolding(crate::specs::Runs::first_state))]
     fn new(alloc: Global, code: &Code, limits: Limits) -> Result<Machine, Halt>
-        ensures { Gives state_of result (beginning code.now limits) }
+        ensures { Gives machine_state result (first_state code.now limits) }
     {
         let mut slots = Slots {
             base: 0,
@@ -202,8 +202,8 @@ pub fn run_code(
     limits: Limits,
     answers: &[bool],
 ) -> Result<Run, AllocError>
-    ensures told { IfOk result (λ run. Tells run (run_of code.now limits (answered answers.now))) }
-    ensures few { IfOk result (λ run. length run.log.items < 2 ^ 32) }
+    ensures told { IfOk result (λ run_steps. TellsEvents run_steps (run_of code.now limits (list_answer answers.now))) }
+    ensures few { IfOk result (λ run_steps. length run_steps.log.items < 2 ^ 32) }
 {
     match Machine::new(alloc, code, limits) {
         Ok(machine) => run_from(alloc, code, limits, answers, machine),
@@ -227,7 +227,7 @@ fn run_from(
     answers: &[bool],
     begun: Machine,
 ) -> Result<Run, AllocError>
-    ensures told { IfOk result (λ r. Tells r (few limits (run code.now limits (answered answers.now) limits.steps 0 (state_of begun)))) }
+    ensures told { IfOk result (λ r. TellsEvents r (few limits (run_steps code.now limits (list_answer answers.now) limits.steps 0 (machine_state begun)))) }
     ensures few { IfOk result (λ r. length r.log.items < 2 ^ 32) }
 {
     let mut machine = begun;
@@ -249,7 +249,7 @@ fn run_from(
 
 /// A run that ended behind so many questions.
 fn ended_by(machine: Machine, asked: usize) -> Run
-    ensures told { Tells result (Ok (state_of machine, asked)) }
+    ensures told { TellsEvents result (Ok (machine_state machine, asked)) }
     ensures log { result.log.items ≡ machine.trail.log.items }
 {
     let Machine {
@@ -281,7 +281,7 @@ fn ended_by(machine: Machine, asked: usize) -> Run
 
 /// A run that this fault stopped.
 fn faulted(alloc: Global, machine: Machine, fault: Fault) -> Run
-    ensures told { Tells result (Err fault) }
+    ensures told { TellsEvents result (Err fault) }
     ensures none { result.log.items ≡ [] }
 {
     let Machine { memory, trail, .. } = machine;
@@ -301,7 +301,7 @@ fn faulted(alloc: Global, machine: Machine, fault: Fault) -> Run
 
 /// A run that doesn't begin.
 fn no_run(alloc: Global, fault: Fault) -> Run
-    ensures told { Tells result (Err fault) }
+    ensures told { TellsEvents result (Err fault) }
     ensures none { result.log.items ≡ [] }
 {
     Run {

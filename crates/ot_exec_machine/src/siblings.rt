@@ -5,7 +5,7 @@ ghost use Rattle.ot_parts.specs.Modes.{use_as};
 ghost use Rattle.ot_exec_state.specs.Results.{Gives, each};
 ghost use Rattle.ot_exec_state.specs.View.{locks_of};
 ghost use Rattle.ot_exec_machine.specs.Steps.{parting, parting_where, excluding, siding_at, siding, holding_own};
-ghost use Rattle.ot_exec_machine.specs.View.{state_of};
+ghost use Rattle.ot_exec_machine.specs.View.{machine_state};
 
 use crate::machine::Machine;
 use ot_exec_code::{Depends, Item};
@@ -46,7 +46,7 @@ impl Machine {
     /// An empty child that writes a cell stands between siblings that name it.
     #[tactic(auto, unfolding(crate::specs::Steps::parting))]
     fn part(&mut self, alloc: Global, limits: Limits, site: u32, cell: Cell) -> Result<(), Halt>
-        ensures { Gives (λ _. state_of self.new) result (parting limits site cell (state_of self.old)) }
+        ensures { Gives (λ _. machine_state self.new) result (parting limits site cell (machine_state self.old)) }
     {
         let task = self.trail.task;
         let context = self.trail.context;
@@ -65,7 +65,7 @@ impl Machine {
         site: u32,
         cell: Cell,
     ) -> Result<(), Halt>
-        ensures { Gives (λ _. state_of self.new) result (parting_where turns limits site cell (state_of self.old)) }
+        ensures { Gives (λ _. machine_state self.new) result (parting_where turns limits site cell (machine_state self.old)) }
     {
         if turns {
             self.part(alloc, limits, site, cell)
@@ -85,7 +85,7 @@ impl Machine {
         cell: Cell,
         set: &mut Vec<u32>,
     ) -> Result<(), Halt>
-        ensures { Gives (λ _. (state_of self.new, set.new.items)) result (siding_at limits site mode cell (state_of self.old, set.old.items)) }
+        ensures { Gives (λ _. (machine_state self.new, set.new.items)) result (siding_at limits site mode cell (machine_state self.old, set.old.items)) }
     {
         let last = mode_at(&self.siblings, self.trail.task, cell);
         self.part_where(alloc, limits, turns(mode, last), site, cell)?;
@@ -105,7 +105,7 @@ impl Machine {
         item: Item,
         set: &mut Vec<u32>,
     ) -> Result<(), Halt>
-        ensures { Gives (λ _. (state_of self.new, set.new.items)) result (siding limits site item (state_of self.old, set.old.items)) }
+        ensures { Gives (λ _. (machine_state self.new, set.new.items)) result (siding limits site item (machine_state self.old, set.old.items)) }
     {
         let place = self.slots.read(item.slot)?;
         match self.memory.span_at(place, 1) {
@@ -131,7 +131,7 @@ impl Machine {
         items: &[Item],
         set: &mut Vec<u32>,
     ) -> Result<(), Halt>
-        ensures { Gives (λ _. (state_of self.new, set.new.items)) result (each (siding limits site) items.now (state_of self.old, set.old.items)) }
+        ensures { Gives (λ _. (machine_state self.new, set.new.items)) result (each (siding limits site) items.now (machine_state self.old, set.old.items)) }
     {
         for item in items {
             self.side_one(alloc, limits, site, *item, set)?;
@@ -142,7 +142,7 @@ impl Machine {
     /// The task that runs holds these locks.
     #[tactic(auto, unfolding(crate::specs::Steps::holding_own))]
     pub(crate) fn hold_own(&mut self, limits: Limits, set: Vec<u32>) -> Result<(), Halt>
-        ensures { Gives (λ _. state_of self.new) result (holding_own limits set.items (state_of self.old)) }
+        ensures { Gives (λ _. machine_state self.new) result (holding_own limits set.items (machine_state self.old)) }
     {
         self.locks.hold(limits, set)?;
         Ok(())

@@ -3,7 +3,7 @@ ghost use Rattle.std.specs.Prelude.{◌≡◌};
 ghost use Rattle.ot_exec_state.specs.Results.{Gives};
 ghost use Rattle.ot_exec_machine.specs.Steps.{step};
 ghost use Rattle.ot_exec_machine.specs.Runs.{asks};
-ghost use Rattle.ot_exec_machine.specs.View.{state_of};
+ghost use Rattle.ot_exec_machine.specs.View.{machine_state};
 
 use crate::machine::Machine;
 use crate::tasks::Created;
@@ -15,7 +15,7 @@ impl Machine {
     /// Whether a form asks a question: by a value that isn't known.
     #[tactic(auto, unfolding(crate::specs::Runs::asks))]
     pub(crate) fn asks(&self, form: &Form) -> bool
-        ensures { result ≡ asks form.now (state_of self.now) }
+        ensures { result ≡ asks form.now (machine_state self.now) }
     {
         match form {
             Form::Branch(_, slot, _) => self.slots.is_question(*slot),
@@ -37,7 +37,7 @@ impl Machine {
         form: &Form,
         answer: bool,
     ) -> Result<(), Halt>
-        ensures { Gives (λ _. state_of self.new) result (step code.now limits form.now answer (state_of self.old)) }
+        ensures { Gives (λ _. machine_state self.new) result (step code.now limits form.now answer (machine_state self.old)) }
     {
         match form {
             Form::Number(to, n) => self.put(*to, Value::Number(*n)),

@@ -2,8 +2,8 @@
 ghost use Rattle.std.specs.Prelude.{◌≡◌, IfOk};
 ghost use Rattle.ot_model.specs.Cells.{AreInOrder};
 ghost use Rattle.ot_exec_state.specs.Results.{Gives};
-ghost use Rattle.ot_exec_machine.specs.Steps.{at_once, apart, beginning_task, opening, tasking, awaiting, finishing, waiting, waiting_for, grouping, leaving, joining};
-ghost use Rattle.ot_exec_machine.specs.View.{state_of};
+ghost use Rattle.ot_exec_machine.specs.Steps.{is_undeferred, apart, beginning_task, opening, tasking, awaiting, finishing, waiting, waiting_for, grouping, leaving, joining};
+ghost use Rattle.ot_exec_machine.specs.View.{machine_state};
 ghost use Rattle.ot_exec_state.specs.View.{slots_of, memory_of};
 
 use crate::machine::Machine;
@@ -17,7 +17,7 @@ use std::alloc::Global;
 
 /// Whether a task is undeferred.
 fn at_once(slots: &Slots, when: Option<u32>, answer: bool) -> Result<bool, Halt>
-    ensures { Gives (λ b. b) result (at_once (slots_of slots.now) when answer) }
+    ensures { Gives (λ b. b) result (is_undeferred (slots_of slots.now) when answer) }
 {
     match when {
         Some(slot) => {
@@ -79,8 +79,8 @@ impl Machine {
         it: Created<'_>,
         answer: bool,
     ) -> Result<(), Halt>
-        ensures { Gives (λ _. state_of self.new) result
-            (tasking limits it.entry.site it.entry.first it.entry.slots it.entry.behind it.entry.items.now.items it.entry.when answer (state_of self.old)) }
+        ensures { Gives (λ _. machine_state self.new) result
+            (tasking limits it.entry.site it.entry.first it.entry.slots it.entry.behind it.entry.items.now.items it.entry.when answer (machine_state self.old)) }
     {
         let uses = items_of(
             alloc,
@@ -108,8 +108,8 @@ impl Machine {
         set: Vec<u32>,
     ) -> Result<(), Halt>
         requires { AreInOrder declared.items }
-        ensures { Gives (λ _. state_of self.new) result
-            (opening limits it.entry.site it.entry.first it.entry.slots it.entry.behind declared.items it.entry.when answer (state_of self.old) set.items) }
+        ensures { Gives (λ _. machine_state self.new) result
+            (opening limits it.entry.site it.entry.first it.entry.slots it.entry.behind declared.items it.entry.when answer (machine_state self.old) set.items) }
     {
         let mut uses = declared;
         let now = at_once(&self.slots, it.when, answer)?;
@@ -130,7 +130,7 @@ impl Machine {
         site: u32,
         decl: Decl,
     ) -> Result<(), Halt>
-        ensures { Gives (λ _. state_of self.new) result (beginning_task limits site decl (state_of self.old)) }
+        ensures { Gives (λ _. machine_state self.new) result (beginning_task limits site decl (machine_state self.old)) }
     {
         if self.tasks >= limits.tasks {
             return Err(Halt::For(Reason::TooManyTasks));
@@ -147,7 +147,7 @@ impl Machine {
     /// The parent of a task that was undeferred awaits it.
     #[tactic(auto, unfolding(crate::specs::Steps::awaiting))]
     fn await_it(&mut self, alloc: Global, limits: Limits, kept: Kept) -> Result<(), Halt>
-        ensures { Gives (λ _. state_of self.new) result (awaiting limits kept (state_of self.old)) }
+        ensures { Gives (λ _. machine_state self.new) result (awaiting limits kept (machine_state self.old)) }
     {
         match kept {
             Kept::Call => Err(Halt::For(Reason::Broken)),
@@ -163,7 +163,7 @@ impl Machine {
 
     #[tactic(auto, unfolding(crate::specs::Steps::finishing))]
     pub(crate) fn finish(&mut self, alloc: Global, limits: Limits) -> Result<(), Halt>
-        ensures { Gives (λ _. state_of self.new) result (finishing limits (state_of self.old)) }
+        ensures { Gives (λ _. machine_state self.new) result (finishing limits (machine_state self.old)) }
     {
         let frame = self.nest.close()?;
         self.resume(frame);
@@ -173,7 +173,7 @@ impl Machine {
 
     #[tactic(auto, unfolding(crate::specs::Steps::waiting))]
     pub(crate) fn wait(&mut self, alloc: Global, limits: Limits, site: u32) -> Result<(), Halt>
-        ensures { Gives (λ _. state_of self.new) result (waiting limits site (state_of self.old)) }
+        ensures { Gives (λ _. machine_state self.new) result (waiting limits site (machine_state self.old)) }
     {
         self.trail
             .note(limits, site, 0, Did::Awaits(None), Vec::new(alloc))?;
@@ -188,7 +188,7 @@ impl Machine {
         site: u32,
         items: &Vec<Item>,
     ) -> Result<(), Halt>
-        ensures { Gives (λ _. state_of self.new) result (waiting_for limits site items.now.items (state_of self.old)) }
+        ensures { Gives (λ _. machine_state self.new) result (waiting_for limits site items.now.items (machine_state self.old)) }
     {
         let task = self.trail.task;
         let uses = items_of(
@@ -217,7 +217,7 @@ impl Machine {
         limits: Limits,
         items: &Vec<Folded>,
     ) -> Result<(), Halt>
-        ensures { Gives (λ _. state_of self.new) result (grouping limits items.now.items (state_of self.old)) }
+        ensures { Gives (λ _. machine_state self.new) result (grouping limits items.now.items (machine_state self.old)) }
     {
         let parts = parts_of(alloc, limits, &self.slots, &self.memory, items)?;
         let start = self.trail.rows.len();
@@ -227,7 +227,7 @@ impl Machine {
 
     #[tactic(auto, unfolding(crate::specs::Steps::leaving))]
     pub(crate) fn leave(&mut self, alloc: Global, limits: Limits, site: u32) -> Result<(), Halt>
-        ensures { Gives (λ _. state_of self.new) result (leaving limits site (state_of self.old)) }
+        ensures { Gives (λ _. machine_state self.new) result (leaving limits site (machine_state self.old)) }
     {
         let mut parts = Vec::new(alloc);
         let start = self.nest.ungroup(&mut parts)?;
@@ -237,7 +237,7 @@ impl Machine {
 
     #[tactic(auto, unfolding(crate::specs::Steps::joining))]
     pub(crate) fn join(&mut self, fold: Fold, slot: u32) -> Result<(), Halt>
-        ensures { Gives (λ _. state_of self.new) result (joining fold slot (state_of self.old)) }
+        ensures { Gives (λ _. machine_state self.new) result (joining fold slot (machine_state self.old)) }
     {
         let place = self.slots.read(slot)?;
         let span = self.memory.span_at(place, 1)?;

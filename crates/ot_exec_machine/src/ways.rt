@@ -15,10 +15,10 @@ pub struct Ways<'a> {
 }
 
 impl<'a> Asks for Ways<'a> {
-    ghost use Rattle.ot_exec_machine.specs.Runs.{run_of, events_in, asked_in};
+    ghost use Rattle.ot_exec_machine.specs.Runs.{run_of, run_events_of, asked_in};
     ghost use Rattle.ot_exec_machine.specs.Stable.{stable};
 
-    ghost events_by = { λ w answers. events_in (run_of w.code.now w.limits answers) };
+    ghost events_by = { λ w answers. run_events_of (run_of w.code.now w.limits answers) };
 
     ghost asked_by = { λ w answers. asked_in (run_of w.code.now w.limits answers) };
 

@@ -10,7 +10,7 @@ use Rattle.ot_race_order.specs.Orders.{ordered_by}
 use Rattle.ot_race_order.specs.declared.order.Order.{Order}
 use Rattle.ot_race.specs.Races.{NothingRaces, IsFirstRace}
 use Rattle.ot_race.specs.Events.{Event}
-use Rattle.ot_exec_outline.specs.Followed.{answered}
+use Rattle.ot_exec_outline.specs.Followed.{list_answer}
 use Rattle.ot_exec_outline.specs.Ways.{IsStable, Begins, Ending, Settled, AsksMore, endings, HasNoRace, ComesTo, TellsOf, TellsAlone, RacesOnNone}
 use Rattle.ot_exec_outline.specs.declared.ways.Told.{Told}
 use Rattle.ot_exec_outline.specs.declared.ways.Told.TheVariants.{RacesNowhere, RacesOn, TooMany}
@@ -27,26 +27,26 @@ all-right P (x ∷ xs) ys all = all-right P xs ys (All-tail P x (xs ++ ys) all)
 
 -- ---- how questions end
 
-pub settled-end : (asked : (ℕ → Bool) → ℕ) (more : ℕ) (given : List Bool) → asked (answered given) ≤ length given → endings asked more given ≡ Settled given ∷ []
+pub settled-end : (asked : (ℕ → Bool) → ℕ) (more : ℕ) (given : List Bool) → asked (list_answer given) ≤ length given → endings asked more given ≡ Settled given ∷ []
 settled-end asked zero given few =
-    let is : nat_le (asked (answered given)) (length given) ≡ true = grind (arith, nat_tests) in
+    let is : nat_le (asked (list_answer given)) (length given) ≡ true = grind (arith, nat_tests) in
     rw is refl
 settled-end asked (suc more) given few =
-    let is : nat_le (asked (answered given)) (length given) ≡ true = grind (arith, nat_tests) in
+    let is : nat_le (asked (list_answer given)) (length given) ≡ true = grind (arith, nat_tests) in
     rw is refl
 
-pub more-end : (asked : (ℕ → Bool) → ℕ) (given : List Bool) → length given < asked (answered given) → endings asked 0 given ≡ AsksMore ∷ []
+pub more-end : (asked : (ℕ → Bool) → ℕ) (given : List Bool) → length given < asked (list_answer given) → endings asked 0 given ≡ AsksMore ∷ []
 more-end asked given over =
-    let is : nat_le (asked (answered given)) (length given) ≡ false = grind (arith, nat_tests) in
+    let is : nat_le (asked (list_answer given)) (length given) ≡ false = grind (arith, nat_tests) in
     rw is refl
 
-pub both-ends : (asked : (ℕ → Bool) → ℕ) (more : ℕ) (given : List Bool) → length given < asked (answered given)
+pub both-ends : (asked : (ℕ → Bool) → ℕ) (more : ℕ) (given : List Bool) → length given < asked (list_answer given)
     → endings asked (suc more) given ≡ endings asked more (given ++ true ∷ []) ++ endings asked more (given ++ false ∷ [])
 both-ends asked more given over =
-    let is : nat_le (asked (answered given)) (length given) ≡ false = grind (arith, nat_tests) in
+    let is : nat_le (asked (list_answer given)) (length given) ≡ false = grind (arith, nat_tests) in
     rw is refl
 
-pub ends-behind : (asked : (ℕ → Bool) → ℕ) (more : ℕ) (given ones twos : List Bool) → length given < asked (answered given) → 0 < more
+pub ends-behind : (asked : (ℕ → Bool) → ℕ) (more : ℕ) (given ones twos : List Bool) → length given < asked (list_answer given) → 0 < more
     → ones ≡ given ++ true ∷ [] → twos ≡ given ++ false ∷ [] → endings asked more given ≡ endings asked (more - 1) ones ++ endings asked (more - 1) twos
 ends-behind asked zero given ones twos over some one two = absurd (omega (arith, some))
 ends-behind asked (suc more) given ones twos over some one two =
@@ -57,26 +57,26 @@ ends-behind asked (suc more) given ones twos over some one two =
 
 -- the way that the answers settle is that of all answers that begin with them
 settled : (order : Order) (events : (ℕ → Bool) → List Event) (asked : (ℕ → Bool) → ℕ) (given : List Bool) → IsStable events asked
-    → asked (answered given) ≤ length given → NothingRaces (ordered_by order (events (answered given))) → RacesOnNone order events given
+    → asked (list_answer given) ≤ length given → NothingRaces (ordered_by order (events (list_answer given))) → RacesOnNone order events given
 settled order events asked given stable few none answers begins =
-    let same = stable (answered given) answers (λ k l. sym (begins k (omega (arith, l, few)))) in
+    let same = stable (list_answer given) answers (λ k l. sym (begins k (omega (arith, l, few)))) in
     subst (λ xs. NothingRaces (ordered_by order xs)) same.0 none
 
 -- ---- answers with one more
 
-old : (given : List Bool) (b : Bool) (k : ℕ) → k < length given → answered (given ++ b ∷ []) k ≡ answered given k
+old : (given : List Bool) (b : Bool) (k : ℕ) → k < length given → list_answer (given ++ b ∷ []) k ≡ list_answer given k
 old [] b k l = absurd (omega (arith, l))
 old (a ∷ given) b zero l = refl
 old (a ∷ given) b (suc k) l = old given b k (omega (arith, l))
 
-new : (given : List Bool) (b : Bool) → answered (given ++ b ∷ []) (length given) ≡ b
+new : (given : List Bool) (b : Bool) → list_answer (given ++ b ∷ []) (length given) ≡ b
 new given b = ap (λ o. unwrap_or o false) (slice_get-last given b)
 
 pub begins_more : (given : List Bool) (answers : ℕ → Bool) (b : Bool) → Begins given answers → answers (length given) ≡ b → Begins (given ++ b ∷ []) answers
 begins_more given answers b begins here k l =
     let long : length (given ++ b ∷ []) ≡ length given + length (b ∷ []) = length-append given (b ∷ []) in
     elim (cases_eq k (length given)) [
-      | inl is ↦ ap answers is ∙ here ∙ sym (new given b) ∙ ap (answered (given ++ b ∷ [])) (sym is)
+      | inl is ↦ ap answers is ∙ here ∙ sym (new given b) ∙ ap (list_answer (given ++ b ∷ [])) (sym is)
       | inr apart ↦
           let less : k < length given = omega (arith, l, long, apart) in
           begins k less ∙ sym (old given b k less)
@@ -91,13 +91,13 @@ by_next order events given first second answers begins false h = second answers 
 pub nowhere : (order : Order) (events : (ℕ → Bool) → List Event) (asked : (ℕ → Bool) → ℕ) → IsStable events asked → (more : ℕ) (given : List Bool)
     → All (HasNoRace order events) (endings asked more given) → RacesOnNone order events given
 nowhere order events asked stable zero given none =
-    elim (cases_lt (length given) (asked (answered given))) [
+    elim (cases_lt (length given) (asked (list_answer given))) [
       | inl over ↦ absurd (All-head (HasNoRace order events) AsksMore [] (subst (All (HasNoRace order events)) (more-end asked given over) none))
       | inr few ↦ settled order events asked given stable few
           (All-head (HasNoRace order events) (Settled given) [] (subst (All (HasNoRace order events)) (settled-end asked 0 given few) none))
     ]
 nowhere order events asked stable (suc more) given none =
-    elim (cases_lt (length given) (asked (answered given))) [
+    elim (cases_lt (length given) (asked (list_answer given))) [
       | inl over ↦
           let ones = endings asked more (given ++ true ∷ []) in
           let twos = endings asked more (given ++ false ∷ []) in
@@ -124,7 +124,7 @@ alone order events given budget left taken (RacesOn answers race) told = (
     none = All-nil (HasNoRace order events);
     taken = omega (arith, taken);
   },
-  subst (λ (g : List Bool). IsFirstRace (ordered_by order (events (answered g))) race.cell race.place race.later) (sym told.0) told.1,
+  subst (λ (g : List Bool). IsFirstRace (ordered_by order (events (list_answer g))) race.cell race.place race.later) (sym told.0) told.1,
 )
 alone order events given budget left taken TooMany told = absurd told
 

@@ -8,8 +8,8 @@ use Rattle.ot_model.specs.declared.stmt.Mode.TheVariants.{Reads, Writes}
 use Rattle.ot_check.specs.Offences.{use_as, Declared}
 use Rattle.ot_race.specs.Events as runs
 use Rattle.ot_race.specs.Events.{event, Touches, Begins, Leaves}
-use Rattle.ot_exec_outline.specs.Tree.{outline, outline_one, body_of, statement_of, no_form, no_form_one}
-use Rattle.ot_exec_outline.specs.Happens.{way_as, happens, happens_one, after, after_one}
+use Rattle.ot_exec_outline.specs.Tree.{outline, outline_one, body_of_steps, statement_of, no_form, no_form_one}
+use Rattle.ot_exec_outline.specs.Happens.{way_as, happens, happens_one, state_after_steps, state_after_step}
 
 -- ---- it is the program
 
@@ -18,15 +18,15 @@ mutual
   same_one k (Set c e) = refl
   same_one k (Fold o c e) = refl
   same_one k (If e a b) =
-      ap (λ one. If e one (body_of (outline (k + 1 + size a) b))) (same (k + 1) a) ∙ ap (λ two. If e a two) (same (k + 1 + size a) b)
+      ap (λ one. If e one (body_of_steps (outline (k + 1 + size a) b))) (same (k + 1) a) ∙ ap (λ two. If e a two) (same (k + 1 + size a) b)
   same_one k (Task d b) = ap (λ inside. Task d inside) (same (k + 1) b)
   same_one k (Wait w) = refl
   same_one k (Group o cs b) = ap (λ inside. Group o cs inside) (same (k + 1) b)
 
-  pub same : (k : ℕ) (b : Body) → body_of (outline k b) ≡ b
+  pub same : (k : ℕ) (b : Body) → body_of_steps (outline k b) ≡ b
   same k End = refl
   same k (Next x rest) =
-      ap (λ y. Next y (body_of (outline (k + size_one x) rest))) (same_one k x) ∙ ap (λ later. Next x later) (same (k + size_one x) rest)
+      ap (λ y. Next y (body_of_steps (outline (k + size_one x) rest))) (same_one k x) ∙ ap (λ later. Next x later) (same (k + size_one x) rest)
 
 both_none : (a b : Option ℕ) → a ≡ None → b ≡ None → option_or a b ≡ None
 both_none a b one two = ap (λ o. option_or o b) one ∙ two
@@ -47,21 +47,21 @@ mutual
 -- ---- its events
 
 mutual
-  state_one : (way : runs.Way) (chosen : ℕ → ℕ) (k : ℕ) (x : S) (s : State) → after_one (way_as way chosen) (outline_one k x) s ≡ runs.after_one way x s
+  state_one : (way : runs.Way) (chosen : ℕ → ℕ) (k : ℕ) (x : S) (s : State) → state_after_step (way_as way chosen) (outline_one k x) s ≡ runs.after_one way x s
   state_one way chosen k (Set c e) s = refl
   state_one way chosen k (Fold o c e) s = refl
   state_one way chosen k (If e a b) s =
       let n = way.condition s e in
-      ap (λ t. either n t (after (way_as way chosen) (outline (k + 1 + size a) b) (bump 0 1 s))) (state way chosen (k + 1) a (bump 0 1 s))
+      ap (λ t. either n t (state_after_steps (way_as way chosen) (outline (k + 1 + size a) b) (bump 0 1 s))) (state way chosen (k + 1) a (bump 0 1 s))
       ∙ ap (either n (runs.after way a (bump 0 1 s))) (state way chosen (k + 1 + size a) b (bump 0 1 s))
   state_one way chosen k (Task d b) s = state way chosen (k + 1) b (bump 1 1 s)
   state_one way chosen k (Wait w) s = refl
   state_one way chosen k (Group o cs b) s = state way chosen (k + 1) b (bump 0 1 s)
 
-  state : (way : runs.Way) (chosen : ℕ → ℕ) (k : ℕ) (b : Body) (s : State) → after (way_as way chosen) (outline k b) s ≡ runs.after way b s
+  state : (way : runs.Way) (chosen : ℕ → ℕ) (k : ℕ) (b : Body) (s : State) → state_after_steps (way_as way chosen) (outline k b) s ≡ runs.after way b s
   state way chosen k End s = refl
   state way chosen k (Next x rest) s =
-      ap (after (way_as way chosen) (outline (k + size_one x) rest)) (state_one way chosen k x s)
+      ap (state_after_steps (way_as way chosen) (outline (k + size_one x) rest)) (state_one way chosen k x s)
       ∙ state way chosen (k + size_one x) rest (runs.after_one way x s)
 
 mutual
@@ -84,7 +84,7 @@ mutual
       → happens (way_as way chosen) own me (outline k b) s ≡ runs.events way own me k b s
   events way chosen own me k End s = refl
   events way chosen own me k (Next x rest) s =
-      ap (λ es. es ++ happens (way_as way chosen) own me (outline (k + size_one x) rest) (after_one (way_as way chosen) (outline_one k x) s))
+      ap (λ es. es ++ happens (way_as way chosen) own me (outline (k + size_one x) rest) (state_after_step (way_as way chosen) (outline_one k x) s))
       (events_one way chosen own me k x s)
       ∙ ap (λ t. runs.events_one way own me k x s ++ happens (way_as way chosen) own me (outline (k + size_one x) rest) t) (state_one way chosen k x s)
       ∙ ap (λ es. runs.events_one way own me k x s ++ es) (events way chosen own me (k + size_one x) rest (runs.after_one way x s))

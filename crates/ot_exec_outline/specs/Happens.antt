@@ -9,33 +9,33 @@ use Rattle.ot_model.specs.declared.stmt.Mode.TheVariants.{Reads, Writes}
 use Rattle.ot_check.specs.Offences.{use_as, Declared}
 use Rattle.ot_race.specs.Events as runs
 use Rattle.ot_race.specs.Events.{Event, event, Touches, Begins, Awaits, Leaves, fold_as, beginning}
-use Rattle.ot_exec_outline.specs.Tree.{Step, SetAt, FoldAt, TouchAt, IfAt, ChooseAt, TaskAt, WaitAt, GroupAt, Steps, Done, Then}
+use Rattle.ot_exec_outline.specs.Tree.{OutlineStep, SetAt, FoldAt, TouchAt, IfAt, ChooseAt, TaskAt, WaitAt, GroupAt, Steps, Done, Then}
 
 -- A way: the number of the condition of a choice, where it is a value and where it isn't known; and the cells that a value reads
-pub record Way : Type 0 where
+pub record ChoiceWay : Type 0 where
   pub condition : ℕ → State → E → ℕ
   pub chosen : ℕ → ℕ
   pub reads : State → E → List Cell
 
 -- the cells and counts behind steps, on this way. What is written by no value of the language isn't known here: cells stay
 abbrev mutual
-  pub after_one : Way → Step → State → State
-  after_one way (SetAt k c e) s = bump 0 1 (change s c (λ _. val (cell_of s.cells) e))
-  after_one way (FoldAt k o c e) s = bump 0 1 (change s c (λ n. join_by o n (val (cell_of s.cells) e)))
-  after_one way (TouchAt k us) s = bump 0 1 s
-  after_one way (IfAt k n e a b) s = either (way.condition n s e) (after way a (bump 0 1 s)) (after way b (bump 0 1 s))
-  after_one way (ChooseAt k n a b) s = either (way.chosen n) (after way a (bump 0 1 s)) (after way b (bump 0 1 s))
-  after_one way (TaskAt k d b) s = after way b (bump 1 1 s)
-  after_one way (WaitAt k w) s = bump 0 1 s
-  after_one way (GroupAt k o cs b) s = after way b (bump 0 1 s)
+  pub state_after_step : ChoiceWay → OutlineStep → State → State
+  state_after_step way (SetAt k c e) s = bump 0 1 (change s c (λ _. val (cell_of s.cells) e))
+  state_after_step way (FoldAt k o c e) s = bump 0 1 (change s c (λ n. join_by o n (val (cell_of s.cells) e)))
+  state_after_step way (TouchAt k us) s = bump 0 1 s
+  state_after_step way (IfAt k n e a b) s = either (way.condition n s e) (state_after_steps way a (bump 0 1 s)) (state_after_steps way b (bump 0 1 s))
+  state_after_step way (ChooseAt k n a b) s = either (way.chosen n) (state_after_steps way a (bump 0 1 s)) (state_after_steps way b (bump 0 1 s))
+  state_after_step way (TaskAt k d b) s = state_after_steps way b (bump 1 1 s)
+  state_after_step way (WaitAt k w) s = bump 0 1 s
+  state_after_step way (GroupAt k o cs b) s = state_after_steps way b (bump 0 1 s)
 
-  pub after : Way → Steps → State → State
-  after way Done s = s
-  after way (Then x rest) s = after way rest (after_one way x s)
+  pub state_after_steps : ChoiceWay → Steps → State → State
+  state_after_steps way Done s = s
+  state_after_steps way (Then x rest) s = state_after_steps way rest (state_after_step way x s)
 
 -- the events of steps in the task `me`, which declares this, each at its site
 abbrev mutual
-  pub happens_one : Way → Declared → ℕ → Step → State → List Event
+  pub happens_one : ChoiceWay → Declared → ℕ → OutlineStep → State → List Event
   happens_one way own me (SetAt k c e) s = event me k Touches (map (use_as Reads) (way.reads s e) ++ use_as Writes c ∷ []) ∷ []
   happens_one way own me (FoldAt k o c e) s = event me k Touches (map (use_as Reads) (way.reads s e) ++ use_as (fold_as own o c) c ∷ []) ∷ []
   happens_one way own me (TouchAt k us) s = event me k Touches us ∷ []
@@ -49,13 +49,13 @@ abbrev mutual
       let inside = happens way own me b (bump 0 1 s) in
       inside ++ event me k (Leaves (length inside)) (map (use_as Writes) cs) ∷ []
 
-  pub happens : Way → Declared → ℕ → Steps → State → List Event
+  pub happens : ChoiceWay → Declared → ℕ → Steps → State → List Event
   happens way own me Done s = []
-  happens way own me (Then x rest) s = happens_one way own me x s ++ happens way own me rest (after_one way x s)
+  happens way own me (Then x rest) s = happens_one way own me x s ++ happens way own me rest (state_after_step way x s)
 
-abbrev pub happens_of : Way → Steps → List (List ℕ) → List Event
+abbrev pub happens_of : ChoiceWay → Steps → List (List ℕ) → List Event
 happens_of way steps cells = happens way None 0 steps (beginning cells)
 
 -- a way through a program's tree, as one through its outline
-abbrev pub way_as : runs.Way → (ℕ → ℕ) → Way
+abbrev pub way_as : runs.Way → (ℕ → ℕ) → ChoiceWay
 way_as way chosen = record { condition = λ n s e. way.condition s e; chosen = chosen; reads = way.reads }

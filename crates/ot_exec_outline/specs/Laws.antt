@@ -2,7 +2,7 @@
 use Rattle.std.specs.Prelude.{◌≡◌, ℕ, Bool, List, None}
 use Rattle.ot_model.specs.Tree.{Body}
 use Rattle.ot_race.specs.Events as runs
-use Rattle.ot_exec_outline.specs.Tree.{Steps, outline, body_of, no_form}
+use Rattle.ot_exec_outline.specs.Tree.{Steps, outline, body_of_steps, no_form}
 use Rattle.ot_exec_outline.specs.Happens.{happens_of, way_as}
 use Rattle.ot_exec_outline.specs.Followed.{by_answers, events_by}
 
@@ -16,7 +16,7 @@ abbrev pub OutlineIsPlain : Type 0
 OutlineIsPlain = (k : ℕ) (body : Body) → no_form (outline k body) ≡ None
 
 abbrev pub OutlineIsSame : Type 0
-OutlineIsSame = (k : ℕ) (body : Body) → body_of (outline k body) ≡ body
+OutlineIsSame = (k : ℕ) (body : Body) → body_of_steps (outline k body) ≡ body
 
 -- what happens on the way of some answers is told without the cells that it begins with
 abbrev pub AnswersAreAWay : Type 0

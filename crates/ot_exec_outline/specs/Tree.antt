@@ -11,45 +11,45 @@ use Rattle.ot_model.specs.declared.stmt.Use.{Use}
 mutual
   -- A step, with the number of its site: a statement of the language, of an `if` with the number of its choice; what uses cells
   -- in a way that the language has no form for; or a branch of which nothing but its choice is known
-  pub data Step : Type 0 where
-    SetAt : ℕ → Cell → E → Step
-    FoldAt : ℕ → Operation → Cell → E → Step
-    TouchAt : ℕ → List Use → Step
-    IfAt : ℕ → ℕ → E → Steps → Steps → Step
-    ChooseAt : ℕ → ℕ → Steps → Steps → Step
-    TaskAt : ℕ → List Use → Steps → Step
-    WaitAt : ℕ → Option (List Use) → Step
-    GroupAt : ℕ → Operation → List Cell → Steps → Step
+  pub data OutlineStep : Type 0 where
+    SetAt : ℕ → Cell → E → OutlineStep
+    FoldAt : ℕ → Operation → Cell → E → OutlineStep
+    TouchAt : ℕ → List Use → OutlineStep
+    IfAt : ℕ → ℕ → E → Steps → Steps → OutlineStep
+    ChooseAt : ℕ → ℕ → Steps → Steps → OutlineStep
+    TaskAt : ℕ → List Use → Steps → OutlineStep
+    WaitAt : ℕ → Option (List Use) → OutlineStep
+    GroupAt : ℕ → Operation → List Cell → Steps → OutlineStep
 
   pub data Steps : Type 0 where
     Done : Steps
-    Then : Step → Steps → Steps
+    Then : OutlineStep → Steps → Steps
 
-abbrev pub steps_of : List Step → Steps
+abbrev pub steps_of : List OutlineStep → Steps
 steps_of [] = Done
 steps_of (x ∷ xs) = Then x (steps_of xs)
 
 -- how many steps there are, those inside steps among them
 abbrev mutual
-  pub size_one : Step → ℕ
-  size_one (SetAt k c e) = 1
-  size_one (FoldAt k o c e) = 1
-  size_one (TouchAt k us) = 1
-  size_one (IfAt k n e a b) = 1 + size a + size b
-  size_one (ChooseAt k n a b) = 1 + size a + size b
-  size_one (TaskAt k d b) = 1 + size b
-  size_one (WaitAt k w) = 1
-  size_one (GroupAt k o cs b) = 1 + size b
+  pub step_size : OutlineStep → ℕ
+  step_size (SetAt k c e) = 1
+  step_size (FoldAt k o c e) = 1
+  step_size (TouchAt k us) = 1
+  step_size (IfAt k n e a b) = 1 + steps_size a + steps_size b
+  step_size (ChooseAt k n a b) = 1 + steps_size a + steps_size b
+  step_size (TaskAt k d b) = 1 + steps_size b
+  step_size (WaitAt k w) = 1
+  step_size (GroupAt k o cs b) = 1 + steps_size b
 
-  pub size : Steps → ℕ
-  size Done = 0
-  size (Then x rest) = size_one x + size rest
+  pub steps_size : Steps → ℕ
+  steps_size Done = 0
+  steps_size (Then x rest) = step_size x + steps_size rest
 
 -- ---- the program
 
 -- the site of the first step that the language has no form for
 abbrev mutual
-  pub no_form_one : Step → Option ℕ
+  pub no_form_one : OutlineStep → Option ℕ
   no_form_one (SetAt k c e) = None
   no_form_one (FoldAt k o c e) = None
   no_form_one (TouchAt k us) = Some k
@@ -66,24 +66,24 @@ abbrev mutual
 -- The statement of the language that a step is. What has no form there stands as a wait, and what is said of the whole means
 -- nothing
 abbrev mutual
-  pub statement_of : Step → S
+  pub statement_of : OutlineStep → S
   statement_of (SetAt k c e) = Set c e
   statement_of (FoldAt k o c e) = Fold o c e
   statement_of (TouchAt k us) = Wait None
-  statement_of (IfAt k n e a b) = If e (body_of a) (body_of b)
+  statement_of (IfAt k n e a b) = If e (body_of_steps a) (body_of_steps b)
   statement_of (ChooseAt k n a b) = Wait None
-  statement_of (TaskAt k d b) = Task d (body_of b)
+  statement_of (TaskAt k d b) = Task d (body_of_steps b)
   statement_of (WaitAt k w) = Wait w
-  statement_of (GroupAt k o cs b) = Group o cs (body_of b)
+  statement_of (GroupAt k o cs b) = Group o cs (body_of_steps b)
 
-  pub body_of : Steps → Body
-  body_of Done = End
-  body_of (Then x rest) = Next (statement_of x) (body_of rest)
+  pub body_of_steps : Steps → Body
+  body_of_steps Done = End
+  body_of_steps (Then x rest) = Next (statement_of x) (body_of_steps rest)
 
 -- ---- the outline of a program: sites are the statements' numbers, each `if` has a choice of its own, by its site
 
 abbrev mutual
-  pub outline_one : ℕ → S → Step
+  pub outline_one : ℕ → S → OutlineStep
   outline_one k (Set c e) = SetAt k c e
   outline_one k (Fold o c e) = FoldAt k o c e
   outline_one k (If e a b) = IfAt k k e (outline (k + 1) a) (outline (k + 1 + tree.size a) b)

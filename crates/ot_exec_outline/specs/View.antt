@@ -11,7 +11,7 @@ use Rattle.ot_exec_outline.specs.declared.step.Step.{Step, fold-Step}
 use Rattle.ot_exec_outline.specs.declared.step.Step.TheOpen.{Step-F}
 
 -- one step, the steps inside already seen
-abbrev pub step_step : Step-F s.Step → s.Step
+abbrev pub step_step : Step-F s.OutlineStep → s.OutlineStep
 step_step (Step-F.Set k c e) = SetAt k c (expr_of e)
 step_step (Step-F.Fold k o c e) = FoldAt k o c (expr_of e)
 step_step (Step-F.Touch k us) = TouchAt k us.items
@@ -21,8 +21,8 @@ step_step (Step-F.Task k d b) = TaskAt k d (steps_of b.items)
 step_step (Step-F.Wait k w) = WaitAt k w
 step_step (Step-F.Group k o cs b) = GroupAt k o cs.items (steps_of b.items)
 
-abbrev pub step_of : Step → s.Step
-step_of = fold-Step s.Step step_step
+abbrev pub step_of : Step → s.OutlineStep
+step_of = fold-Step s.OutlineStep step_step
 
 abbrev pub steps_in : List Step → Steps
 steps_in xs = steps_of (map step_of xs)

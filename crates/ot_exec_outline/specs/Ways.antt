@@ -4,7 +4,7 @@ use Rattle.ot_race_order.specs.Orders.{ordered_by}
 use Rattle.ot_race_order.specs.declared.order.Order.{Order}
 use Rattle.ot_race.specs.Events.{Event}
 use Rattle.ot_race.specs.Races.{NothingRaces, IsFirstRace}
-use Rattle.ot_exec_outline.specs.Followed.{answered}
+use Rattle.ot_exec_outline.specs.Followed.{list_answer}
 use Rattle.ot_exec_outline.specs.declared.ways.Told.{Told}
 use Rattle.ot_exec_outline.specs.declared.ways.Told.TheVariants.{RacesNowhere, RacesOn, TooMany}
 
@@ -14,7 +14,7 @@ IsStable events asked = (p q : ℕ → Bool) → ((k : ℕ) → k < asked p → 
 
 -- answers that begin with these
 abbrev pub Begins : List Bool → (ℕ → Bool) → Type 0
-Begins given answers = (k : ℕ) → k < length given → answers k ≡ answered given k
+Begins given answers = (k : ℕ) → k < length given → answers k ≡ list_answer given k
 
 -- how questions end: all that are asked have these answers, or more are asked than may be answered
 pub data Ending : Type 0 where
@@ -23,14 +23,14 @@ pub data Ending : Type 0 where
 
 -- the ends behind these answers, where at most so many more questions may be answered: those behind a yes come first
 abbrev pub endings : ((ℕ → Bool) → ℕ) → ℕ → List Bool → List Ending
-endings asked zero given = if nat_le (asked (answered given)) (length given) then Settled given ∷ [] else AsksMore ∷ []
+endings asked zero given = if nat_le (asked (list_answer given)) (length given) then Settled given ∷ [] else AsksMore ∷ []
 endings asked (suc more) given =
-    if nat_le (asked (answered given)) (length given) then Settled given ∷ []
+    if nat_le (asked (list_answer given)) (length given) then Settled given ∷ []
     else endings asked more (given ++ true ∷ []) ++ endings asked more (given ++ false ∷ [])
 
 -- questions end there, and nothing races on that way
 abbrev pub HasNoRace : Order → ((ℕ → Bool) → List Event) → Ending → Type 0
-HasNoRace order events (Settled given) = NothingRaces (ordered_by order (events (answered given)))
+HasNoRace order events (Settled given) = NothingRaces (ordered_by order (events (list_answer given)))
 HasNoRace order events AsksMore = ⊥
 
 -- of the ends this is the first but for those without a race, each of which takes one from the budget
@@ -46,15 +46,15 @@ abbrev pub TellsOf : Order → ((ℕ → Bool) → List Event) → List Ending �
 TellsOf order events ends budget left RacesNowhere = All (HasNoRace order events) ends × (budget ≡ left + length ends)
 TellsOf order events ends budget left (RacesOn answers race) =
     ComesTo order events ends budget (left + 1) (Settled answers.items)
-    × IsFirstRace (ordered_by order (events (answered answers.items))) race.cell race.place race.later
+    × IsFirstRace (ordered_by order (events (list_answer answers.items))) race.cell race.place race.later
 TellsOf order events ends budget left TooMany =
     ComesTo order events ends budget left AsksMore ⊎ ((given : List Bool) × ComesTo order events ends budget 0 (Settled given) × (left ≡ 0))
 
 -- what is told of the way of these answers alone
 abbrev pub TellsAlone : Order → ((ℕ → Bool) → List Event) → List Bool → Told → Type 0
-TellsAlone order events given RacesNowhere = NothingRaces (ordered_by order (events (answered given)))
+TellsAlone order events given RacesNowhere = NothingRaces (ordered_by order (events (list_answer given)))
 TellsAlone order events given (RacesOn answers race) =
-    (answers.items ≡ given) × IsFirstRace (ordered_by order (events (answered given))) race.cell race.place race.later
+    (answers.items ≡ given) × IsFirstRace (ordered_by order (events (list_answer given))) race.cell race.place race.later
 TellsAlone order events given TooMany = ⊥
 
 -- nothing races on any way that begins with these answers

@@ -2,9 +2,9 @@
 ghost use Rattle.std.specs.Prelude.{◌≡◌, ◌+◌, ◌++◌, ◌≤◌, ◌<◌, ◌^◌, OnOk, IfOk, length, option_map, [], ◌∷◌};
 ghost use Rattle.ot_race.specs.View.{events_in, deed_of};
 ghost use Rattle.ot_race.specs.Events.{event};
-ghost use Rattle.ot_exec_outline.specs.Tree.{size, size_one};
+ghost use Rattle.ot_exec_outline.specs.Tree.{steps_size, step_size};
 ghost use Rattle.ot_exec_outline.specs.View.{step_of, steps_in};
-ghost use Rattle.ot_exec_outline.specs.Followed.{answered, events, events_one, events_by, tasks, tasks_one, Fits, FitsOne};
+ghost use Rattle.ot_exec_outline.specs.Followed.{list_answer, steps_events, step_events, events_by, tasks, tasks_one, Fits, FitsOne};
 
 use crate::decided::{answered, decided};
 use crate::step::Step;
@@ -34,9 +34,9 @@ pub fn follow<'a>(
     answers: &[bool],
 ) -> Result<Vec<Event<'a>>, AllocError>
     requires fits { Fits (steps_in steps.now.items) }
-    requires few { size (steps_in steps.now.items) < 2 ^ 32 }
-    ensures events { IfOk result (λ events. events_in events.items ≡ events_by (answered answers.now) (steps_in steps.now.items)) }
-    ensures few { IfOk result (λ events. length events.items ≤ size (steps_in steps.now.items)) }
+    requires few { steps_size (steps_in steps.now.items) < 2 ^ 32 }
+    ensures events { IfOk result (λ steps_events. events_in steps_events.items ≡ events_by (list_answer answers.now) (steps_in steps.now.items)) }
+    ensures few { IfOk result (λ steps_events. length steps_events.items ≤ steps_size (steps_in steps.now.items)) }
 {
     let mut trail = Trail {
         tasks: 0,
@@ -56,13 +56,13 @@ fn follow_all<'a>(
     answers: &[bool],
 ) -> Result<(), AllocError>
     requires fits { Fits (steps_in steps.now.items) }
-    requires tasks_fit { trail.old.tasks + size (steps_in steps.now.items) < 2 ^ 32 }
-    requires events_fit { length trail.old.events.items + size (steps_in steps.now.items) < 2 ^ 32 }
+    requires tasks_fit { trail.old.tasks + steps_size (steps_in steps.now.items) < 2 ^ 32 }
+    requires events_fit { length trail.old.events.items + steps_size (steps_in steps.now.items) < 2 ^ 32 }
     ensures events { OnOk result (events_in trail.new.events.items
-        ≡ events_in trail.old.events.items ++ events (answered answers.now) (option_map (λ d. d.now) owner.entry.own) owner.entry.task (steps_in steps.now.items) trail.old.tasks) }
-    ensures tasks { OnOk result (trail.new.tasks ≡ tasks (answered answers.now) (steps_in steps.now.items) trail.old.tasks) }
-    ensures few_tasks { OnOk result (trail.new.tasks ≤ trail.old.tasks + size (steps_in steps.now.items)) }
-    ensures few_events { OnOk result (length trail.new.events.items ≤ length trail.old.events.items + size (steps_in steps.now.items)) }
+        ≡ events_in trail.old.events.items ++ steps_events (list_answer answers.now) (option_map (λ d. d.now) owner.entry.own) owner.entry.task (steps_in steps.now.items) trail.old.tasks) }
+    ensures tasks { OnOk result (trail.new.tasks ≡ tasks (list_answer answers.now) (steps_in steps.now.items) trail.old.tasks) }
+    ensures few_tasks { OnOk result (trail.new.tasks ≤ trail.old.tasks + steps_size (steps_in steps.now.items)) }
+    ensures few_events { OnOk result (length trail.new.events.items ≤ length trail.old.events.items + steps_size (steps_in steps.now.items)) }
 {
     for step in steps {
         follow_one(alloc, step, trail, owner, answers)?;
@@ -79,13 +79,13 @@ fn follow_one<'a>(
     answers: &[bool],
 ) -> Result<(), AllocError>
     requires fits { FitsOne (step_of step.now) }
-    requires tasks_fit { trail.old.tasks + size_one (step_of step.now) < 2 ^ 32 }
-    requires events_fit { length trail.old.events.items + size_one (step_of step.now) < 2 ^ 32 }
+    requires tasks_fit { trail.old.tasks + step_size (step_of step.now) < 2 ^ 32 }
+    requires events_fit { length trail.old.events.items + step_size (step_of step.now) < 2 ^ 32 }
     ensures events { OnOk result (events_in trail.new.events.items
-        ≡ events_in trail.old.events.items ++ events_one (answered answers.now) (option_map (λ d. d.now) owner.entry.own) owner.entry.task (step_of step.now) trail.old.tasks) }
-    ensures tasks { OnOk result (trail.new.tasks ≡ tasks_one (answered answers.now) (step_of step.now) trail.old.tasks) }
-    ensures few_tasks { OnOk result (trail.new.tasks ≤ trail.old.tasks + size_one (step_of step.now)) }
-    ensures few_events { OnOk result (length trail.new.events.items ≤ length trail.old.events.items + size_one (step_of step.now)) }
+        ≡ events_in trail.old.events.items ++ step_events (list_answer answers.now) (option_map (λ d. d.now) owner.entry.own) owner.entry.task (step_of step.now) trail.old.tasks) }
+    ensures tasks { OnOk result (trail.new.tasks ≡ tasks_one (list_answer answers.now) (step_of step.now) trail.old.tasks) }
+    ensures few_tasks { OnOk result (trail.new.tasks ≤ trail.old.tasks + step_size (step_of step.now)) }
+    ensures few_events { OnOk result (length trail.new.events.items ≤ length trail.old.events.items + step_size (step_of step.now)) }
 {
     let mut uses = Vec::new(alloc);
     match step {

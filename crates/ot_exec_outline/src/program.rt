@@ -3,9 +3,9 @@ ghost use Rattle.std.specs.Prelude.{◌≡◌, ◌<◌, MatchResult, IfOk, min};
 ghost use Rattle.ot_model.specs.Programs.{expanded_of};
 ghost use Rattle.ot_model.specs.Tree.{size, size_one, tasks_in, tasks_in_one};
 ghost use Rattle.ot_model.specs.View.{stmt_of, stmts_of};
-ghost use Rattle.ot_exec_outline.specs.Tree.{no_form, no_form_one, body_of, statement_of};
+ghost use Rattle.ot_exec_outline.specs.Tree.{no_form, no_form_one, body_of_steps, statement_of};
 ghost use Rattle.ot_exec_outline.specs.View.{step_of, steps_in};
-ghost use Rattle.ot_exec_outline.specs.Programs.{IsProgram, Tells};
+ghost use Rattle.ot_exec_outline.specs.Programs.{IsProgram, TellsNoProgram};
 
 use crate::step::Step;
 use ot_model::{Program, Section, Stmt};
@@ -30,7 +30,7 @@ pub fn program_of(
     shows: Vec<Section>,
     steps: &Vec<Step>,
 ) -> Result<Program, NoProgram>
-    ensures { MatchResult result (λ program. IsProgram shows.items (steps_in steps.now.items) (expanded_of program)) (λ fault. Tells fault (steps_in steps.now.items)) }
+    ensures { MatchResult result (λ program. IsProgram shows.items (steps_in steps.now.items) (expanded_of program)) (λ fault. TellsNoProgram fault (steps_in steps.now.items)) }
 {
     if let Some(site) = no_form_in(steps) {
         return Err(NoProgram::NoForm(site));
@@ -83,7 +83,7 @@ fn no_form_one(step: &Step) -> Option<u32>
 #[cycle(body)]
 #[tactic(auto, using(crate::proofs::StepLemmas::stmts_as))]
 fn body_of(alloc: Global, steps: &[Step]) -> Result<Vec<Stmt>, AllocError>
-    ensures { IfOk result (λ body. stmts_of body.items ≡ body_of (steps_in steps.now)) }
+    ensures { IfOk result (λ body. stmts_of body.items ≡ body_of_steps (steps_in steps.now)) }
 {
     let mut body = Vec::with_capacity(alloc, steps.len())?;
     for step in steps {
@@ -122,7 +122,7 @@ fn statement_of(alloc: Global, step: &Step) -> Result<Stmt, AllocError>
 /// How many statements steps are, as far as they are counted.
 #[cycle(count)]
 fn count_in(steps: &Vec<Step>) -> u32
-    ensures { result ≡ min (size (body_of (steps_in steps.now.items))) 20001 }
+    ensures { result ≡ min (size (body_of_steps (steps_in steps.now.items))) 20001 }
 {
     let mut count = 0;
     for step in steps {
@@ -149,7 +149,7 @@ fn count_one(step: &Step) -> u32
 /// How many task statements.
 #[cycle(tasks)]
 fn tasks_in(steps: &Vec<Step>) -> u32
-    ensures { result ≡ min (tasks_in (body_of (steps_in steps.now.items))) 20001 }
+    ensures { result ≡ min (tasks_in (body_of_steps (steps_in steps.now.items))) 20001 }
 {
     let mut count = 0;
     for step in steps {

@@ -2,7 +2,7 @@
 ghost use Rattle.std.specs.Prelude.{◌≡◌, ◌<◌, ◌≤◌, ◌^◌, ◌++◌, ◌∷◌, [], ℕ, Bool, List, IfOk, Ok, length};
 ghost use Rattle.ot_race.specs.Events.{Event};
 ghost use Rattle.ot_exec_outline.specs.View.{noted_in};
-ghost use Rattle.ot_exec_outline.specs.Followed.{answered};
+ghost use Rattle.ot_exec_outline.specs.Followed.{list_answer};
 ghost use Rattle.ot_exec_outline.specs.Ways.{IsStable, endings, TellsOf, TellsAlone, RacesOnNone};
 ghost use Rattle.ot_exec_outline.specs.declared.ways.Told.TheVariants.{RacesNowhere};
 
@@ -31,8 +31,8 @@ pub trait Asks {
 
     /// The way of these answers; to further questions the answer is no.
     fn way(&self, alloc: Global, answers: &[bool]) -> Result<OneWay, AllocError>
-        ensures events { IfOk result (λ way. noted_in way.log.items ≡ events_by self.now (answered answers.now)) }
-        ensures asked { IfOk result (λ way. way.asked ≡ asked_by self.now (answered answers.now)) }
+        ensures events { IfOk result (λ way. noted_in way.log.items ≡ events_by self.now (list_answer answers.now)) }
+        ensures asked { IfOk result (λ way. way.asked ≡ asked_by self.now (list_answer answers.now)) }
         ensures few { IfOk result (λ way. length way.log.items < 2 ^ 32) };
 
     /// No more than these answers matter.
@@ -92,7 +92,7 @@ fn told_on<W: Asks>(
     way: OneWay,
     given: &[bool],
 ) -> Result<Told, AllocError>
-    requires events { noted_in way.log.items ≡ W.events_by asks.now (answered given.now) }
+    requires events { noted_in way.log.items ≡ W.events_by asks.now (list_answer given.now) }
     requires few { length way.log.items < 2 ^ 32 }
     ensures { IfOk result (TellsAlone order (W.events_by asks.now) given.now) }
 {

@@ -10,7 +10,7 @@ use Rattle.ot_exec_code.specs.declared.kind.Width.TheVariants.{Bits8, Bits16, Bi
 use Rattle.ot_exec_code.specs.declared.operation.Operation.{Operation}
 use Rattle.ot_exec_code.specs.declared.operation.Operation.TheVariants as o
 use Rattle.ot_exec_state.specs.Laws.{Covers}
-use Rattle.ot_exec_state.specs.Values.{is_so, is_zero, is_somewhere, vanishes, is_equality, one_is_null, fits_pointer, compared, combined, converted, advanced, distance}
+use Rattle.ot_exec_state.specs.Values.{is_so, is_zero, is_somewhere, vanishes, is_equality, one_is_null, fits_pointer, values_compared, values_combined, value_converted, place_advanced, distance}
 use Rattle.ot_exec_state.specs.declared.fault.Reason.{Reason}
 use Rattle.ot_exec_state.specs.declared.value.Value.{Value}
 use Rattle.ot_exec_state.specs.declared.value.Value.TheVariants.{Number, Pointer, Within, Function, Unknown}
@@ -115,8 +115,8 @@ no_bits : (m n : ℕ) (b : Bool) → (m == 0) ≡ b → (b || (n == 0)) ≡ true
 no_bits m n true is z = let e = is_none m is in let least = and_le_l m n in omega (arith, e, least)
 no_bits m n false is z = let e = is_none n z in let least = and_le_r m n in omega (arith, e, least)
 
-zero_numbers : (op : Operation) (kind : Kind) (m n : ℕ) → vanishes op ≡ true → ((m == 0) || (n == 0)) ≡ true → combined op kind (Number m) (Number n) ≡ Ok (Number 0)
-unfolding combined
+zero_numbers : (op : Operation) (kind : Kind) (m n : ℕ) → vanishes op ≡ true → ((m == 0) || (n == 0)) ≡ true → values_combined op kind (Number m) (Number n) ≡ Ok (Number 0)
+unfolding values_combined
 zero_numbers o.Multiply kind m n v z =
     ap (λ (k : ℕ). Ok (Number (narrow kind (k % 2 ^ 64)))) (no_product m n (m == 0) refl z) ∙ ap (λ (k : ℕ). Ok (Number k)) (narrow_zero kind)
 zero_numbers o.And kind m n v z =
@@ -133,8 +133,8 @@ zero_numbers o.Less kind m n v z = absurd (true≢false (sym v))
 zero_numbers o.LessOrEqual kind m n v z = absurd (true≢false (sym v))
 zero_numbers o.Equal kind m n v z = absurd (true≢false (sym v))
 
-zero_op : (op : Operation) (kind : Kind) (c d : Value) → vanishes op ≡ true → (is_zero c || is_zero d) ≡ true → combined op kind c d ≡ Ok (Number 0)
-unfolding combined
+zero_op : (op : Operation) (kind : Kind) (c d : Value) → vanishes op ≡ true → (is_zero c || is_zero d) ≡ true → values_combined op kind c d ≡ Ok (Number 0)
+unfolding values_combined
 zero_op op kind (Number m) (Number n) v z = zero_numbers op kind m n v z
 zero_op op kind (Number m) (Pointer p k) v z = rw (v, z) refl
 zero_op op kind (Number m) (Within p p1 p2) v z = rw (v, z) refl
@@ -148,13 +148,13 @@ zero_op op kind Unknown d v z = rw (v, z) refl
 -- ---- where one isn't known
 
 abbrev pub by_default : Operation → Value → Value → Result Value Reason
-by_default op a b = if vanishes op && (is_zero a || is_zero b) then Ok (Number 0) else Ok (compared op a b)
+by_default op a b = if vanishes op && (is_zero a || is_zero b) then Ok (Number 0) else Ok (values_compared op a b)
 
 abbrev pub by_null : Operation → Value → Value → Value
 by_null op a b = if is_equality op && one_is_null a b then Number 0 else Unknown
 
-combined_inexact : (op : Operation) (kind : Kind) (a b : Value) → (is_exact a && is_exact b) ≡ false → combined op kind a b ≡ by_default op a b
-unfolding combined
+combined_inexact : (op : Operation) (kind : Kind) (a b : Value) → (is_exact a && is_exact b) ≡ false → values_combined op kind a b ≡ by_default op a b
+unfolding values_combined
 combined_inexact op kind (Number m) (Number n) h = absurd (true≢false h)
 combined_inexact op kind (Number m) (Pointer p k) h = refl
 combined_inexact op kind (Number m) (Within p p1 p2) h = refl
@@ -165,8 +165,8 @@ combined_inexact op kind (Within p p1 p2) b h = refl
 combined_inexact op kind (Function f) b h = refl
 combined_inexact op kind Unknown b h = refl
 
-compared_inexact : (op : Operation) (a b : Value) → (is_exact a && is_exact b) ≡ false → compared op a b ≡ by_null op a b
-unfolding compared
+compared_inexact : (op : Operation) (a b : Value) → (is_exact a && is_exact b) ≡ false → values_compared op a b ≡ by_null op a b
+unfolding values_compared
 compared_inexact op (Number m) b h = refl
 compared_inexact op (Within p p1 p2) b h = refl
 compared_inexact op Unknown b h = refl
@@ -183,8 +183,8 @@ compared_inexact op (Function f) Unknown h = refl
 
 -- null beside what isn't
 
-compared_null : (c d : Value) → one_is_null c d ≡ true → compared o.Equal c d ≡ Number 0
-unfolding compared
+compared_null : (c d : Value) → one_is_null c d ≡ true → values_compared o.Equal c d ≡ Number 0
+unfolding values_compared
 compared_null (Number m) d h = rw h refl
 compared_null (Within p p1 p2) d h = rw h refl
 compared_null Unknown d h = rw h refl
@@ -205,8 +205,8 @@ never true false h = true≢false (sym h)
 never false true h = true≢false (sym h)
 never false false h = true≢false (sym h)
 
-combined_null : (kind : Kind) (c d : Value) → one_is_null c d ≡ true → combined o.Equal kind c d ≡ Ok (compared o.Equal c d)
-unfolding combined
+combined_null : (kind : Kind) (c d : Value) → one_is_null c d ≡ true → values_combined o.Equal kind c d ≡ Ok (values_compared o.Equal c d)
+unfolding values_combined
 combined_null kind (Number m) (Number n) h = absurd (never (m == 0) (n == 0) h)
 combined_null kind (Number m) (Pointer p k) h = refl
 combined_null kind (Number m) (Within p p1 p2) h = refl
@@ -222,8 +222,8 @@ combined_null kind Unknown d h = refl
 ok_same : (x y : Value) (r : Result Value Reason) → r ≡ Ok x → r ≡ Ok y → x ≡ y
 ok_same x y r g h = cc
 
-is_equal : (op : Operation) (kind : Kind) (c d y : Value) → is_equality op ≡ true → one_is_null c d ≡ true → combined op kind c d ≡ Ok y → Number 0 ≡ y
-is_equal o.Equal kind c d y e null k = sym (compared_null c d null) ∙ ok_same (compared o.Equal c d) y (combined o.Equal kind c d) (combined_null kind c d null) k
+is_equal : (op : Operation) (kind : Kind) (c d y : Value) → is_equality op ≡ true → one_is_null c d ≡ true → values_combined op kind c d ≡ Ok y → Number 0 ≡ y
+is_equal o.Equal kind c d y e null k = sym (compared_null c d null) ∙ ok_same (values_compared o.Equal c d) y (values_combined o.Equal kind c d) (combined_null kind c d null) k
 is_equal o.Add kind c d y e null k = absurd (true≢false (sym e))
 is_equal o.Subtract kind c d y e null k = absurd (true≢false (sym e))
 is_equal o.Multiply kind c d y e null k = absurd (true≢false (sym e))
@@ -237,36 +237,36 @@ is_equal o.ShiftRight kind c d y e null k = absurd (true≢false (sym e))
 is_equal o.Less kind c d y e null k = absurd (true≢false (sym e))
 is_equal o.LessOrEqual kind c d y e null k = absurd (true≢false (sym e))
 
-by_null_covers : (op : Operation) (kind : Kind) (a b c d y : Value) → Covers a c → Covers b d → combined op kind c d ≡ Ok y
+by_null_covers : (op : Operation) (kind : Kind) (a b c d y : Value) → Covers a c → Covers b d → values_combined op kind c d ≡ Ok y
     → (t : Bool) → (is_equality op && one_is_null a b) ≡ t → Covers (by_null op a b) y
 by_null_covers op kind a b c d y p q k true is =
     rw is (is_equal op kind c d y (left_of (is_equality op) (one_is_null a b) is) (null_covers a b c d p q (right_of (is_equality op) (one_is_null a b) is)) k)
 by_null_covers op kind a b c d y p q k false is = rw is tt
 
 by_default_covers : (op : Operation) (kind : Kind) (a b c d x y : Value) → Covers a c → Covers b d → (is_exact a && is_exact b) ≡ false → by_default op a b ≡ Ok x
-    → combined op kind c d ≡ Ok y → (t : Bool) → (vanishes op && (is_zero a || is_zero b)) ≡ t → Covers x y
+    → values_combined op kind c d ≡ Ok y → (t : Bool) → (vanishes op && (is_zero a || is_zero b)) ≡ t → Covers x y
 by_default_covers op kind a b c d x y p q inexact h k true is =
     let v = left_of (vanishes op) (is_zero a || is_zero b) is in
     let z = or_covers (is_zero a) (is_zero b) (is_zero c) (is_zero d) (zero_covers a c p) (zero_covers b d q) (right_of (vanishes op) (is_zero a || is_zero b) is) in
     let first : by_default op a b ≡ Ok (Number 0) = rw is refl in
-    covers_same x y (sym (ok_same (Number 0) x (by_default op a b) first h) ∙ ok_same (Number 0) y (combined op kind c d) (zero_op op kind c d v z) k)
+    covers_same x y (sym (ok_same (Number 0) x (by_default op a b) first h) ∙ ok_same (Number 0) y (values_combined op kind c d) (zero_op op kind c d v z) k)
 by_default_covers op kind a b c d x y p q inexact h k false is =
-    let first : by_default op a b ≡ Ok (compared op a b) = rw is refl in
-    let x_is : by_null op a b ≡ x = sym (compared_inexact op a b inexact) ∙ ok_same (compared op a b) x (by_default op a b) first h in
+    let first : by_default op a b ≡ Ok (values_compared op a b) = rw is refl in
+    let x_is : by_null op a b ≡ x = sym (compared_inexact op a b inexact) ∙ ok_same (values_compared op a b) x (by_default op a b) first h in
     subst (λ (v : Value). Covers v y) x_is (by_null_covers op kind a b c d y p q k (is_equality op && one_is_null a b) refl)
 
-by_exact : (op : Operation) (kind : Kind) (a b c d x y : Value) → Covers a c → Covers b d → combined op kind a b ≡ Ok x → combined op kind c d ≡ Ok y
+by_exact : (op : Operation) (kind : Kind) (a b c d x y : Value) → Covers a c → Covers b d → values_combined op kind a b ≡ Ok x → values_combined op kind c d ≡ Ok y
     → (t : Bool) → (is_exact a && is_exact b) ≡ t → Covers x y
 by_exact op kind a b c d x y p q h k true is =
     let first = same_if_exact a c (left_of (is_exact a) (is_exact b) is) p in
     let second = same_if_exact b d (right_of (is_exact a) (is_exact b) is) q in
-    let same : combined op kind a b ≡ combined op kind c d = ap (λ (v : Value). combined op kind v b) first ∙ ap (combined op kind c) second in
-    covers_same x y (ok_same x y (combined op kind a b) h (same ∙ k))
+    let same : values_combined op kind a b ≡ values_combined op kind c d = ap (λ (v : Value). values_combined op kind v b) first ∙ ap (values_combined op kind c) second in
+    covers_same x y (ok_same x y (values_combined op kind a b) h (same ∙ k))
 by_exact op kind a b c d x y p q h k false is =
     by_default_covers op kind a b c d x y p q is (sym (combined_inexact op kind a b is) ∙ h) k (vanishes op && (is_zero a || is_zero b)) refl
 
 pub operation_covers : (op : Operation) (kind : Kind) (a b c d x y : Value) → Covers a c → Covers b d
-    → combined op kind a b ≡ Ok x → combined op kind c d ≡ Ok y → Covers x y
+    → values_combined op kind a b ≡ Ok x → values_combined op kind c d ≡ Ok y → Covers x y
 operation_covers op kind a b c d x y p q h k = by_exact op kind a b c d x y p q h k (is_exact a && is_exact b) refl
 
 -- ---- the others
@@ -290,35 +290,35 @@ unknown_either : (b : Bool) (c : Value) → Covers (if b then Unknown else Unkno
 unknown_either true c = tt
 unknown_either false c = tt
 
-pub conversion_covers : (kind : Kind) (a c : Value) → Covers a c → Covers (converted kind a) (converted kind c)
-unfolding converted
-conversion_covers kind (Number n) c p = covers_same (converted kind (Number n)) (converted kind c) (ap (converted kind) p)
-conversion_covers kind (Pointer q k) c p = covers_same (converted kind (Pointer q k)) (converted kind c) (ap (converted kind) p)
-conversion_covers kind (Function f) c p = covers_same (converted kind (Function f)) (converted kind c) (ap (converted kind) p)
-conversion_covers kind Unknown c p = unknown_either (fits_pointer kind.width) (converted kind c)
+pub conversion_covers : (kind : Kind) (a c : Value) → Covers a c → Covers (value_converted kind a) (value_converted kind c)
+unfolding value_converted
+conversion_covers kind (Number n) c p = covers_same (value_converted kind (Number n)) (value_converted kind c) (ap (value_converted kind) p)
+conversion_covers kind (Pointer q k) c p = covers_same (value_converted kind (Pointer q k)) (value_converted kind c) (ap (value_converted kind) p)
+conversion_covers kind (Function f) c p = covers_same (value_converted kind (Function f)) (value_converted kind c) (ap (value_converted kind) p)
+conversion_covers kind Unknown c p = unknown_either (fits_pointer kind.width) (value_converted kind c)
 conversion_covers kind (Within q q1 q2) (Pointer r k) p = either (fits_pointer kind.width) (Within q q1 q2) (Pointer r k) p
 conversion_covers kind (Within q q1 q2) (Within r r1 r2) p = either (fits_pointer kind.width) (Within q q1 q2) (Within r r1 r2) p
 conversion_covers kind (Within q q1 q2) (Number n) p = absurd (within_number q q1 q2 n p)
 conversion_covers kind (Within q q1 q2) (Function f) p = absurd (within_function q q1 q2 f p)
 conversion_covers kind (Within q q1 q2) Unknown p = absurd (within_unknown q q1 q2 p)
 
-moved : (q q1 q2 k : ℕ) (d : Value) (stride cells : ℕ) → Covers (Within q q1 q2) (advanced (Pointer q k) d stride cells)
-unfolding advanced
+moved : (q q1 q2 k : ℕ) (d : Value) (stride cells : ℕ) → Covers (Within q q1 q2) (place_advanced (Pointer q k) d stride cells)
+unfolding place_advanced
 moved q q1 q2 k (Number n) stride cells = refl
 moved q q1 q2 k (Pointer r l) stride cells = refl
 moved q q1 q2 k (Within r r1 r2) stride cells = refl
 moved q q1 q2 k (Function f) stride cells = refl
 moved q q1 q2 k Unknown stride cells = refl
 
-moved_from : (q q1 q2 k : ℕ) (c d : Value) (stride cells : ℕ) → Pointer q k ≡ c → Covers (Within q q1 q2) (advanced c d stride cells)
-moved_from q q1 q2 k c d stride cells is = subst (λ (c : Value). Covers (Within q q1 q2) (advanced c d stride cells)) is (moved q q1 q2 k d stride cells)
+moved_from : (q q1 q2 k : ℕ) (c d : Value) (stride cells : ℕ) → Pointer q k ≡ c → Covers (Within q q1 q2) (place_advanced c d stride cells)
+moved_from q q1 q2 k c d stride cells is = subst (λ (c : Value). Covers (Within q q1 q2) (place_advanced c d stride cells)) is (moved q q1 q2 k d stride cells)
 
-exact_move : (a b c d : Value) (stride cells : ℕ) → a ≡ c → b ≡ d → Covers (advanced a b stride cells) (advanced c d stride cells)
+exact_move : (a b c d : Value) (stride cells : ℕ) → a ≡ c → b ≡ d → Covers (place_advanced a b stride cells) (place_advanced c d stride cells)
 exact_move a b c d stride cells p q =
-    covers_same (advanced a b stride cells) (advanced c d stride cells) (ap (λ (v : Value). advanced v b stride cells) p ∙ ap (λ (v : Value). advanced c v stride cells) q)
+    covers_same (place_advanced a b stride cells) (place_advanced c d stride cells) (ap (λ (v : Value). place_advanced v b stride cells) p ∙ ap (λ (v : Value). place_advanced c v stride cells) q)
 
-pub advance_covers : (a b c d : Value) (stride cells : ℕ) → Covers a c → Covers b d → Covers (advanced a b stride cells) (advanced c d stride cells)
-unfolding advanced
+pub advance_covers : (a b c d : Value) (stride cells : ℕ) → Covers a c → Covers b d → Covers (place_advanced a b stride cells) (place_advanced c d stride cells)
+unfolding place_advanced
 advance_covers Unknown b c d stride cells p q = tt
 advance_covers (Function f) b c d stride cells p q = tt
 advance_covers (Number m) (Number n) c d stride cells p q = exact_move (Number m) (Number n) c d stride cells p q
@@ -331,7 +331,7 @@ advance_covers (Pointer o k) (Pointer r l) c d stride cells p q = moved_from o k
 advance_covers (Pointer o k) (Within r r1 r2) c d stride cells p q = moved_from o k cells k c d stride cells p
 advance_covers (Pointer o k) (Function f) c d stride cells p q = moved_from o k cells k c d stride cells p
 advance_covers (Pointer o k) Unknown c d stride cells p q = moved_from o k cells k c d stride cells p
-advance_covers (Within o o1 o2) b (Pointer r k) d stride cells p q = subst (λ (x : ℕ). Covers (Within x o1 o2) (advanced (Pointer r k) d stride cells)) (sym p) (moved r o1 o2 k d stride cells)
+advance_covers (Within o o1 o2) b (Pointer r k) d stride cells p q = subst (λ (x : ℕ). Covers (Within x o1 o2) (place_advanced (Pointer r k) d stride cells)) (sym p) (moved r o1 o2 k d stride cells)
 advance_covers (Within o o1 o2) b (Within r r1 r2) d stride cells p q = p
 advance_covers (Within o o1 o2) b (Number n) d stride cells p q = absurd (within_number o o1 o2 n p)
 advance_covers (Within o o1 o2) b (Function f) d stride cells p q = absurd (within_function o o1 o2 f p)

@@ -7,7 +7,7 @@ use Rattle.ot_model.specs.declared.stmt.Use.{Use}
 use Rattle.ot_model.specs.Cells.{is_before, same_cell, Precedes, AreInOrder}
 use Rattle.ot_model.proofs.OrderLemmas.{precedes_from_before}
 use Rattle.ot_parts.specs.Modes.{use_as}
-use Rattle.ot_exec_state.specs.Clauses.{both, before, with_use, placed}
+use Rattle.ot_exec_state.specs.Clauses.{both, before, with_use, use_placed}
 use Rattle.ot_exec_state.specs.Results.{Gives}
 use Rattle.ot_exec_state.specs.declared.fault.Halt.{Halt}
 use Rattle.ot_exec_state.specs.declared.fault.Reason.{Reason}
@@ -47,24 +47,24 @@ order_kept u (v ∷ vs) order = at_front u v vs order (is_before v.cell u.cell) 
 -- ---- by its place
 
 at_front_place : (u v : Use) (vs : List Use) (s : Bool) → same_cell v.cell u.cell ≡ s
-    → (if same_cell v.cell u.cell then use_as (both v.mode u.mode) v.cell ∷ vs else u ∷ v ∷ vs) ≡ placed u (v ∷ vs) 0 (Some v)
+    → (if same_cell v.cell u.cell then use_as (both v.mode u.mode) v.cell ∷ vs else u ∷ v ∷ vs) ≡ use_placed u (v ∷ vs) 0 (Some v)
 at_front_place u v vs true is = rw is refl
 at_front_place u v vs false is = rw is refl
 
-one_later : (u v : Use) (vs : List Use) (n : ℕ) (found : Option Use) → v ∷ placed u vs n found ≡ placed u (v ∷ vs) (suc n) found
+one_later : (u v : Use) (vs : List Use) (n : ℕ) (found : Option Use) → v ∷ use_placed u vs n found ≡ use_placed u (v ∷ vs) (suc n) found
 one_later u v vs n None = refl
 one_later u v vs n (Some w) = by_test (same_cell w.cell u.cell) refl
   where
-    by_test : (s : Bool) → same_cell w.cell u.cell ≡ s → v ∷ placed u vs n (Some w) ≡ placed u (v ∷ vs) (suc n) (Some w)
+    by_test : (s : Bool) → same_cell w.cell u.cell ≡ s → v ∷ use_placed u vs n (Some w) ≡ use_placed u (v ∷ vs) (suc n) (Some w)
     by_test true is = rw is refl
     by_test false is = rw is refl
 
-by_place_at : (u v : Use) (vs : List Use) (b : Bool) → is_before v.cell u.cell ≡ b → with_use u vs ≡ placed u vs (before u.cell vs) (slice_get vs (before u.cell vs))
-    → with_use u (v ∷ vs) ≡ placed u (v ∷ vs) (before u.cell (v ∷ vs)) (slice_get (v ∷ vs) (before u.cell (v ∷ vs)))
+by_place_at : (u v : Use) (vs : List Use) (b : Bool) → is_before v.cell u.cell ≡ b → with_use u vs ≡ use_placed u vs (before u.cell vs) (slice_get vs (before u.cell vs))
+    → with_use u (v ∷ vs) ≡ use_placed u (v ∷ vs) (before u.cell (v ∷ vs)) (slice_get (v ∷ vs) (before u.cell (v ∷ vs)))
 by_place_at u v vs true is ih = rw is (ap (λ ws. v ∷ ws) ih ∙ one_later u v vs (before u.cell vs) (slice_get vs (before u.cell vs)))
 by_place_at u v vs false is ih = rw is (at_front_place u v vs (same_cell v.cell u.cell) refl)
 
-pub by_place : (u : Use) (us : List Use) → with_use u us ≡ placed u us (before u.cell us) (slice_get us (before u.cell us))
+pub by_place : (u : Use) (us : List Use) → with_use u us ≡ use_placed u us (before u.cell us) (slice_get us (before u.cell us))
 by_place u [] = refl
 by_place u (v ∷ vs) = by_place_at u v vs (is_before v.cell u.cell) refl (by_place u vs)
 

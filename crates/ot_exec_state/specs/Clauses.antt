@@ -14,8 +14,8 @@ use Rattle.ot_exec_state.specs.Results.{◌>>=◌, each}
 use Rattle.ot_exec_state.specs.Memory.{Memory, cell, span_at}
 use Rattle.ot_exec_state.specs.Nest.{part}
 use Rattle.ot_exec_state.specs.Siblings.{told_mode}
-use Rattle.ot_exec_state.specs.Slots.{Slots, read}
-use Rattle.ot_exec_state.specs.Values.{number}
+use Rattle.ot_exec_state.specs.Slots.{Slots, slot_read}
+use Rattle.ot_exec_state.specs.Values.{number_or}
 use Rattle.ot_exec_state.specs.declared.fault.Reason.{Reason}
 use Rattle.ot_exec_state.specs.declared.fault.Reason.TheVariants.{Outside, TooManyItems, UnknownLength}
 use Rattle.ot_exec_state.specs.declared.limits.Limits.{Limits}
@@ -41,9 +41,9 @@ before c [] = 0
 before c (v ∷ vs) = if is_before v.cell c then suc (before c vs) else 0
 
 -- a declaration with one use more, before which so many stand, where this one may be of its cell
-abbrev pub placed : Use → List Use → ℕ → Option Use → List Use
-placed u us n None = insert us n u
-placed u us n (Some v) = if same_cell v.cell u.cell then slice_set us n (use_as (both v.mode u.mode) v.cell) else insert us n u
+abbrev pub use_placed : Use → List Use → ℕ → Option Use → List Use
+use_placed u us n None = insert us n u
+use_placed u us n (Some v) = if same_cell v.cell u.cell then slice_set us n (use_as (both v.mode u.mode) v.cell) else insert us n u
 
 -- a declaration with an item more that begins at this cell. One that begins outside of its object is none: no cell is there
 abbrev pub with_item_at : Option ℕ → List Siblings → Depends → List Use → Result Span Reason → Result (List Use) Reason
@@ -54,20 +54,20 @@ with_item_at waits ss mode us (Err r) = Err r
 -- a declaration with one item more, the cell where it begins: of a wait by this task behind these siblings, or of a task
 unfoldable pub with_item : Slots → Memory → Option ℕ → List Siblings → Item → List Use → Result (List Use) Reason
 with_item s m waits ss i us = do
-  p ← read s i.slot
+  p ← slot_read s i.slot
   with_item_at waits ss i.mode us (span_at m p 1)
 
 unfoldable pub items_of : Limits → Slots → Memory → Option ℕ → List Siblings → List Item → Result (List Use) Reason
 items_of l s m waits ss is = if nat_le (length is) l.items then each (with_item s m waits ss) is [] else Err TooManyItems
 
 -- an item more of a region's reductions, with its cells
-unfoldable pub with_part : Slots → Memory → Folded → List Part → Result (List Part) Reason
-with_part s m x ps = do
-  p ← read s x.slot
-  v ← read s x.count
-  n ← number UnknownLength v
+unfoldable pub with_reduced : Slots → Memory → Folded → List Part → Result (List Part) Reason
+with_reduced s m x ps = do
+  p ← slot_read s x.slot
+  v ← slot_read s x.count
+  n ← number_or UnknownLength v
   c ← span_at m p n
   Ok (ps ++ part x.fold c ∷ [])
 
-unfoldable pub parts_of : Limits → Slots → Memory → List Folded → Result (List Part) Reason
-parts_of l s m xs = if nat_le (length xs) l.items then each (with_part s m) xs [] else Err TooManyItems
+unfoldable pub reduced_parts : Limits → Slots → Memory → List Folded → Result (List Part) Reason
+reduced_parts l s m xs = if nat_le (length xs) l.items then each (with_reduced s m) xs [] else Err TooManyItems

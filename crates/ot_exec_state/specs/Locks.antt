@@ -26,10 +26,10 @@ no_locks = locks [] ([] ∷ []) 0 []
 
 -- ---- what names a lock
 
-unfoldable pub named : Value → Result Lock Reason
-named (Number n) = if n == 0 then Err Null else Ok (ByNumber n)
-named (Pointer o k) = Ok (ByPlace o k)
-named _ = Err NoPlace
+unfoldable pub lock_named : Value → Result Lock Reason
+lock_named (Number n) = if n == 0 then Err Null else Ok (ByNumber n)
+lock_named (Pointer o k) = Ok (ByPlace o k)
+lock_named _ = Err NoPlace
 
 abbrev pub same_lock : Lock → Lock → Bool
 same_lock (ByNumber a) (ByNumber b) = a == b
@@ -46,13 +46,13 @@ lock_place x (y ∷ ys) = if same_lock y x then 0 else suc (lock_place x ys)
 abbrev pub with_lock : Lock → Locks → Locks
 with_lock x s = if nat_lt (lock_place x s.known) (length s.known) then s else locks (s.known ++ x ∷ []) s.sets s.held s.taken
 
-unfoldable pub numbered : Limits → Lock → Locks → Result (ℕ × Locks) Reason
-numbered l x s = if nat_lt (lock_place x s.known) l.locks then Ok (lock_place x s.known, with_lock x s) else Err TooManyLocks
+unfoldable pub lock_numbered : Limits → Lock → Locks → Result (ℕ × Locks) Reason
+lock_numbered l x s = if nat_lt (lock_place x s.known) l.locks then Ok (lock_place x s.known, with_lock x s) else Err TooManyLocks
 
 -- ---- sets of numbers
 
-abbrev pub has : ℕ → List ℕ → Bool
-has n ns = list_any (λ m. m == n) ns
+abbrev pub holds_number : ℕ → List ℕ → Bool
+holds_number n ns = list_any (λ m. m == n) ns
 
 abbrev pub without : ℕ → List ℕ → List ℕ
 without n ns = filter (λ m. not (m == n)) ns
@@ -82,8 +82,8 @@ holding l ns s =
 -- a lock more in a set that no task holds yet
 unfoldable pub adding : Limits → Lock → List ℕ → Locks → Result (List ℕ × Locks) Reason
 adding l x ns s = do
-  n ← numbered l x s
-  Ok (if has n.0 ns then ns else ns ++ n.0 ∷ [], n.1)
+  n ← lock_numbered l x s
+  Ok (if holds_number n.0 ns then ns else ns ++ n.0 ∷ [], n.1)
 
 -- it goes on with the set of this number
 abbrev pub with_held : ℕ → Locks → Locks
@@ -97,13 +97,13 @@ with_taken ns s = locks s.known s.sets s.held ns
 -- it takes a lock that no task holds
 unfoldable pub taking : Limits → Value → Locks → Result Locks Reason
 taking l v s = do
-  x ← named v
-  n ← numbered l x s
-  if has n.0 n.1.taken then Err Taken else holding l (own n.1 ++ n.0 ∷ []) (with_taken (n.1.taken ++ n.0 ∷ []) n.1)
+  x ← lock_named v
+  n ← lock_numbered l x s
+  if holds_number n.0 n.1.taken then Err Taken else holding l (own n.1 ++ n.0 ∷ []) (with_taken (n.1.taken ++ n.0 ∷ []) n.1)
 
 -- it gives back one that it holds
 unfoldable pub giving_back : Limits → Value → Locks → Result Locks Reason
 giving_back l v s = do
-  x ← named v
-  n ← numbered l x s
-  if has n.0 (own n.1) then holding l (without n.0 (own n.1)) (with_taken (without n.0 n.1.taken) n.1) else Err NotHeld
+  x ← lock_named v
+  n ← lock_numbered l x s
+  if holds_number n.0 (own n.1) then holding l (without n.0 (own n.1)) (with_taken (without n.0 n.1.taken) n.1) else Err NotHeld

@@ -5,7 +5,7 @@ use Rattle.ot_model.specs.declared.expr.Cell.{Cell}
 use Rattle.ot_model.specs.declared.stmt.Mode.{Mode}
 use Rattle.ot_model.specs.declared.stmt.Use.{Use}
 use Rattle.ot_parts.specs.Modes.{use_as}
-use Rattle.ot_exec_state.specs.Results.{◌>>=◌, found}
+use Rattle.ot_exec_state.specs.Results.{◌>>=◌, found_or}
 use Rattle.ot_exec_state.specs.declared.fault.Reason.{Reason}
 use Rattle.ot_exec_state.specs.declared.fault.Reason.TheVariants.{Broken, Null, NoPlace, Outside, Ended, TooMuch}
 use Rattle.ot_exec_state.specs.declared.limits.Limits.{Limits}
@@ -52,7 +52,7 @@ object_of Unknown = Err NoPlace
 -- which may not have ended
 unfoldable pub alive : Memory → ℕ → Result Object Reason
 alive m o = do
-  x ← found Broken (slice_get m.objects o)
+  x ← found_or Broken (slice_get m.objects o)
   if x.ended then Err Ended else Ok x
 
 unfoldable pub inside : Memory → ℕ → ℕ → ℕ → Result Span Reason
@@ -60,23 +60,23 @@ inside m o k count = do
   x ← alive m o
   if nat_le (k + count) x.length then Ok (span o x.start k (k + count)) else Err Outside
 
-unfoldable pub whole : Memory → Value → Result Span Reason
-whole m v = do
+unfoldable pub whole_object : Memory → Value → Result Span Reason
+whole_object m v = do
   o ← object_of v
   x ← alive m o
   Ok (span o x.start 0 x.length)
 
 -- so many cells from one on, where the object has them, and else all of its cells
-unfoldable pub among : Memory → ℕ → ℕ → ℕ → Result Span Reason
-among m o f n = do
+unfoldable pub span_among : Memory → ℕ → ℕ → ℕ → Result Span Reason
+span_among m o f n = do
   x ← alive m o
   if nat_lt 0 n && nat_le (f + n) x.length then Ok (span o x.start f (f + n)) else Ok (span o x.start 0 x.length)
 
 -- so many cells from there on; where the index isn't known they are all cells among which it is
 unfoldable pub span_of : Memory → Value → ℕ → Result Span Reason
 span_of m (Pointer o k) count = inside m o k count
-span_of m (Within o f n) count = among m o f n
-span_of m v count = whole m v
+span_of m (Within o f n) count = span_among m o f n
+span_of m v count = whole_object m v
 
 -- the same of a place that is known
 unfoldable pub span_at : Memory → Value → ℕ → Result Span Reason
@@ -86,32 +86,32 @@ span_at m v count = span_of m v count
 -- ---- what happens to it
 
 -- the value that is read there
-unfoldable pub taken : Memory → Value → Span → Result Value Reason
-taken m (Pointer o k) s = found Broken (slice_get m.members (s.start + s.index))
-taken m v s = Ok Unknown
+unfoldable pub value_taken : Memory → Value → Span → Result Value Reason
+value_taken m (Pointer o k) s = found_or Broken (slice_get m.members (s.start + s.index))
+value_taken m v s = Ok Unknown
 
 -- what is kept there of a value that is written: nothing where the place isn't known
-abbrev pub kept : Value → Value → Value
-kept (Pointer o k) x = x
-kept place x = Unknown
+abbrev pub kept_value : Value → Value → Value
+kept_value (Pointer o k) x = x
+kept_value place x = Unknown
 
 -- each cell of these has this value
-unfoldable pub filled : Memory → Span → Value → Result Memory Reason
-filled m s x =
+unfoldable pub cells_filled : Memory → Span → Value → Result Memory Reason
+cells_filled m s x =
     if nat_le s.index s.end && nat_le (s.start + s.end) (length m.members)
     then Ok (memory m.objects (take (s.start + s.index) m.members ++ replicate (count_of s) x ++ drop (s.start + s.end) m.members))
     else Err Broken
 
 -- a new object of so many cells with this value
-unfoldable pub begun : Limits → ℕ → Value → ℕ → Memory → Result (ℕ × Memory) Reason
-begun l count x name m =
+unfoldable pub object_new : Limits → ℕ → Value → ℕ → Memory → Result (ℕ × Memory) Reason
+object_new l count x name m =
     if nat_lt (length m.objects) l.objects && nat_le (length m.members + count) l.members
     then Ok (length m.objects, memory (m.objects ++ object (length m.members) count false name ∷ []) (m.members ++ replicate count x))
     else Err TooMuch
 
 -- an object ends: all its cells
-unfoldable pub finished : Memory → Value → Result (Span × Memory) Reason
-finished m v = do
+unfoldable pub object_finished : Memory → Value → Result (Span × Memory) Reason
+object_finished m v = do
   o ← object_of v
   x ← alive m o
   Ok (span o x.start 0 x.length, memory (slice_set m.objects o (object x.start x.length true x.name)) m.members)

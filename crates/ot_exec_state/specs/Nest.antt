@@ -3,7 +3,7 @@ use Rattle.std.specs.Prelude.{ℕ, ◌+◌, ◌-◌, ◌++◌, ◌==◌, nat_lt,
 use Rattle.std.specs.List.{list_any}
 use Rattle.ot_model.specs.Cells.{same_fold}
 use Rattle.ot_model.specs.declared.fold.Fold.{Fold}
-use Rattle.ot_exec_state.specs.Results.{◌>>=◌, found}
+use Rattle.ot_exec_state.specs.Results.{◌>>=◌, found_or}
 use Rattle.ot_exec_state.specs.declared.fault.Reason.{Reason}
 use Rattle.ot_exec_state.specs.declared.fault.Reason.TheVariants.{Broken, TooDeep}
 use Rattle.ot_exec_state.specs.declared.limits.Limits.{Limits}
@@ -35,22 +35,22 @@ group start parts = record { start = start; parts = parts }
 abbrev pub part : Fold → Span → Part
 part fold span = record { fold = fold; span = span }
 
-abbrev pub last_of : {A : Type 0} → List A → Option A
-last_of xs = slice_get xs (length xs - 1)
+abbrev pub last_item : {A : Type 0} → List A → Option A
+last_item xs = slice_get xs (length xs - 1)
 
 -- a call or a task begins
-unfoldable pub opened : Limits → Frame → Nest → Result Nest Reason
-opened l f n = if nat_lt (length n.frames) l.open then Ok (nest (n.frames ++ f ∷ []) n.groups n.parts) else Err TooDeep
+unfoldable pub frame_opened : Limits → Frame → Nest → Result Nest Reason
+frame_opened l f n = if nat_lt (length n.frames) l.open then Ok (nest (n.frames ++ f ∷ []) n.groups n.parts) else Err TooDeep
 
 -- it ends, with as many regions open as at its beginning
-unfoldable pub closed : Nest → Result (Frame × Nest) Reason
-closed n = do
-  f ← found Broken (last_of n.frames)
+unfoldable pub frame_closed : Nest → Result (Frame × Nest) Reason
+frame_closed n = do
+  f ← found_or Broken (last_item n.frames)
   if f.groups == length n.groups then Ok (f, nest (take (length n.frames - 1) n.frames) n.groups n.parts) else Err Broken
 
 -- a region begins behind so many events, with these items
-unfoldable pub grouped : Limits → ℕ → List Part → Nest → Result Nest Reason
-grouped l start ps n =
+unfoldable pub region_begun : Limits → ℕ → List Part → Nest → Result Nest Reason
+region_begun l start ps n =
     if nat_lt (length n.groups) l.open && nat_le (length n.parts + length ps) l.items
     then Ok (nest n.frames (n.groups ++ group start (length n.parts) ∷ []) (n.parts ++ ps))
     else Err TooDeep
@@ -61,9 +61,9 @@ groups_before (Some f) = f.groups
 groups_before None = 0
 
 -- a region ends that what runs has begun: before it there were so many events, and its items are these
-unfoldable pub ungrouped : Nest → Result ((ℕ × List Part) × Nest) Reason
-ungrouped n = do
-  g ← if nat_lt (groups_before (last_of n.frames)) (length n.groups) then found Broken (last_of n.groups) else Err Broken
+unfoldable pub region_closed : Nest → Result ((ℕ × List Part) × Nest) Reason
+region_closed n = do
+  g ← if nat_lt (groups_before (last_item n.frames)) (length n.groups) then found_or Broken (last_item n.groups) else Err Broken
   Ok ((g.start, drop g.parts n.parts), nest n.frames (take (length n.groups - 1) n.groups) (take g.parts n.parts))
 
 -- whether the cell where this begins is one of an item, by this operation

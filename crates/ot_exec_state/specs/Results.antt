@@ -10,9 +10,9 @@ abbrev pub ◌>>=◌ : {A B : Type 0} → Result A Reason → (A → Result B Re
 (Err r) >>= f = Err r
 
 -- what is there, or else this is the reason
-abbrev pub found : {A : Type 0} → Reason → Option A → Result A Reason
-found r (Some x) = Ok x
-found r None = Err r
+abbrev pub found_or : {A : Type 0} → Reason → Option A → Result A Reason
+found_or r (Some x) = Ok x
+found_or r None = Err r
 
 -- one after the other
 unfoldable pub each : {A B : Type 0} → (A → B → Result B Reason) → List A → B → Result B Reason

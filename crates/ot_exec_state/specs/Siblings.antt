@@ -20,19 +20,19 @@ abbrev pub are_of : ℕ → Cell → Siblings → Bool
 are_of task c s = s.task == task && same_cell s.cell c
 
 -- how those depend that stand last there, in no order
-abbrev pub mode_at : ℕ → Cell → List Siblings → Option Depends
-mode_at task c [] = None
-mode_at task c (s ∷ ss) = if are_of task c s then Some s.mode else mode_at task c ss
+abbrev pub unordered_mode : ℕ → Cell → List Siblings → Option Depends
+unordered_mode task c [] = None
+unordered_mode task c (s ∷ ss) = if are_of task c s then Some s.mode else unordered_mode task c ss
 
 -- whether one that depends so begins such siblings, or stands behind them
-abbrev pub turns : Depends → Option Depends → Bool
-turns In None = false
-turns In (Some m) = true
-turns InOut m = false
-turns MutexInOutSet (Some MutexInOutSet) = false
-turns MutexInOutSet m = true
-turns InOutSet (Some InOutSet) = false
-turns InOutSet m = true
+abbrev pub begins_siblings : Depends → Option Depends → Bool
+begins_siblings In None = false
+begins_siblings In (Some m) = true
+begins_siblings InOut m = false
+begins_siblings MutexInOutSet (Some MutexInOutSet) = false
+begins_siblings MutexInOutSet m = true
+begins_siblings InOutSet (Some InOutSet) = false
+begins_siblings InOutSet m = true
 
 -- how an item is told by what a task declares
 abbrev pub mode_of : Depends → Mode
@@ -44,7 +44,7 @@ mode_of InOutSet = Reads
 -- the same of a wait by this task, which no empty sibling stands before
 abbrev pub told_mode : Option ℕ → Cell → List Siblings → Depends → Mode
 told_mode None c ss mode = mode_of mode
-told_mode (Some task) c ss mode = if turns mode (mode_at task c ss) then Writes else mode_of mode
+told_mode (Some task) c ss mode = if begins_siblings mode (unordered_mode task c ss) then Writes else mode_of mode
 
 -- ---- behind one that depends so
 
@@ -57,7 +57,7 @@ are_in_no_order InOutSet = true
 abbrev pub others : ℕ → Cell → List Siblings → List Siblings
 others task c ss = filter (λ s. not (are_of task c s)) ss
 
-unfoldable pub behind : Limits → ℕ → Cell → Depends → List Siblings → Result (List Siblings) Reason
-behind l task c mode ss =
+unfoldable pub siblings_behind : Limits → ℕ → Cell → Depends → List Siblings → Result (List Siblings) Reason
+siblings_behind l task c mode ss =
     if not (are_in_no_order mode) then Ok (others task c ss)
     else (if nat_lt (length (others task c ss)) l.open then Ok (others task c ss ++ siblings task c mode ∷ []) else Err TooManyItems)

@@ -1,6 +1,6 @@
 -- Slots: those of all calls and tasks that are open, in one list. Each has its own from its base on.
 use Rattle.std.specs.Prelude.{ℕ, ◌+◌, ◌-◌, ◌++◌, Bool, false, nat_lt, nat_le, List, length, replicate, slice_get, slice_set, if◌then◌else◌, Result, Ok, Err}
-use Rattle.ot_exec_state.specs.Results.{found}
+use Rattle.ot_exec_state.specs.Results.{found_or}
 use Rattle.ot_exec_state.specs.Values.{is_unknown}
 use Rattle.ot_exec_state.specs.declared.fault.Reason.{Reason}
 use Rattle.ot_exec_state.specs.declared.fault.Reason.TheVariants.{Broken, TooDeep}
@@ -15,16 +15,16 @@ pub record Slots : Type 0 where
 abbrev pub slots : ℕ → List Value → Slots
 slots base values = record { base = base; values = values }
 
-unfoldable pub read : Slots → ℕ → Result Value Reason
-read s r = found Broken (slice_get s.values (s.base + r))
+unfoldable pub slot_read : Slots → ℕ → Result Value Reason
+slot_read s r = found_or Broken (slice_get s.values (s.base + r))
 
 -- whether there is a value that isn't known
 abbrev pub is_question : Result Value Reason → Bool
 is_question (Ok x) = is_unknown x
 is_question (Err r) = false
 
-unfoldable pub put : Slots → ℕ → Value → Result Slots Reason
-put s r x = if nat_lt (s.base + r) (length s.values) then Ok (slots s.base (slice_set s.values (s.base + r) x)) else Err Broken
+unfoldable pub slot_put : Slots → ℕ → Value → Result Slots Reason
+slot_put s r x = if nat_lt (s.base + r) (length s.values) then Ok (slots s.base (slice_set s.values (s.base + r) x)) else Err Broken
 
 -- The slots from the first one on become those of a call or a task, so many. Those that weren't there are unknown
 unfoldable pub enter : Limits → Slots → ℕ → ℕ → Result Slots Reason

@@ -38,17 +38,17 @@ abbrev pub row : ℕ → ℕ → Row
 row site context = record { site = site; context = context }
 
 -- how many cells a deed names
-abbrev pub weight : Deed → ℕ
-weight Touches = 0
-weight (Begins parent d) = length d
-weight (Awaits None) = 0
-weight (Awaits (Some d)) = length d
-weight (Leaves count) = 0
+abbrev pub deed_weight : Deed → ℕ
+deed_weight Touches = 0
+deed_weight (Begins parent d) = length d
+deed_weight (Awaits None) = 0
+deed_weight (Awaits (Some d)) = length d
+deed_weight (Leaves count) = 0
 
 -- an event at this site that holds the set of locks of this number, whose place is its row
 unfoldable pub note : Limits → ℕ → ℕ → Deed → List Use → Trail → Result Trail Reason
 note l site set deed uses t =
-    let touches = t.touches + weight deed + length uses in
+    let touches = t.touches + deed_weight deed + length uses in
     if nat_lt (length t.rows) l.events && nat_le touches l.touches
     then Ok (trail t.task t.context t.contexts (t.rows ++ row site t.context ∷ []) (t.held ++ set ∷ [])
     (t.log ++ event t.task (length t.rows) deed uses ∷ []) touches)
@@ -59,8 +59,8 @@ unfoldable pub touch : Limits → ℕ → ℕ → Mode → Span → Trail → Re
 touch l site set mode s t = if nat_le (t.touches + count_of s) l.touches then note l site set Touches (uses_of mode s) t else Err TooManyEvents
 
 -- so many are written that only the task sees
-unfoldable pub charged : Limits → ℕ → Trail → Result Trail Reason
-charged l count t = if nat_le (t.touches + count) l.touches then Ok (trail t.task t.context t.contexts t.rows t.held t.log (t.touches + count)) else Err TooManyEvents
+unfoldable pub touches_charged : Limits → ℕ → Trail → Result Trail Reason
+touches_charged l count t = if nat_le (t.touches + count) l.touches then Ok (trail t.task t.context t.contexts t.rows t.held t.log (t.touches + count)) else Err TooManyEvents
 
 -- the cells of items, written
 abbrev pub written_by : List Part → List Use

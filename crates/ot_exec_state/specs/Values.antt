@@ -16,9 +16,9 @@ is_unknown Unknown = true
 is_unknown _ = false
 
 -- the number that it is, or else this is the reason
-abbrev pub number : Reason → Value → Result ℕ Reason
-number r (Number n) = Ok n
-number r _ = Err r
+abbrev pub number_or : Reason → Value → Result ℕ Reason
+number_or r (Number n) = Ok n
+number_or r _ = Err r
 
 -- whether a condition is so; of a value that isn't known the answer says it
 abbrev pub is_so : Value → Bool → Bool
@@ -50,24 +50,24 @@ vanishes ops.And = true
 vanishes _ = false
 
 -- a result of arithmetic, where there is none
-abbrev pub without : Operation → Result Value Reason
-without ops.Divide = Err DivideByZero
-without ops.Remainder = Err DivideByZero
-without _ = Ok Unknown
+abbrev pub no_result : Operation → Result Value Reason
+no_result ops.Divide = Err DivideByZero
+no_result ops.Remainder = Err DivideByZero
+no_result _ = Ok Unknown
 
 abbrev pub of_numbers : Operation → Option ℕ → Result Value Reason
 of_numbers op (Some n) = Ok (Number n)
-of_numbers op None = without op
+of_numbers op None = no_result op
 
-abbrev pub known : Option ℕ → Value
-known (Some n) = Number n
-known None = Unknown
+abbrev pub value_known : Option ℕ → Value
+value_known (Some n) = Number n
+value_known None = Unknown
 
 -- two places, of one object or not, at these indexes
 unfoldable pub compared_places : Operation → Bool → ℕ → ℕ → Value
 compared_places ops.Equal same k l = Number (truth (same && k == l))
-compared_places ops.Less true k l = known (operated ops.Less index_kind k l)
-compared_places ops.LessOrEqual true k l = known (operated ops.LessOrEqual index_kind k l)
+compared_places ops.Less true k l = value_known (operated ops.Less index_kind k l)
+compared_places ops.LessOrEqual true k l = value_known (operated ops.LessOrEqual index_kind k l)
 compared_places _ same k l = Unknown
 
 abbrev pub is_equality : Operation → Bool
@@ -78,33 +78,33 @@ is_equality _ = false
 abbrev pub one_is_null : Value → Value → Bool
 one_is_null a b = is_zero a && is_somewhere b || is_zero b && is_somewhere a
 
-unfoldable pub compared : Operation → Value → Value → Value
-compared op (Pointer o k) (Pointer p l) = compared_places op (o == p) k l
-compared op (Function f) (Function g) = if is_equality op then Number (truth (f == g)) else Unknown
-compared op a b = if is_equality op && one_is_null a b then Number 0 else Unknown
+unfoldable pub values_compared : Operation → Value → Value → Value
+values_compared op (Pointer o k) (Pointer p l) = compared_places op (o == p) k l
+values_compared op (Function f) (Function g) = if is_equality op then Number (truth (f == g)) else Unknown
+values_compared op a b = if is_equality op && one_is_null a b then Number 0 else Unknown
 
-unfoldable pub combined : Operation → Kind → Value → Value → Result Value Reason
-combined op kind (Number a) (Number b) = of_numbers op (operated op kind a b)
-combined op kind a b = if vanishes op && (is_zero a || is_zero b) then Ok (Number 0) else Ok (compared op a b)
+unfoldable pub values_combined : Operation → Kind → Value → Value → Result Value Reason
+values_combined op kind (Number a) (Number b) = of_numbers op (operated op kind a b)
+values_combined op kind a b = if vanishes op && (is_zero a || is_zero b) then Ok (Number 0) else Ok (values_compared op a b)
 
 -- a conversion of a pointer keeps it where it fits
 abbrev pub fits_pointer : Width → Bool
 fits_pointer Bits64 = true
 fits_pointer _ = false
 
-unfoldable pub converted : Kind → Value → Value
-converted kind (Number n) = Number (narrow kind n)
-converted kind a = if fits_pointer kind.width then a else Unknown
+unfoldable pub value_converted : Kind → Value → Value
+value_converted kind (Number n) = Number (narrow kind n)
+value_converted kind a = if fits_pointer kind.width then a else Unknown
 
 -- so many elements of this many cells from there, where an array of so many cells begins; 0 where it isn't known how many
-unfoldable pub advanced : Value → Value → (stride cells : ℕ) → Value
-advanced (Pointer o k) (Number n) stride cells = Pointer o ((k + (n * stride) % 2 ^ 64) % 2 ^ 64)
-advanced (Pointer o k) n stride cells = Within o k cells
-advanced (Within o f m) n stride cells = Within o f m
-advanced (Number p) (Number n) stride cells = if p == 0 && n == 0 then Number 0 else Unknown
-advanced place n stride cells = Unknown
+unfoldable pub place_advanced : Value → Value → (stride cells : ℕ) → Value
+place_advanced (Pointer o k) (Number n) stride cells = Pointer o ((k + (n * stride) % 2 ^ 64) % 2 ^ 64)
+place_advanced (Pointer o k) n stride cells = Within o k cells
+place_advanced (Within o f m) n stride cells = Within o f m
+place_advanced (Number p) (Number n) stride cells = if p == 0 && n == 0 then Number 0 else Unknown
+place_advanced place n stride cells = Unknown
 
 -- and how many lie between
 unfoldable pub distance : Value → Value → ℕ → Value
-distance (Pointer o k) (Pointer p l) stride = if o == p then known (operated ops.Divide index_kind ((2 ^ 64 + k - l) % 2 ^ 64) stride) else Unknown
+distance (Pointer o k) (Pointer p l) stride = if o == p then value_known (operated ops.Divide index_kind ((2 ^ 64 + k - l) % 2 ^ 64) stride) else Unknown
 distance a b stride = Unknown

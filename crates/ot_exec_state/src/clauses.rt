@@ -3,7 +3,7 @@ ghost use Rattle.std.specs.Prelude.{◌≡◌, ◌≤◌, length, Ok, IfOk};
 ghost use Rattle.ot_model.specs.Cells.{AreInOrder};
 ghost use Rattle.ot_exec_state.specs.Results.{Gives, each};
 ghost use Rattle.ot_exec_state.specs.View.{slots_of, memory_of};
-ghost use Rattle.ot_exec_state.specs.Clauses.{both, before, with_use, with_item, items_of, with_part, parts_of};
+ghost use Rattle.ot_exec_state.specs.Clauses.{both, before, with_use, with_item, items_of, with_reduced, reduced_parts};
 
 use crate::fault::{Halt, Reason};
 use crate::limits::Limits;
@@ -53,7 +53,7 @@ pub fn add_use(uses: &mut Vec<Use>, added: Use) -> Result<(), Halt>
 }
 
 ghost use Rattle.std.specs.Prelude.{slice_get};
-ghost use Rattle.ot_exec_state.specs.Clauses.{placed};
+ghost use Rattle.ot_exec_state.specs.Clauses.{use_placed};
 
 fn use_at(uses: &[Use], place: usize) -> Option<Use>
     ensures { result ≡ slice_get uses.now place }
@@ -65,7 +65,7 @@ fn use_at(uses: &[Use], place: usize) -> Option<Use>
 fn put_use(uses: &mut Vec<Use>, place: usize, found: Option<Use>, added: Use) -> Result<(), Halt>
     requires found { found ≡ slice_get uses.old.items place }
     requires there { place ≤ length uses.old.items }
-    ensures { Gives (λ _. uses.new.items) result (Ok (placed added uses.old.items place found)) }
+    ensures { Gives (λ _. uses.new.items) result (Ok (use_placed added uses.old.items place found)) }
 {
     match found {
         Some(old) => {
@@ -163,9 +163,9 @@ fn add_items(
 }
 
 /// An item more of a region's reductions, with its cells.
-#[tactic(auto, unfolding(crate::specs::Clauses::with_part))]
+#[tactic(auto, unfolding(crate::specs::Clauses::with_reduced))]
 fn add_part(slots: &Slots, memory: &Memory, item: Folded, parts: &mut Vec<Part>) -> Result<(), Halt>
-    ensures { Gives (λ _. parts.new.items) result (with_part (slots_of slots.now) (memory_of memory.now) item parts.old.items) }
+    ensures { Gives (λ _. parts.new.items) result (with_reduced (slots_of slots.now) (memory_of memory.now) item parts.old.items) }
 {
     let place = slots.read(item.slot)?;
     let value = slots.read(item.count)?;
@@ -179,7 +179,7 @@ fn add_part(slots: &Slots, memory: &Memory, item: Folded, parts: &mut Vec<Part>)
 }
 
 /// The items of a region's reductions.
-#[tactic(auto, unfolding(crate::specs::Clauses::parts_of))]
+#[tactic(auto, unfolding(crate::specs::Clauses::reduced_parts))]
 pub fn parts_of(
     alloc: Global,
     limits: Limits,
@@ -187,7 +187,7 @@ pub fn parts_of(
     memory: &Memory,
     items: &[Folded],
 ) -> Result<Vec<Part>, Halt>
-    ensures { Gives (λ ps. ps.items) result (parts_of limits (slots_of slots.now) (memory_of memory.now) items.now) }
+    ensures { Gives (λ ps. ps.items) result (reduced_parts limits (slots_of slots.now) (memory_of memory.now) items.now) }
 {
     if items.len() > limits.items as usize {
         return Err(Halt::For(Reason::TooManyItems));
@@ -203,7 +203,7 @@ fn add_parts(
     items: &[Folded],
     parts: &mut Vec<Part>,
 ) -> Result<(), Halt>
-    ensures { Gives (λ _. parts.new.items) result (each (with_part (slots_of slots.now) (memory_of memory.now)) items.now parts.old.items) }
+    ensures { Gives (λ _. parts.new.items) result (each (with_reduced (slots_of slots.now) (memory_of memory.now)) items.now parts.old.items) }
 {
     for item in items {
         add_part(slots, memory, *item, parts)?;

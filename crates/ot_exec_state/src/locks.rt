@@ -1,7 +1,7 @@
 //! Locks that tasks hold.
 ghost use Rattle.std.specs.Prelude.{◌≡◌, map, Ok, IfOk};
 ghost use Rattle.ot_exec_state.specs.Results.{Gives};
-ghost use Rattle.ot_exec_state.specs.Locks.{named, same_lock, lock_place, with_lock, numbered, has, without, same_set, set_place, own, adding, holding, taking, giving_back, no_locks};
+ghost use Rattle.ot_exec_state.specs.Locks.{lock_named, same_lock, lock_place, with_lock, lock_numbered, holds_number, without, same_set, set_place, own, adding, holding, taking, giving_back, no_locks};
 ghost use Rattle.ot_exec_state.specs.View.{locks_of};
 
 use crate::fault::{Halt, Reason};
@@ -30,9 +30,9 @@ pub struct Locks {
 }
 
 /// The lock that a value names.
-#[tactic(auto, unfolding(crate::specs::Locks::named))]
+#[tactic(auto, unfolding(crate::specs::Locks::lock_named))]
 fn named(value: Value) -> Result<Lock, Halt>
-    ensures { Gives (λ x. x) result (named value) }
+    ensures { Gives (λ x. x) result (lock_named value) }
 {
     match value {
         Value::Number(n) => {
@@ -75,7 +75,7 @@ fn lock_place(known: &[Lock], lock: Lock) -> usize
 }
 
 fn has(numbers: &[u32], number: u32) -> bool
-    ensures { result ≡ has number numbers.now }
+    ensures { result ≡ holds_number number numbers.now }
 {
     numbers.iter().any(|one| *one == number)
 }
@@ -122,9 +122,9 @@ impl Locks {
     }
 
     /// The number of a lock: one that wasn't there gets the next one.
-    #[tactic(auto, unfolding(crate::specs::Locks::numbered))]
+    #[tactic(auto, unfolding(crate::specs::Locks::lock_numbered))]
     fn number(&mut self, limits: Limits, lock: Lock) -> Result<u32, Halt>
-        ensures { Gives (λ n. (n, locks_of self.new)) result (numbered limits lock (locks_of self.old)) }
+        ensures { Gives (λ n. (n, locks_of self.new)) result (lock_numbered limits lock (locks_of self.old)) }
     {
         let place = lock_place(&self.known, lock);
         if place >= limits.locks as usize {

@@ -1,9 +1,9 @@
 //! Objects and their cells.
 ghost use Rattle.std.specs.Prelude.{◌≡◌, ◌<◌, slice_get, length, IfOk};
 ghost use Rattle.ot_exec_state.specs.declared.fault.Reason.TheVariants.{Broken};
-ghost use Rattle.ot_exec_state.specs.Results.{Gives, found};
+ghost use Rattle.ot_exec_state.specs.Results.{Gives, found_or};
 ghost use Rattle.ot_exec_state.specs.View.{memory_of};
-ghost use Rattle.ot_exec_state.specs.Memory.{count_of, object_of, alive, inside, among, whole, span_of, span_at, taken, kept, filled, begun, finished};
+ghost use Rattle.ot_exec_state.specs.Memory.{count_of, object_of, alive, inside, span_among, whole_object, span_of, span_at, value_taken, kept_value, cells_filled, object_new, object_finished};
 
 use crate::fault::{Halt, Reason};
 use crate::limits::Limits;
@@ -63,7 +63,7 @@ impl Value {
 
     /// What is kept at this place of a value that is written.
     pub fn kept(self, value: Value) -> Value
-        ensures { result ≡ kept self value }
+        ensures { result ≡ kept_value self value }
     {
         match self {
             Value::Pointer(_, _) => value,
@@ -93,9 +93,9 @@ impl Memory {
     }
 
     /// All cells of the object at which it lies.
-    #[tactic(auto, unfolding(crate::specs::Memory::whole))]
+    #[tactic(auto, unfolding(crate::specs::Memory::whole_object))]
     fn whole(&self, place: Value) -> Result<Span, Halt>
-        ensures { Gives (λ s. s) result (whole (memory_of self.now) place) }
+        ensures { Gives (λ s. s) result (whole_object (memory_of self.now) place) }
     {
         let object = place.object()?;
         let found = self.alive(object)?;
@@ -120,9 +120,9 @@ impl Memory {
     }
 
     /// So many cells of an object from one on, where it has them, and else all of its cells.
-    #[tactic(auto, unfolding(crate::specs::Memory::among))]
+    #[tactic(auto, unfolding(crate::specs::Memory::span_among))]
     fn among(&self, object: u32, first: u64, cells: u32) -> Result<Span, Halt>
-        ensures { Gives (λ s. s) result (among (memory_of self.now) object first cells) }
+        ensures { Gives (λ s. s) result (span_among (memory_of self.now) object first cells) }
     {
         let found = self.alive(object)?;
         let length = u64::from(found.length);
@@ -173,9 +173,9 @@ impl Memory {
     }
 
     /// The value that is read there.
-    #[tactic(auto, unfolding(crate::specs::Memory::taken))]
+    #[tactic(auto, unfolding(crate::specs::Memory::value_taken))]
     pub fn taken(&self, place: Value, span: Span) -> Result<Value, Halt>
-        ensures { Gives (λ v. v) result (taken (memory_of self.now) place span) }
+        ensures { Gives (λ v. v) result (value_taken (memory_of self.now) place span) }
     {
         match place {
             Value::Pointer(_, _) => self.member(span.start as usize + span.index as usize),
@@ -186,7 +186,7 @@ impl Memory {
     }
 
     fn member(&self, at: usize) -> Result<Value, Halt>
-        ensures { Gives (λ v. v) result (found Broken (slice_get self.now.members.items at)) }
+        ensures { Gives (λ v. v) result (found_or Broken (slice_get self.now.members.items at)) }
     {
         match self.members.get(at) {
             Some(value) => Ok(*value),
@@ -195,9 +195,9 @@ impl Memory {
     }
 
     /// Each cell of these gets this value.
-    #[tactic(auto, unfolding(crate::specs::Memory::filled))]
+    #[tactic(auto, unfolding(crate::specs::Memory::cells_filled))]
     pub fn fill(&mut self, span: Span, value: Value) -> Result<(), Halt>
-        ensures { Gives (λ _. memory_of self.new) result (filled (memory_of self.old) span value) }
+        ensures { Gives (λ _. memory_of self.new) result (cells_filled (memory_of self.old) span value) }
     {
         let first = span.start as usize + span.index as usize;
         let end = span.start as usize + span.end as usize;
@@ -209,7 +209,7 @@ impl Memory {
     }
 
     /// The number of a new object of so many cells with this value.
-    #[tactic(auto, unfolding(crate::specs::Memory::begun))]
+    #[tactic(auto, unfolding(crate::specs::Memory::object_new))]
     pub fn begin(
         &mut self,
         limits: Limits,
@@ -217,7 +217,7 @@ impl Memory {
         value: Value,
         name: u32,
     ) -> Result<u32, Halt>
-        ensures { Gives (λ o. (o, memory_of self.new)) result (begun limits count value name (memory_of self.old)) }
+        ensures { Gives (λ o. (o, memory_of self.new)) result (object_new limits count value name (memory_of self.old)) }
     {
         let object = self.objects.len();
         let start = self.members.len();
@@ -236,9 +236,9 @@ impl Memory {
     }
 
     /// The object ends at which this lies: all its cells.
-    #[tactic(auto, unfolding(crate::specs::Memory::finished))]
+    #[tactic(auto, unfolding(crate::specs::Memory::object_finished))]
     pub fn finish(&mut self, place: Value) -> Result<Span, Halt>
-        ensures { Gives (λ s. (s, memory_of self.new)) result (finished (memory_of self.old) place) }
+        ensures { Gives (λ s. (s, memory_of self.new)) result (object_finished (memory_of self.old) place) }
     {
         let object = place.object()?;
         let found = self.alive(object)?;

@@ -2,7 +2,7 @@
 ghost use Rattle.std.specs.Prelude.{◌≡◌, []};
 ghost use Rattle.ot_exec_state.specs.Results.{Gives};
 ghost use Rattle.ot_exec_state.specs.View.{nest_of};
-ghost use Rattle.ot_exec_state.specs.Nest.{opened, closed, grouped, ungrouped, groups_before, last_of, is_part, joins};
+ghost use Rattle.ot_exec_state.specs.Nest.{frame_opened, frame_closed, region_begun, region_closed, groups_before, last_item, is_part, joins};
 
 use crate::fault::{Halt, Reason};
 use crate::limits::Limits;
@@ -55,9 +55,9 @@ pub struct Nest {
 
 impl Nest {
     /// A call or a task begins.
-    #[tactic(auto, unfolding(crate::specs::Nest::opened))]
+    #[tactic(auto, unfolding(crate::specs::Nest::frame_opened))]
     pub fn open(&mut self, limits: Limits, frame: Frame) -> Result<(), Halt>
-        ensures { Gives (λ _. nest_of self.new) result (opened limits frame (nest_of self.old)) }
+        ensures { Gives (λ _. nest_of self.new) result (frame_opened limits frame (nest_of self.old)) }
     {
         if self.frames.len() >= limits.open as usize {
             return Err(Halt::For(Reason::TooDeep));
@@ -67,9 +67,9 @@ impl Nest {
     }
 
     /// It ends, with as many regions open as at its beginning.
-    #[tactic(auto, unfolding(crate::specs::Nest::closed))]
+    #[tactic(auto, unfolding(crate::specs::Nest::frame_closed))]
     pub fn close(&mut self) -> Result<Frame, Halt>
-        ensures { Gives (λ f. (f, nest_of self.new)) result (closed (nest_of self.old)) }
+        ensures { Gives (λ f. (f, nest_of self.new)) result (frame_closed (nest_of self.old)) }
     {
         match self.frames.last() {
             Some(&frame) => {
@@ -85,9 +85,9 @@ impl Nest {
     }
 
     /// A region begins behind so many events, with these items.
-    #[tactic(auto, unfolding(crate::specs::Nest::grouped))]
+    #[tactic(auto, unfolding(crate::specs::Nest::region_begun))]
     pub fn group(&mut self, limits: Limits, start: usize, parts: &[Part]) -> Result<(), Halt>
-        ensures { Gives (λ _. nest_of self.new) result (grouped limits start parts.now (nest_of self.old)) }
+        ensures { Gives (λ _. nest_of self.new) result (region_begun limits start parts.now (nest_of self.old)) }
     {
         let before = self.parts.len();
         let most = limits.items as usize;
@@ -107,7 +107,7 @@ impl Nest {
 
     /// How many regions were open where what runs began.
     fn groups_before(&self) -> usize
-        ensures { result ≡ groups_before (last_of self.now.frames.items) }
+        ensures { result ≡ groups_before (last_item self.now.frames.items) }
     {
         match self.frames.last() {
             Some(frame) => frame.groups,
@@ -116,10 +116,10 @@ impl Nest {
     }
 
     /// A region ends that what runs has begun. Its items go to `parts`; before it there were so many events.
-    #[tactic(auto, unfolding(crate::specs::Nest::ungrouped))]
+    #[tactic(auto, unfolding(crate::specs::Nest::region_closed))]
     pub fn ungroup(&mut self, parts: &mut Vec<Part>) -> Result<usize, Halt>
         requires { parts.old.items ≡ [] }
-        ensures { Gives (λ start. ((start, parts.new.items), nest_of self.new)) result (ungrouped (nest_of self.old)) }
+        ensures { Gives (λ start. ((start, parts.new.items), nest_of self.new)) result (region_closed (nest_of self.old)) }
     {
         let count = self.groups.len();
         if self.groups_before() >= count {

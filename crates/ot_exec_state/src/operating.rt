@@ -1,7 +1,7 @@
 //! Operations on values.
 ghost use Rattle.std.specs.Prelude.{◌≡◌};
 ghost use Rattle.ot_exec_state.specs.Results.{Gives};
-ghost use Rattle.ot_exec_state.specs.Values.{is_so, is_zero, is_somewhere, vanishes, without, of_numbers, known, is_equality, one_is_null, compared_places, compared, combined, fits_pointer, converted, advanced, distance};
+ghost use Rattle.ot_exec_state.specs.Values.{is_so, is_zero, is_somewhere, vanishes, no_result, of_numbers, value_known, is_equality, one_is_null, compared_places, values_compared, values_combined, fits_pointer, value_converted, place_advanced, distance};
 
 use crate::fault::{Halt, Reason};
 use crate::value::Value;
@@ -59,7 +59,7 @@ fn is_equality(operation: Operation) -> bool
 
 /// What stands for a number that there may be.
 fn known(number: Option<u64>) -> Value
-    ensures { result ≡ known number }
+    ensures { result ≡ value_known number }
 {
     match number {
         Some(n) => Value::Number(n),
@@ -77,7 +77,7 @@ fn of_numbers(operation: Operation, number: Option<u64>) -> Result<Value, Halt>
 }
 
 fn without(operation: Operation) -> Result<Value, Halt>
-    ensures { Gives (λ v. v) result (without operation) }
+    ensures { Gives (λ v. v) result (no_result operation) }
 {
     if matches!(operation, Operation::Divide | Operation::Remainder) {
         Err(Halt::For(Reason::DivideByZero))
@@ -105,9 +105,9 @@ fn one_is_null(a: Value, b: Value) -> bool
     a.is_zero() && b.is_somewhere() || b.is_zero() && a.is_somewhere()
 }
 
-#[tactic(auto, unfolding(crate::specs::Values::compared))]
+#[tactic(auto, unfolding(crate::specs::Values::values_compared))]
 fn compared(operation: Operation, a: Value, b: Value) -> Value
-    ensures { result ≡ compared operation a b }
+    ensures { result ≡ values_compared operation a b }
 {
     match (a, b) {
         (Value::Pointer(o, k), Value::Pointer(p, l)) => compared_places(operation, o == p, k, l),
@@ -129,9 +129,9 @@ fn compared(operation: Operation, a: Value, b: Value) -> Value
 }
 
 /// An operation on two values.
-#[tactic(auto, unfolding(crate::specs::Values::combined))]
+#[tactic(auto, unfolding(crate::specs::Values::values_combined))]
 pub fn combined(operation: Operation, kind: Kind, a: Value, b: Value) -> Result<Value, Halt>
-    ensures { Gives (λ v. v) result (combined operation kind a b) }
+    ensures { Gives (λ v. v) result (values_combined operation kind a b) }
 {
     match (a, b) {
         (Value::Number(m), Value::Number(n)) => {
@@ -148,9 +148,9 @@ pub fn combined(operation: Operation, kind: Kind, a: Value, b: Value) -> Result<
 }
 
 /// A value, converted to a type.
-#[tactic(auto, unfolding(crate::specs::Values::converted))]
+#[tactic(auto, unfolding(crate::specs::Values::value_converted))]
 pub fn converted(kind: Kind, value: Value) -> Value
-    ensures { result ≡ converted kind value }
+    ensures { result ≡ value_converted kind value }
 {
     match value {
         Value::Number(n) => Value::Number(kind.narrow(n)),
@@ -172,9 +172,9 @@ fn fits_pointer(width: Width) -> bool
 
 /// The place that lies so many elements of this many cells behind another, at which an array of so many cells begins, or 0 where it isn't
 /// known how many.
-#[tactic(auto, unfolding(crate::specs::Values::advanced))]
+#[tactic(auto, unfolding(crate::specs::Values::place_advanced))]
 pub fn advanced(place: Value, number: Value, stride: u32, cells: u32) -> Value
-    ensures { result ≡ advanced place number stride cells }
+    ensures { result ≡ place_advanced place number stride cells }
 {
     match (place, number) {
         (Value::Pointer(o, k), Value::Number(n)) => {

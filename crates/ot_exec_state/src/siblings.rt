@@ -1,7 +1,7 @@
 //! Siblings that depend by a cell in no order among themselves.
 ghost use Rattle.std.specs.Prelude.{◌≡◌};
 ghost use Rattle.ot_exec_state.specs.Results.{Gives};
-ghost use Rattle.ot_exec_state.specs.Siblings.{are_of, mode_at, turns, mode_of, told_mode, are_in_no_order, others, behind};
+ghost use Rattle.ot_exec_state.specs.Siblings.{are_of, unordered_mode, begins_siblings, mode_of, told_mode, are_in_no_order, others, siblings_behind};
 
 use crate::fault::{Halt, Reason};
 use crate::limits::Limits;
@@ -24,7 +24,7 @@ fn are_of(task: u32, cell: Cell, one: Siblings) -> bool
 
 /// How those depend that stand last there, in no order.
 pub fn mode_at(all: &[Siblings], task: u32, cell: Cell) -> Option<Depends>
-    ensures { result ≡ mode_at task cell all.now }
+    ensures { result ≡ unordered_mode task cell all.now }
 {
     for one in all {
         if are_of(task, cell, *one) {
@@ -36,7 +36,7 @@ pub fn mode_at(all: &[Siblings], task: u32, cell: Cell) -> Option<Depends>
 
 /// Whether one that depends so begins such siblings, or stands behind them.
 pub fn turns(mode: Depends, last: Option<Depends>) -> bool
-    ensures { result ≡ turns mode last }
+    ensures { result ≡ begins_siblings mode last }
 {
     match (mode, last) {
         (Depends::In, None) | (Depends::InOut, _) => false,
@@ -89,7 +89,7 @@ fn leave_others(all: &mut Vec<Siblings>, task: u32, cell: Cell)
 }
 
 /// What stands behind one that depends so.
-#[tactic(auto, unfolding(crate::specs::Siblings::behind))]
+#[tactic(auto, unfolding(crate::specs::Siblings::siblings_behind))]
 pub fn put_behind(
     all: &mut Vec<Siblings>,
     limits: Limits,
@@ -97,7 +97,7 @@ pub fn put_behind(
     cell: Cell,
     mode: Depends,
 ) -> Result<(), Halt>
-    ensures { Gives (λ _. all.new.items) result (behind limits task cell mode all.old.items) }
+    ensures { Gives (λ _. all.new.items) result (siblings_behind limits task cell mode all.old.items) }
 {
     leave_others(all, task, cell);
     if !are_in_no_order(mode) {

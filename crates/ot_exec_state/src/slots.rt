@@ -2,7 +2,7 @@
 ghost use Rattle.std.specs.Prelude.{◌≡◌};
 ghost use Rattle.ot_exec_state.specs.Results.{Gives};
 ghost use Rattle.ot_exec_state.specs.View.{slots_of};
-ghost use Rattle.ot_exec_state.specs.Slots.{read, is_question, put, enter};
+ghost use Rattle.ot_exec_state.specs.Slots.{slot_read, is_question, slot_put, enter};
 
 use crate::fault::{Halt, Reason};
 use crate::limits::Limits;
@@ -17,9 +17,9 @@ pub struct Slots {
 
 impl Slots {
     /// What a slot of the function that runs has, or the fault that there is no such slot.
-    #[tactic(auto, unfolding(crate::specs::Slots::read))]
+    #[tactic(auto, unfolding(crate::specs::Slots::slot_read))]
     pub fn read(&self, slot: u32) -> Result<Value, Halt>
-        ensures { Gives (λ v. v) result (read (slots_of self.now) slot) }
+        ensures { Gives (λ v. v) result (slot_read (slots_of self.now) slot) }
     {
         match self.values.get(self.base as usize + slot as usize) {
             Some(value) => Ok(*value),
@@ -28,9 +28,9 @@ impl Slots {
     }
 
     /// Whether its value isn't known.
-    #[tactic(auto, unfolding(crate::specs::Slots::read))]
+    #[tactic(auto, unfolding(crate::specs::Slots::slot_read))]
     pub fn is_question(&self, slot: u32) -> bool
-        ensures { result ≡ is_question (read (slots_of self.now) slot) }
+        ensures { result ≡ is_question (slot_read (slots_of self.now) slot) }
     {
         match self.values.get(self.base as usize + slot as usize) {
             Some(value) => is_unknown(*value),
@@ -39,9 +39,9 @@ impl Slots {
     }
 
     /// Has a slot of the function that runs have this, or tells that there is no such slot.
-    #[tactic(auto, unfolding(crate::specs::Slots::put))]
+    #[tactic(auto, unfolding(crate::specs::Slots::slot_put))]
     pub fn put(&mut self, slot: u32, value: Value) -> Result<(), Halt>
-        ensures { Gives (λ _. slots_of self.new) result (put (slots_of self.old) slot value) }
+        ensures { Gives (λ _. slots_of self.new) result (slot_put (slots_of self.old) slot value) }
     {
         let at = self.base as usize + slot as usize;
         if at < self.values.len() {

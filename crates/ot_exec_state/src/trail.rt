@@ -3,7 +3,7 @@ ghost use Rattle.std.specs.Prelude.{◌≡◌, nat_le};
 ghost use Rattle.ot_exec_outline.specs.View.{did_of};
 ghost use Rattle.ot_exec_state.specs.Results.{Gives};
 ghost use Rattle.ot_exec_state.specs.View.{trail_of};
-ghost use Rattle.ot_exec_state.specs.Trail.{weight, written_by, note, touch, charged, leaves, enters, within, by_task};
+ghost use Rattle.ot_exec_state.specs.Trail.{deed_weight, written_by, note, touch, touches_charged, leaves, enters, within, by_task};
 ghost use Rattle.ot_exec_state.specs.Memory.{uses_of, count_of};
 ghost use Rattle.std.specs.List.{sum_by};
 
@@ -111,9 +111,9 @@ impl Trail {
     }
 
     /// So many cells are written that only the task sees.
-    #[tactic(auto, unfolding(crate::specs::Trail::charged))]
+    #[tactic(auto, unfolding(crate::specs::Trail::touches_charged))]
     pub fn charge(&mut self, limits: Limits, count: u32) -> Result<(), Halt>
-        ensures { Gives (λ _. trail_of self.new) result (charged limits count (trail_of self.old)) }
+        ensures { Gives (λ _. trail_of self.new) result (touches_charged limits count (trail_of self.old)) }
     {
         let touches = self.touches as u64 + count as u64;
         if touches > limits.touches as u64 {
@@ -189,7 +189,7 @@ impl Trail {
 
 /// How many cells a deed names.
 fn weight(did: &Did) -> usize
-    ensures { result ≡ weight (did_of did.now) }
+    ensures { result ≡ deed_weight (did_of did.now) }
 {
     match did {
         Did::Touches | Did::Leaves(_) | Did::Awaits(None) => 0,

@@ -1,6 +1,6 @@
 ghost use Rattle.std.specs.Prelude.{◌≡◌};
 ghost use Rattle.ot_exec_state.specs.Results.{Gives};
-ghost use Rattle.ot_exec_state.specs.Values.{is_unknown, number};
+ghost use Rattle.ot_exec_state.specs.Values.{is_unknown, number_or};
 
 use crate::fault::{Halt, Reason};
 
@@ -31,7 +31,7 @@ pub fn is_unknown(value: Value) -> bool
 
 /// The number that a value is, or else this is the reason.
 pub fn number(reason: Reason, value: Value) -> Result<u64, Halt>
-    ensures { Gives (λ n. n) result (number reason value) }
+    ensures { Gives (λ n. n) result (number_or reason value) }
 {
     match value {
         Value::Number(n) => Ok(n),

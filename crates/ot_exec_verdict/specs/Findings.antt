@@ -7,10 +7,10 @@ use Rattle.ot_race_locks.specs.OpenRaces.{TellsApart}
 use Rattle.ot_race_locks.specs.declared.apart.Apart.{Apart}
 use Rattle.ot_race_locks.specs.declared.apart.Apart.TheVariants as apart
 use Rattle.ot_race_locks.specs.declared.locks.Locks.{Locks}
-use Rattle.ot_exec_machine.specs.Runs.{Reached, run_of, events_in, Tells}
+use Rattle.ot_exec_machine.specs.Runs.{Reached, run_of, run_events_of, TellsEvents}
 use Rattle.ot_exec_machine.specs.Telling.{fault_of}
 use Rattle.ot_exec_machine.specs.declared.run.Run.{Run}
-use Rattle.ot_exec_outline.specs.Followed.{answered}
+use Rattle.ot_exec_outline.specs.Followed.{list_answer}
 use Rattle.ot_exec_outline.specs.View.{noted_in}
 use Rattle.ot_exec_outline.specs.Ways.{Begins, RacesOnNone}
 use Rattle.ot_race.specs.Events.{Event}
@@ -36,11 +36,11 @@ use Rattle.ot_exec_verdict.specs.declared.locked.Faults.{Faults}
 
 -- the run of code by these answers; to further questions the answer is no
 abbrev pub run_by : Code → Limits → List Bool → Reached
-run_by code l given = run_of code l (answered given)
+run_by code l given = run_of code l (list_answer given)
 
 -- what happens in a run, as C orders it
-abbrev pub events_by : Run → List Event
-events_by run = ordered_by OfC (noted_in run.log.items)
+abbrev pub events_of_run : Run → List Event
+events_of_run run = ordered_by OfC (noted_in run.log.items)
 
 -- these locks are those that the events of a run hold
 pub record AreHeld (run : Run) (locks : Locks) : Type 0 where
@@ -49,7 +49,7 @@ pub record AreHeld (run : Run) (locks : Locks) : Type 0 where
 
 -- what is told of two touches of a run that hold no lock in common
 abbrev pub TellsOpen : Run → Apart → Type 0
-TellsOpen run told = (locks : Locks) × AreHeld run locks × TellsApart (events_by run) locks told
+TellsOpen run told = (locks : Locks) × AreHeld run locks × TellsApart (events_of_run run) locks told
 
 -- whether no event of a run holds a lock
 abbrev pub holds_none : Run → Bool
@@ -57,7 +57,7 @@ holds_none run = nat_le (length run.sets.items) 1
 
 -- Nothing races in a run: in one whose events hold locks, no two touches without a lock in common.
 abbrev pub HasNoneBy : Bool → Run → Type 0
-HasNoneBy true run = NothingRaces (events_by run)
+HasNoneBy true run = NothingRaces (events_of_run run)
 HasNoneBy false run = TellsOpen run apart.RacesNowhere
 
 abbrev pub HasNone : Run → Type 0
@@ -65,15 +65,15 @@ HasNone run = HasNoneBy (holds_none run) run
 
 -- the run of code with what is known, which came to its end and asked nothing
 pub record IsAlone (code : Code) (l : Limits) (run : Run) : Type 0 where
-  pub is : Tells run (run_by code l [])
+  pub is : TellsEvents run (run_by code l [])
   pub ended : run.fault ≡ None
   pub asked : run.asked ≡ 0
 
 -- the race is the first one of the run of code by some answers, or its first one of touches without a lock in common
 pub record IsOnWay (code : Code) (l : Limits) (run : Run) (race : Race) : Type 0 where
   pub answers : List Bool
-  pub is : Tells run (run_by code l answers)
-  pub first : IsFirstRace (events_by run) race.cell race.place race.later ⊎ TellsOpen run (apart.Races race)
+  pub is : TellsEvents run (run_by code l answers)
+  pub first : IsFirstRace (events_of_run run) race.cell race.place race.later ⊎ TellsOpen run (apart.Races race)
 
 -- the run of code by some answers ends with this fault
 abbrev pub EndsBy : Code → Limits → Fault → Type 0
@@ -82,14 +82,14 @@ EndsBy code l fault = (answers : List Bool) × (fault_of (run_by code l answers)
 -- nothing races so in the runs of code by answers that begin with these, as far as they come to their ends
 abbrev pub OpenOnNone : Code → Limits → List Bool → Type 0
 OpenOnNone code l given =
-    (answers : ℕ → Bool) → Begins given answers → (run : Run) → Tells run (run_of code l answers) → run.fault ≡ None → TellsOpen run apart.RacesNowhere
+    (answers : ℕ → Bool) → Begins given answers → (run : Run) → TellsEvents run (run_of code l answers) → run.fault ≡ None → TellsOpen run apart.RacesNowhere
 
 -- ---- what is found
 
 -- What it rests on that nothing races: on the run; or on all ways of the answers, whose events are none where one ends with a fault.
 abbrev pub Rests : Code → Bounds → Rest → Type 0
 Rests code b r.Run = (run : Run) × IsAlone code b.run run × HasNone run
-Rests code b r.Ways = RacesOnNone OfC (λ answers. events_in (run_of code b.way answers)) []
+Rests code b r.Ways = RacesOnNone OfC (λ answers. run_events_of (run_of code b.way answers)) []
 Rests code b r.LockedWays = OpenOnNone code b.way []
 Rests code b r.Less = Unit {0}
 
@@ -97,7 +97,7 @@ Rests code b r.Less = Unit {0}
 abbrev pub Finds : Code → Bounds → Finding → Type 0
 Finds code b (f.Nothing rest) = Rests code b rest
 Finds code b (f.OnlyRun rest) = Rests code b rest
-Finds code b (f.InRun run races) = IsAlone code b.run run × TellsAll (events_by run) 1000000 races × (races.told.items ≡ [] → ⊥)
+Finds code b (f.InRun run races) = IsAlone code b.run run × TellsAll (events_of_run run) 1000000 races × (races.told.items ≡ [] → ⊥)
 Finds code b (f.Apart run race) = IsAlone code b.run run × TellsOpen run (apart.Races race)
 Finds code b (f.OnWay run race) = IsOnWay code b.way run race
 Finds code b (f.OnOtherWay run race) = (other : Code) × IsOnWay other b.way run race
@@ -116,26 +116,26 @@ pub record SaysMore (old new : Code) : Type 0 where
 
 -- ---- parts of it
 
-abbrev pub ComesTo : Code → Bounds → Outcome → Type 0
-ComesTo code b (Found finding) = Finds code b finding
-ComesTo code b (Changes name) = Unit {0}
+abbrev pub ComesToFinding : Code → Bounds → Outcome → Type 0
+ComesToFinding code b (Found finding) = Finds code b finding
+ComesToFinding code b (Changes name) = Unit {0}
 
 -- the run of code with what is known, where there is one
 abbrev pub IsNamed : Code → Limits → Option Run → Type 0
 IsNamed code l None = Unit {0}
-IsNamed code l (Some run) = Tells run (run_by code l []) × (length run.log.items < 2 ^ 32)
+IsNamed code l (Some run) = TellsEvents run (run_by code l []) × (length run.log.items < 2 ^ 32)
 
 -- of a run that came to its end and asked nothing
 abbrev pub FindsAlone : Run → Finding → Type 0
 FindsAlone run (f.Nothing r.Run) = HasNone run
-FindsAlone run (f.InRun own races) = (own ≡ run) × TellsAll (events_by run) 1000000 races × (races.told.items ≡ [] → ⊥)
+FindsAlone run (f.InRun own races) = (own ≡ run) × TellsAll (events_of_run run) 1000000 races × (races.told.items ≡ [] → ⊥)
 FindsAlone run (f.Apart own race) = (own ≡ run) × TellsOpen run (apart.Races race)
 FindsAlone run f.Crowded = Unit {0}
 FindsAlone run _ = ⊥
 
 -- what is met on all ways of code
 abbrev pub Meets : Code → Limits → Met → Type 0
-Meets code l (m.Nothing r.Ways) = RacesOnNone OfC (λ answers. events_in (run_of code l answers)) []
+Meets code l (m.Nothing r.Ways) = RacesOnNone OfC (λ answers. run_events_of (run_of code l answers)) []
 Meets code l (m.Nothing r.LockedWays) = OpenOnNone code l []
 Meets code l (m.Nothing r.Run) = ⊥
 Meets code l (m.Nothing r.Less) = ⊥

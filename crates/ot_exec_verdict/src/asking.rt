@@ -1,6 +1,6 @@
 //! Code whose run asks, and code of which less is known.
 ghost use Rattle.std.specs.Prelude.{IfOk};
-ghost use Rattle.ot_exec_verdict.specs.Findings.{Rests, ComesTo};
+ghost use Rattle.ot_exec_verdict.specs.Findings.{Rests, ComesToFinding};
 
 use crate::finding::{Finding, Met, Others, Outcome, Rest, Setting};
 use crate::others::others_of;
@@ -14,7 +14,7 @@ pub(crate) fn found_asking(
     code: &Code,
     setting: Setting<'_>,
 ) -> Result<Outcome, AllocError>
-    ensures { IfOk result (ComesTo code.now setting.entry.bounds) }
+    ensures { IfOk result (ComesToFinding code.now setting.entry.bounds) }
 {
     let mut budget = WAYS;
     match ways_of(alloc, code, setting.bounds.way, None, &mut budget)? {
@@ -35,7 +35,7 @@ pub(crate) fn found_beyond(
     rest: Rest,
 ) -> Result<Outcome, AllocError>
     requires { Rests code.now setting.bounds rest }
-    ensures { IfOk result (ComesTo code.now setting.entry.bounds) }
+    ensures { IfOk result (ComesToFinding code.now setting.entry.bounds) }
 {
     Ok(match others_of(alloc, code, setting)? {
         Others::Unmarked | Others::Nothing => Outcome::Found(Finding::Nothing(rest)),
@@ -47,7 +47,7 @@ pub(crate) fn found_beyond(
 
 /// The same where there are too many ways.
 fn found_with_less(alloc: Global, code: &Code, setting: Setting<'_>) -> Result<Outcome, AllocError>
-    ensures { IfOk result (ComesTo code.now setting.entry.bounds) }
+    ensures { IfOk result (ComesToFinding code.now setting.entry.bounds) }
 {
     let at = asks_at(alloc, code, setting.bounds.way)?;
     Ok(match others_of(alloc, code, setting)? {

@@ -1,7 +1,7 @@
 //! Code, executed and judged.
 ghost use Rattle.std.specs.Prelude.{◌<◌, ◌^◌, [], length, IfOk, OnOk};
-ghost use Rattle.ot_exec_machine.specs.Runs.{Tells};
-ghost use Rattle.ot_exec_verdict.specs.Findings.{run_by, SaysMore, Finds, ComesTo, IsNamed, IsAlone};
+ghost use Rattle.ot_exec_machine.specs.Runs.{TellsEvents};
+ghost use Rattle.ot_exec_verdict.specs.Findings.{run_by, SaysMore, Finds, ComesToFinding, IsNamed, IsAlone};
 
 use crate::asking::{found_asking, found_beyond};
 use crate::finding::{Bounds, Finding, Outcome, Rest, Setting};
@@ -68,9 +68,9 @@ fn found_once(
     setting: Setting<'_>,
     run: Run,
 ) -> Result<Outcome, AllocError>
-    requires is { Tells run (run_by code.now setting.bounds.run []) }
+    requires is { TellsEvents run (run_by code.now setting.bounds.run []) }
     requires few { length run.log.items < 2 ^ 32 }
-    ensures { IfOk result (ComesTo code.now setting.entry.bounds) }
+    ensures { IfOk result (ComesToFinding code.now setting.entry.bounds) }
 {
     if run.asked > 0 {
         return found_asking(alloc, code, setting);
@@ -90,7 +90,7 @@ fn found_in_run(
 ) -> Result<Outcome, AllocError>
     requires alone { IsAlone code.now setting.bounds.run run }
     requires few { length run.log.items < 2 ^ 32 }
-    ensures { IfOk result (ComesTo code.now setting.entry.bounds) }
+    ensures { IfOk result (ComesToFinding code.now setting.entry.bounds) }
 {
     match found_alone(alloc, run)? {
         Finding::Nothing(_) => found_beyond(alloc, code, setting, Rest::Run),

@@ -1,7 +1,7 @@
 //! Races of one run.
 ghost use Rattle.std.specs.Prelude.{◌<◌, ◌^◌, length, IfOk};
 ghost use Rattle.ot_race_all.specs.AllRaces.{TellsAll};
-ghost use Rattle.ot_exec_verdict.specs.Findings.{events_by, TellsOpen, FindsAlone};
+ghost use Rattle.ot_exec_verdict.specs.Findings.{events_of_run, TellsOpen, FindsAlone};
 
 use crate::finding::{Finding, Rest};
 use ot_exec_machine::Run;
@@ -46,7 +46,7 @@ fn found_apart(alloc: Global, run: Run) -> Result<Finding, AllocError>
 /// The races of a run.
 fn races_of(alloc: Global, run: &Run) -> Result<Races, AllocError>
     requires { length run.now.log.items < 2 ^ 32 }
-    ensures { IfOk result (TellsAll (events_by run.now) 1000000) }
+    ensures { IfOk result (TellsAll (events_of_run run.now) 1000000) }
 {
     let events = events_of(alloc, &run.log)?;
     races_by(alloc, Order::OfC, events, ALL)

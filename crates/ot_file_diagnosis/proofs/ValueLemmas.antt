@@ -10,7 +10,7 @@ use Rattle.serde_json.specs.View.{items_of}
 use Rattle.serde_json.specs.Written.{has_float, items_have_float, members_have_float}
 use Rattle.ot_file_diagnosis.specs.Codes.{severity_text, code_text}
 use Rattle.ot_file_diagnosis.specs.Diagnoses.{Remark, Diagnosis, path_of, from_of}
-use Rattle.ot_file_diagnosis.specs.Values.{turn_value, with_place, members_of, note_values, diagnosis_value, nat, listed}
+use Rattle.ot_file_diagnosis.specs.Values.{turn_value, with_place, members_of, note_values, diagnosis_value, nat, json_list}
 use Rattle.ot_file_diagnosis.specs.declared.diagnosis.Place.{Place}
 
 none_of_two : (a b : Bool) → a ≡ false → b ≡ false → (a || b) ≡ false
@@ -53,7 +53,7 @@ members-plain : (name : List ℕ) (r : Remark) → members_have_float (members_o
 members-plain name r =
     let file = put (codes "file") (string (path_of name r)) no_members in
     let message = put (codes "message") (string r.message) file in
-    let turns = listed (map turn_value r.turns) in
+    let turns = json_list (map turn_value r.turns) in
     place-plain (from_of r) r.place (put (codes "turns") turns message) (put-plain (codes "turns") turns message (map-plain turn_value r.turns (λ turn. refl))
     (put-plain (codes "message") (string r.message) file refl (put-plain (codes "file") (string (path_of name r)) no_members refl refl)))
 
@@ -62,5 +62,5 @@ diagnosis-plain name d =
     let told = members_of name d.told in
     let code = put (codes "code") (string (code_text d.code)) told in
     let severity = put (codes "severity") (string (severity_text d.severity)) code in
-    put-plain (codes "notes") (listed (note_values name d.notes)) severity (map-plain (λ note. object (members_of name note)) d.notes (members-plain name))
+    put-plain (codes "notes") (json_list (note_values name d.notes)) severity (map-plain (λ note. object (members_of name note)) d.notes (members-plain name))
     (put-plain (codes "severity") (string (severity_text d.severity)) code refl (put-plain (codes "code") (string (code_text d.code)) told refl (members-plain name d.told)))

@@ -34,8 +34,8 @@ abbrev pub kept_by : Code → Diagnosis → List Diagnosis
 kept_by (Refused number) d = []
 kept_by other d = d ∷ []
 
-abbrev pub kept : Diagnosis → List Diagnosis
-kept d = kept_by d.code d
+abbrev pub kept_if_told : Diagnosis → List Diagnosis
+kept_if_told d = kept_by d.code d
 
 abbrev pub without_refusals : List Diagnosis → List Diagnosis
-without_refusals found = flat_map kept found
+without_refusals found = flat_map kept_if_told found

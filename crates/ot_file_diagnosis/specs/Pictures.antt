@@ -45,12 +45,12 @@ abbrev pub lead_of : ℕ → List ℕ
 lead_of b = if b == 9 then b ∷ [] else (if begins_character b then codes " " else [])
 
 -- words in a colour of a terminal, where there are colours
-abbrev pub painted : Paint → List ℕ → List ℕ → List ℕ
-painted Plain colour words = words
-painted Coloured colour words = 27 ∷ (codes "[" ++ (colour ++ (codes "m" ++ (words ++ 27 ∷ codes "[0m"))))
+abbrev pub in_colour : Paint → List ℕ → List ℕ → List ℕ
+in_colour Plain colour words = words
+in_colour Coloured colour words = 27 ∷ (codes "[" ++ (colour ++ (codes "m" ++ (words ++ 27 ∷ codes "[0m"))))
 
 abbrev pub caret : Paint → List ℕ
-caret paint = painted paint (codes "1;32") (codes "^") ++ codes "\n"
+caret paint = in_colour paint (codes "1;32") (codes "^") ++ codes "\n"
 
 -- `   13 |     m[5] = m[4];`
 abbrev pub source_line : List ℕ → List ℕ → List ℕ → List ℕ

@@ -4,7 +4,7 @@ use Rattle.serde_json.specs.Data.{Data, string, object, Members, no_members, put
 use Rattle.ot_file_diagnosis.specs.Diagnoses.{Remark, Diagnosis, path_of}
 use Rattle.ot_file_diagnosis.specs.Codes.{severity_text, code_text}
 use Rattle.ot_file_diagnosis.specs.Escapes.{uri_text}
-use Rattle.ot_file_diagnosis.specs.Values.{nat, listed}
+use Rattle.ot_file_diagnosis.specs.Values.{nat, json_list}
 use Rattle.ot_file_diagnosis.specs.declared.diagnosis.Code.{Code}
 use Rattle.ot_file_diagnosis.specs.declared.diagnosis.Code.TheVariants.{Race, Lifetime, MoreRaces, Outside, OnlyRun, AsIf, Refused, Answered, Long, Full}
 use Rattle.ot_file_diagnosis.specs.declared.diagnosis.Place.{Place}
@@ -30,7 +30,7 @@ abbrev pub physical_value : List ℕ → Option Place → Data
 physical_value uri place = object (with_region place (put (codes "artifactLocation") (only (codes "uri") (string uri)) no_members))
 
 abbrev pub places_value : List ℕ → Option Place → Data
-places_value uri place = listed (only (codes "physicalLocation") (physical_value uri place) ∷ [])
+places_value uri place = json_list (only (codes "physicalLocation") (physical_value uri place) ∷ [])
 
 -- a note of a file of this name
 abbrev pub related_value : List ℕ → Remark → Data
@@ -42,7 +42,7 @@ related_value name note =
 -- with its places and its notes
 abbrev pub with_places : List ℕ → Diagnosis → Members → Members
 with_places name d ms =
-    put (codes "relatedLocations") (listed (map (related_value name) d.notes))
+    put (codes "relatedLocations") (json_list (map (related_value name) d.notes))
     (put (codes "locations") (places_value (uri_text (path_of name d.told)) d.told.place) ms)
 
 abbrev pub result_value : List ℕ → Diagnosis → Data
@@ -73,15 +73,15 @@ abbrev pub kinds : List Code
 kinds = Race ∷ Lifetime ∷ MoreRaces ∷ Outside ∷ OnlyRun ∷ AsIf ∷ Refused 425 ∷ Refused 426 ∷ Refused 427 ∷ Refused 428 ∷ Refused 429 ∷ []
 
 abbrev pub driver_value : Data
-driver_value = object (put (codes "rules") (listed (map rule_value kinds)) (put (codes "name") (string (codes "omptask")) no_members))
+driver_value = object (put (codes "rules") (json_list (map rule_value kinds)) (put (codes "name") (string (codes "omptask")) no_members))
 
 -- columns count characters
 abbrev pub run_value : List Data → Data
 run_value results =
-    object (put (codes "results") (listed results)
+    object (put (codes "results") (json_list results)
     (put (codes "columnKind") (string (codes "unicodeCodePoints")) (put (codes "tool") (only (codes "driver") driver_value) no_members)))
 
 abbrev pub document_value : List Data → Data
 document_value results =
-    object (put (codes "runs") (listed (run_value results ∷ []))
+    object (put (codes "runs") (json_list (run_value results ∷ []))
     (put (codes "version") (string (codes "2.1.0")) (put (codes "$schema") (string (codes "https://json.schemastore.org/sarif-2.1.0.json")) no_members)))

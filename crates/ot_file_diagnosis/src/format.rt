@@ -123,7 +123,7 @@ pub fn without_refusals(alloc: Global, found: Vec<Diagnosis>) -> Result<Vec<Diag
 }
 
 fn keep(kept: &mut Vec<Diagnosis>, one: Diagnosis) -> Result<(), AllocError>
-    ensures { OnOk result (map diagnosis_by kept.new.items ≡ map diagnosis_by kept.old.items ++ meant.kept (diagnosis_by one)) }
+    ensures { OnOk result (map diagnosis_by kept.new.items ≡ map diagnosis_by kept.old.items ++ meant.kept_if_told (diagnosis_by one)) }
 {
     match one.code {
         Code::Refused(_) => {}

@@ -46,7 +46,7 @@ fn put_notes(
     notes: &[Remark],
     out: &mut Vec<u8>,
 ) -> Result<(), AllocError>
-    ensures { OnOk result (out.new.items ≡ out.old.items ++ meant.notes_text paint source.entry.name.now source.entry.text.now (map remark_by notes.now)) }
+    ensures { OnOk result (out.new.items ≡ out.old.items ++ meant.notes_shown paint source.entry.name.now source.entry.text.now (map remark_by notes.now)) }
 {
     for note in notes {
         put_remark(alloc, paint, source, Severity::Note, note, "", out)?;
@@ -96,7 +96,7 @@ fn put_line(
 
 /// Writes words on one line.
 fn put_words(words: &[u8], out: &mut Vec<u8>) -> Result<(), AllocError>
-    ensures { OnOk result (out.new.items ≡ out.old.items ++ map meant.on_line words.now) }
+    ensures { OnOk result (out.new.items ≡ out.old.items ++ map meant.one_line_byte words.now) }
 {
     for byte in words {
         out.push(on_line(*byte))?;
@@ -106,7 +106,7 @@ fn put_words(words: &[u8], out: &mut Vec<u8>) -> Result<(), AllocError>
 
 /// A byte of words on one line: an LF is a space.
 fn on_line(byte: u8) -> u8
-    ensures { result ≡ meant.on_line byte }
+    ensures { result ≡ meant.one_line_byte byte }
 {
     if byte == b'\n' { b' ' } else { byte }
 }

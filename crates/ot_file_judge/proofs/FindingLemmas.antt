@@ -4,7 +4,7 @@ use Rattle.std.specs.Prelude.{Option, Some, None, option_map, MatchOption, slice
 use Rattle.ot_file_diagnosis.specs.declared.diagnosis.Place.{Place}
 use Rattle.ot_book.specs.Answers as r
 use Rattle.ot_book.specs.Books.{Register, last_told}
-use Rattle.ot_file_judge.specs.Judging.{statement_place, fault_offset, IsInPiece, IsPlacedAt, IsPlacedBy, IsPlacedIn, IsPlaced, IsBehind}
+use Rattle.ot_file_judge.specs.Judging.{statement_place, fault_offset, IsInPiece, IsPlacedAt, IsPlacedBy, IsPlacedIn, IsPlaced, IsBookBehind}
 use Rattle.ot_file_judge.specs.Found.{found_as}
 use Rattle.serde_json.specs.Data.{Data}
 use Rattle.serde_json.specs.View.{view}
@@ -52,9 +52,9 @@ placed_fault None book blank start end place spot at inside fault = inside
 placed_fault (Some request) book blank start end place spot at inside fault = at ∙ ap (λ n. place_in blank (start + n)) (fault request refl)
 
 behind_by : (t long : Bool) (start end : ℕ) (request : Option Data) (book : Register) →
-    IsBehind (record { start = start; end = end; request = request; book = if t then None else Some book; is_long = long }) book
+    IsBookBehind (record { start = start; end = end; request = request; book = if t then None else Some book; is_long = long }) book
 behind_by true long start end request book = inl refl
 behind_by false long start end request book = inr refl
 
-pub behind_found : (f : Found) (book : Register) → IsBehind (found_as f book) book
+pub behind_found : (f : Found) (book : Register) → IsBookBehind (found_as f book) book
 behind_found f book = behind_by f.ends f.is_long f.start f.end (option_map view f.request) book

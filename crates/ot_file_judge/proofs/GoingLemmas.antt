@@ -6,7 +6,7 @@ use Rattle.ot_file_text.specs.declared.request.Piece.{Piece}
 use Rattle.serde_json.specs.Data.{Data}
 use Rattle.ot_book.specs.Answers.{value_of}
 use Rattle.ot_book.specs.Books.{Register}
-use Rattle.ot_file_judge.specs.Judging.{line_of, is_goodbye, lines_by, lines_from, with_end, is_long, Refusal, refusal, no_room, too_long, verdict_of, passed, refusals_by, refusals_at, refusals_with, refusals_from, Goes, standing}
+use Rattle.ot_file_judge.specs.Judging.{line_of, is_goodbye, lines_by, lines_from, with_end, is_long, Refusal, refusal_of_piece, no_room, too_long, verdict_of, book_passed, refusals_by, refusals_at, refusals_with, refusals_from, Goes, standing}
 use Rattle.ot_file_judge.specs.Found.{is_full, is_taken}
 use Rattle.ot_file_judge.specs.declared.verdict.Verdict.{Verdict}
 use Rattle.ot_file_judge.specs.declared.verdict.Verdict.TheVariants.{Taken, Refused, Full}
@@ -54,7 +54,7 @@ pub at_goodbye : {all : List Refusal} {blank line : List ℕ} {from : ℕ} {book
 at_goodbye {all} {blank} {line} {from} {book} p g is past within line_is bye =
     let a = at_piece p g is past within in
     sym a.is
-    ∙ ap (λ t. if t then [] else unless_long (is_long (piece_line blank p)) p (refusals_by (verdict_of book (piece_line blank p)) p (piece_line blank p) (passed book (piece_line blank p)) (refusals_from a.rest blank p.end (passed book (piece_line blank p)))))
+    ∙ ap (λ t. if t then [] else unless_long (is_long (piece_line blank p)) p (refusals_by (verdict_of book (piece_line blank p)) p (piece_line blank p) (book_passed book (piece_line blank p)) (refusals_from a.rest blank p.end (book_passed book (piece_line blank p)))))
     (ap is_goodbye (sym line_is) ∙ bye)
 
 -- the line is too long
@@ -62,7 +62,7 @@ pub at_long : {all : List Refusal} {blank line : List ℕ} {from : ℕ} {book : 
     line ≡ piece_line blank p → is_goodbye line ≡ false → is_long line ≡ true → all ≡ too_long p ∷ []
 at_long {all} {blank} {line} {from} {book} p g is past within line_is bye long =
     let a = at_piece p g is past within in
-    let behind = λ (l : List ℕ). refusals_by (verdict_of book l) p l (passed book l) (refusals_from a.rest blank p.end (passed book l)) in
+    let behind = λ (l : List ℕ). refusals_by (verdict_of book l) p l (book_passed book l) (refusals_from a.rest blank p.end (book_passed book l)) in
     sym a.is
     ∙ ap (λ l. if is_goodbye l then [] else unless_long (is_long l) p (behind l)) (sym line_is)
     ∙ ap (λ t. if t then [] else unless_long (is_long line) p (behind line)) bye
@@ -70,13 +70,13 @@ at_long {all} {blank} {line} {from} {book} p g is past within line_is bye long =
 
 judged : (blank line : List ℕ) (book : Register) (p : Piece) (v : Verdict) (rest : ℕ) →
     line ≡ piece_line blank p → is_goodbye line ≡ false → is_long line ≡ false → v ≡ verdict_of book line →
-    refusals_at book (piece_line blank p) p (λ b. refusals_from rest blank p.end b) ≡ refusals_by v p line (passed book line) (refusals_from rest blank p.end (passed book line))
+    refusals_at book (piece_line blank p) p (λ b. refusals_from rest blank p.end b) ≡ refusals_by v p line (book_passed book line) (refusals_from rest blank p.end (book_passed book line))
 judged blank line book p v rest line_is bye short v_is =
-    let behind = refusals_by (verdict_of book line) p line (passed book line) (refusals_from rest blank p.end (passed book line)) in
+    let behind = refusals_by (verdict_of book line) p line (book_passed book line) (refusals_from rest blank p.end (book_passed book line)) in
     ap (λ l. refusals_at book l p (λ b. refusals_from rest blank p.end b)) (sym line_is)
     ∙ ap (λ t. if t then [] else unless_long (is_long line) p behind) bye
     ∙ ap (λ t. unless_long t p behind) short
-    ∙ ap (λ w. refusals_by w p line (passed book line) (refusals_from rest blank p.end (passed book line))) (sym v_is)
+    ∙ ap (λ w. refusals_by w p line (book_passed book line) (refusals_from rest blank p.end (book_passed book line))) (sym v_is)
 
 full_ends : (v : Verdict) (p : Piece) (line : List ℕ) (behind : List Refusal) (book : Register) → is_full v ≡ true → refusals_by v p line book behind ≡ no_room p ∷ []
 full_ends Taken p line behind book h = absurd (cc)
@@ -84,7 +84,7 @@ full_ends Refused p line behind book h = absurd (cc)
 full_ends Full p line behind book h = refl
 
 refused_tells : (v : Verdict) (p : Piece) (line : List ℕ) (behind : List Refusal) (book : Register) → is_full v ≡ false → is_taken v ≡ false →
-    refusals_by v p line book behind ≡ refusal p line book ∷ behind
+    refusals_by v p line book behind ≡ refusal_of_piece p line book ∷ behind
 refused_tells Taken p line behind book h k = absurd (cc)
 refused_tells Refused p line behind book h k = refl
 refused_tells Full p line behind book h k = absurd (cc)
@@ -99,7 +99,7 @@ pub at_full : {all : List Refusal} {blank line : List ℕ} {from : ℕ} {book : 
     line ≡ piece_line blank p → is_goodbye line ≡ false → is_long line ≡ false → v ≡ verdict_of book line → is_full v ≡ true → all ≡ no_room p ∷ []
 at_full {all} {blank} {line} {from} {book} p v g is past within line_is bye short v_is full =
     let a = at_piece p g is past within in
-    sym a.is ∙ judged blank line book p v a.rest line_is bye short v_is ∙ full_ends v p line _ (passed book line) full
+    sym a.is ∙ judged blank line book p v a.rest line_is bye short v_is ∙ full_ends v p line _ (book_passed book line) full
 
 -- behind a full log nothing is judged
 pub at_last : (blank : List ℕ) (book : Register) (from : ℕ) → length blank ≤ from → Goes [] (standing blank from book)
@@ -107,23 +107,23 @@ at_last blank book from past = record { most = 0; enough = omega (arith, past); 
 
 -- a request is refused, whose line has this value
 pub at_refused : {all : List Refusal} {blank line : List ℕ} {from : ℕ} {book : Register} → (p : Piece) (v : Verdict) (new : Register) (request : Option Data) → Goes all (standing blank from book) → Some p ≡ piece_from blank from → from < p.end → p.end ≤ length blank →
-    line ≡ piece_line blank p → is_goodbye line ≡ false → is_long line ≡ false → v ≡ verdict_of book line → is_full v ≡ false → is_taken v ≡ false → new ≡ passed book line → request ≡ value_of line →
+    line ≡ piece_line blank p → is_goodbye line ≡ false → is_long line ≡ false → v ≡ verdict_of book line → is_full v ≡ false → is_taken v ≡ false → new ≡ book_passed book line → request ≡ value_of line →
     (behind : List Refusal) × (all ≡ record { start = p.start; end = p.end; request = request; book = Some new; is_long = false } ∷ behind) × Goes behind (standing blank p.end new)
 at_refused {all} {blank} {line} {from} {book} p v new request g is past within line_is bye short v_is full taken new_is value_is =
     let a = at_piece p g is past within in
-    let one = sym a.is ∙ judged blank line book p v a.rest line_is bye short v_is ∙ refused_tells v p line _ (passed book line) full taken in (
-      refusals_from a.rest blank p.end (passed book line),
-      one ∙ ap (λ b. refusal p line b ∷ refusals_from a.rest blank p.end (passed book line)) (sym new_is)
-          ∙ ap (λ (d : Option Data). record { start = p.start; end = p.end; request = d; book = Some new; is_long = false } ∷ refusals_from a.rest blank p.end (passed book line)) (sym value_is),
+    let one = sym a.is ∙ judged blank line book p v a.rest line_is bye short v_is ∙ refused_tells v p line _ (book_passed book line) full taken in (
+      refusals_from a.rest blank p.end (book_passed book line),
+      one ∙ ap (λ b. refusal_of_piece p line b ∷ refusals_from a.rest blank p.end (book_passed book line)) (sym new_is)
+          ∙ ap (λ (d : Option Data). record { start = p.start; end = p.end; request = d; book = Some new; is_long = false } ∷ refusals_from a.rest blank p.end (book_passed book line)) (sym value_is),
       record { most = a.rest; enough = a.enough; is = ap (λ b. refusals_from a.rest blank p.end b) new_is },
     )
 
 -- a piece further
 pub at_taken : {all : List Refusal} {blank line : List ℕ} {from : ℕ} {book : Register} → (p : Piece) (v : Verdict) (new : Register) → Goes all (standing blank from book) → Some p ≡ piece_from blank from → from < p.end → p.end ≤ length blank →
-    line ≡ piece_line blank p → is_goodbye line ≡ false → is_long line ≡ false → v ≡ verdict_of book line → is_taken v ≡ true → new ≡ passed book line → Goes all (standing blank p.end new)
+    line ≡ piece_line blank p → is_goodbye line ≡ false → is_long line ≡ false → v ≡ verdict_of book line → is_taken v ≡ true → new ≡ book_passed book line → Goes all (standing blank p.end new)
 at_taken {all} {blank} {line} {from} {book} p v new g is past within line_is bye short v_is taken new_is =
     let a = at_piece p g is past within in
-    let one = sym (judged blank line book p v a.rest line_is bye short v_is ∙ taken_goes v p line _ (passed book line) taken) ∙ a.is in
+    let one = sym (judged blank line book p v a.rest line_is bye short v_is ∙ taken_goes v p line _ (book_passed book line) taken) ∙ a.is in
     record { most = a.rest; enough = a.enough; is = ap (λ b. refusals_from a.rest blank p.end b) new_is ∙ one }
 
 -- ---- lines

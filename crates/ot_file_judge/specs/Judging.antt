@@ -2,27 +2,27 @@
 use Rattle.std.specs.Prelude.{ℕ, [], zero, suc, ◌-◌, List, ◌∷◌, length, slice_get, slice_range, codes, Bool, true, false, if◌then◌else◌, Option, Some, None, option_map, option_and_then, Result, Ok, Err, ◌≡◌, ◌≤◌, ◌+◌, drop, unwrap_or, ◌⊎◌, ◌||◌, ◌++◌, bytes_eq, nat_eq, nat_lt}
 use Rattle.ot_file_text.specs.Cuts.{piece_from}
 use Rattle.ot_file_text.specs.declared.request.Piece.{Piece}
-use Rattle.ot_store.specs.Arrays.{Named, created, shape_in}
+use Rattle.ot_store.specs.Arrays.{Named, array_created, shape_in}
 use Rattle.ot_store.specs.Refusals.{usual_limits}
 use Rattle.ot_store.specs.declared.fault.StoreRefusal.{StoreRefusal}
 use Rattle.ot_book.specs.Answers as r
 use Rattle.ot_book.specs.Answers.{Step, Now, Runs, value_of, code_in, is_run}
-use Rattle.ot_book.specs.Books.{Register, new_register, next_step, logged, last_told}
+use Rattle.ot_book.specs.Books.{Register, new_register, next_step, line_logged, last_told}
 use Rattle.ot_book.specs.Room.{room_in, takes}
 use Rattle.ot_file_judge.specs.declared.verdict.Verdict.{Verdict}
 use Rattle.ot_file_judge.specs.declared.verdict.Verdict.TheVariants.{Taken, Refused, Full}
 use Rattle.ot_file_text.specs.Items.{offset_of}
 use Rattle.ot_file_diagnosis.specs.Diagnoses.{place_in}
 use Rattle.ot_file_diagnosis.specs.declared.diagnosis.Place.{Place}
-use Rattle.ot_why_place.specs.Spots.{Path, Spot, spots_of, statements_of, numbered}
-use Rattle.ot_why_fault.specs.Whys.{first_fault}
+use Rattle.ot_why_place.specs.Spots.{Path, Spot, spots_of, statements_of, item_numbered}
+use Rattle.ot_why_fault.specs.Whys.{first_why}
 use Rattle.ot_model.specs.Programs.{Arrays}
 use Rattle.ot_program.specs.Meanings.{is_word}
 use Rattle.serde_json.specs.Data.{Data, array, no_items, item}
 use Rattle.serde_json.specs.View.{view}
 use Rattle.ot_file_judge.specs.declared.findings.Finding.{Finding}
 use Rattle.std.specs.List.{starts_with}
-use Rattle.ot_file_text.specs.Comments.{blanked}
+use Rattle.ot_file_text.specs.Comments.{comments_blanked}
 use Rattle.ot_file_text.specs.OneLine.{one_line}
 
 -- the first item of an array is the word of a program
@@ -55,8 +55,8 @@ lines_from zero blank from = []
 lines_from (suc most) blank from = lines_by blank (piece_from blank from) (λ at. lines_from most blank at)
 
 -- the lines of a file: each of its pieces has a byte at least
-abbrev pub lines_in : List ℕ → List (List ℕ)
-lines_in text = let blank = blanked text in lines_from (length blank) blank 0
+abbrev pub lines_of_file : List ℕ → List (List ℕ)
+lines_of_file text = let blank = comments_blanked text in lines_from (length blank) blank 0
 
 -- so many bytes a line of a session may have
 abbrev pub longest_line : ℕ
@@ -90,8 +90,8 @@ abbrev pub verdict_of : Register → List ℕ → Verdict
 verdict_of book line = if takes (room_in book) line then verdict_by (next_step book line) else Full
 
 -- the book behind a line that it takes: what would be run is answered as for want of memory, which changes no array
-abbrev pub passed : Register → List ℕ → Register
-passed book line = logged book line (is_run (next_step book line))
+abbrev pub book_passed : Register → List ℕ → Register
+book_passed book line = line_logged book line (is_run (next_step book line))
 
 -- ---- what a verdict says
 
@@ -106,8 +106,8 @@ pub record Refusal : Type 0 where
   pub book : Option Register
   pub is_long : Bool
 
-abbrev pub refusal : Piece → List ℕ → Register → Refusal
-refusal p line book = record { start = p.start; end = p.end; request = value_of line; book = Some book; is_long = false }
+abbrev pub refusal_of_piece : Piece → List ℕ → Register → Refusal
+refusal_of_piece p line book = record { start = p.start; end = p.end; request = value_of line; book = Some book; is_long = false }
 
 abbrev pub no_room : Piece → Refusal
 no_room p = record { start = p.start; end = p.end; request = None; book = None; is_long = false }
@@ -122,14 +122,14 @@ told_in one = option_and_then last_told one.book
 -- the refusals from a piece on: behind one that finds the log full there are no more
 abbrev pub refusals_by : Verdict → Piece → List ℕ → Register → List Refusal → List Refusal
 refusals_by Taken p line book behind = behind
-refusals_by Refused p line book behind = refusal p line book ∷ behind
+refusals_by Refused p line book behind = refusal_of_piece p line book ∷ behind
 refusals_by Full p line book behind = no_room p ∷ []
 
 -- the same from a line on: behind a goodbye there is none, and behind a line that is too long
 abbrev pub refusals_at : Register → List ℕ → Piece → (Register → List Refusal) → List Refusal
 refusals_at book line p behind =
     if is_goodbye line then []
-    else (if is_long line then too_long p ∷ [] else refusals_by (verdict_of book line) p line (passed book line) (behind (passed book line)))
+    else (if is_long line then too_long p ∷ [] else refusals_by (verdict_of book line) p line (book_passed book line) (behind (book_passed book line)))
 
 abbrev pub refusals_with : Register → List ℕ → Option Piece → (ℕ → Register → List Refusal) → List Refusal
 refusals_with book blank None behind = []
@@ -151,9 +151,9 @@ and_then (Ok arrays) more = more arrays
 and_then (Err refused) more = Err refused
 
 -- arrays with these names and lengths, made in order behind others
-abbrev pub made : List Named → List (List ℕ × ℕ) → Result (List Named) StoreRefusal
-made arrays [] = Ok arrays
-made arrays (one ∷ others) = and_then (created one.0 one.1 usual_limits arrays) (λ now. made now others)
+abbrev pub arrays_made : List Named → List (List ℕ × ℕ) → Result (List Named) StoreRefusal
+arrays_made arrays [] = Ok arrays
+arrays_made arrays (one ∷ others) = and_then (array_created one.0 one.1 usual_limits arrays) (λ now. arrays_made now others)
 
 -- the book that a file finds, where these arrays are there: that of a tenant that begins
 abbrev pub finds : List Named → Register
@@ -162,17 +162,17 @@ finds arrays = new_register (codes "t1") usual_limits arrays
 -- Where in a file a request is refused.
 
 -- the path in a piece to what a path in its line leads to: a program is the second item of its line
-abbrev pub path_in : Bool → Path → Path
-path_in true path = drop 1 path
-path_in false path = path
+abbrev pub path_in_piece : Bool → Path → Path
+path_in_piece true path = drop 1 path
+path_in_piece false path = path
 
 -- how many bytes of a piece stand before a statement
 abbrev pub spot_offset : List ℕ → Spot → Option ℕ
-spot_offset piece s = offset_of piece (path_in (is_program piece) s.path)
+spot_offset piece s = offset_of piece (path_in_piece (is_program piece) s.path)
 
 -- the same of the statement of its request that has this number in replies
 abbrev pub statement_offset : Option Data → List ℕ → ℕ → Option ℕ
-statement_offset request piece number = option_and_then (λ d. option_and_then (spot_offset piece) (numbered number (statements_of d))) request
+statement_offset request piece number = option_and_then (λ d. option_and_then (spot_offset piece) (item_numbered number (statements_of d))) request
 
 -- where in a file without comments that statement of a piece stands, or the piece, where it has none
 abbrev pub statement_place : Option Data → List ℕ → ℕ → ℕ → ℕ → Place
@@ -194,7 +194,7 @@ runs_program request = false
 -- program itself, a statement, or what is of no form
 abbrev pub fault_offset : Arrays → List ℕ → Data → Option ℕ
 fault_offset shape piece request =
-    if runs_program request then option_and_then (λ found. option_and_then (spot_offset piece) (slice_get (spots_of request) found.0)) (first_fault shape request)
+    if runs_program request then option_and_then (λ found. option_and_then (spot_offset piece) (slice_get (spots_of request) found.0)) (first_why shape request)
     else None
 
 -- what is no JSON is told in the piece; what is refused otherwise where its program has a fault, or at the piece
@@ -215,7 +215,7 @@ IsPlacedIn None request blank start end place = place ≡ place_in blank start
 IsPlacedIn (Some book) request blank start end place = IsPlacedBy (last_told book) request (shape_in book.limits book.store) blank start end place
 
 abbrev pub IsPlaced : List ℕ → Refusal → Place → Type 0
-IsPlaced blank refusal place = IsPlacedIn refusal.book refusal.request blank refusal.start refusal.end place
+IsPlaced blank refusal_of_piece place = IsPlacedIn refusal_of_piece.book refusal_of_piece.request blank refusal_of_piece.start refusal_of_piece.end place
 
 -- How far a file was judged.
 
@@ -247,5 +247,5 @@ pub record IsSeen (one : Refusal) (f : Finding) : Type 0 where
   pub long : f.is_long ≡ one.is_long
 
 -- this book is the one behind it, unless it found the log full, or was too long
-abbrev pub IsBehind : Refusal → Register → Type 0
-IsBehind one book = (one.book ≡ None) ⊎ (one.book ≡ Some book)
+abbrev pub IsBookBehind : Refusal → Register → Type 0
+IsBookBehind one book = (one.book ≡ None) ⊎ (one.book ≡ Some book)

@@ -1,7 +1,7 @@
 //! The requests of a file that are refused, one after another.
 ghost use Rattle.std.specs.Prelude.{◌≡◌, ◌≤◌, ◌<◌, [], ◌∷◌, None, List, length, IfOk, IfSome, MatchOption, ℕ, Ok, option_and_then, option_map};
 ghost use Rattle.serde_json.specs.View.{view};
-ghost use Rattle.ot_file_judge.specs.Judging.{Refusal, refusals_in, finds, made, told_in, IsPlaced, statement_place, Goes, standing, IsBehind, IsSeen, bytes_left};
+ghost use Rattle.ot_file_judge.specs.Judging.{Refusal, refusals_in, finds, arrays_made, told_in, IsPlaced, statement_place, Goes, standing, IsBookBehind, IsSeen, bytes_left};
 ghost use Rattle.ot_book.specs.Answers.{code_in};
 ghost use Rattle.ot_file_judge.specs.Found.{found_as};
 
@@ -68,7 +68,7 @@ impl<'a> Findings<'a> {
         blank: &'a [u8],
         arrays: &[ArrayShape],
     ) -> Result<Findings<'a>, JudgeFault>
-        ensures { IfOk result (λ findings. (now : List Named) × (made [] (arrays_of arrays.now) ≡ Ok now)
+        ensures { IfOk result (λ findings. (now : List Named) × (arrays_made [] (arrays_of arrays.now) ≡ Ok now)
             × (findings.blank ≡ blank.entry.now) × Goes (refusals_in (finds now) blank.entry.now) findings) }
     {
         let book = book_with(alloc, arrays)?;
@@ -91,7 +91,7 @@ impl<'a> Findings<'a> {
     /// full log or a line that is too long.
     pub fn next(&mut self, alloc: Global) -> Result<Option<Finding>, JudgeFault>
         ensures next { (all : List Refusal) → Goes all self.old → IfOk result (λ next. MatchOption next (all ≡ [])
-            (λ f. (one : Refusal) × (behind : List Refusal) × (all ≡ one ∷ behind) × Goes behind self.new × IsSeen one f × IsBehind one self.new.book × IsPlaced self.old.blank one f.place)) }
+            (λ f. (one : Refusal) × (behind : List Refusal) × (all ≡ one ∷ behind) × Goes behind self.new × IsSeen one f × IsBookBehind one self.new.book × IsPlaced self.old.blank one f.place)) }
         ensures piece { IfOk result (λ next. IfSome next (λ f. (f.start ≤ f.end) × (f.end ≤ length self.new.blank))) }
         ensures fewer { IfOk result (λ next. IfSome next (λ f. bytes_left self.new < bytes_left self.old)) }
         ensures file { self.new.blank ≡ self.old.blank }

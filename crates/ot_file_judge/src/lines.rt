@@ -1,6 +1,6 @@
 //! The requests of a file, one a line.
 ghost use Rattle.std.specs.Prelude.{◌≡◌, ◌++◌, IfOk, OnOk, flat_map};
-ghost use Rattle.ot_file_judge.specs.Judging.{lines_in, with_end};
+ghost use Rattle.ot_file_judge.specs.Judging.{lines_of_file, with_end};
 
 use crate::line::line_of;
 use ot_file_text::{blanked, next_piece};
@@ -8,7 +8,7 @@ use std::alloc::{AllocError, Global};
 
 /// The lines of a file's requests, each with its LF: what `omptaskd solo` reads.
 pub fn lines_of(alloc: Global, text: &[u8]) -> Result<Vec<u8>, AllocError>
-    ensures { IfOk result (λ lines. lines.items ≡ flat_map with_end (lines_in text.now)) }
+    ensures { IfOk result (λ lines. lines.items ≡ flat_map with_end (lines_of_file text.now)) }
 {
     let blank = blanked(alloc, text)?;
     let mut out = Vec::new(alloc);

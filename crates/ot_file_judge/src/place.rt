@@ -6,7 +6,7 @@ ghost use Rattle.serde_json.specs.Data.{Data, array};
 ghost use Rattle.serde_json.specs.View.{view, items_view};
 ghost use Rattle.ot_store.specs.Arrays.{shape_in};
 ghost use Rattle.ot_why_fault.specs.Whys.{shape_of};
-ghost use Rattle.ot_file_judge.specs.Judging.{path_in, statement_offset, fault_offset, runs_program};
+ghost use Rattle.ot_file_judge.specs.Judging.{path_in_piece, statement_offset, fault_offset, runs_program};
 
 use crate::line::is_program;
 use crate::told::told_last;
@@ -82,7 +82,7 @@ pub(crate) fn statement_in(
 
 /// How many bytes of a piece stand before a place in its line.
 fn offset_in(piece: &[u8], place: &Place<'_>) -> usize
-    ensures offset { result ≡ unwrap_or (offset_of piece.now (path_in (is_program piece.now) place.now.path.items)) 0 }
+    ensures offset { result ≡ unwrap_or (offset_of piece.now (path_in_piece (is_program piece.now) place.now.path.items)) 0 }
     ensures within { result ≤ length piece.now }
 {
     match offset_of(piece, path_in(is_program(piece), place.path.as_slice())) {
@@ -96,7 +96,7 @@ ghost use Rattle.ot_file_judge.specs.Judging.{is_program};
 
 /// The path in a piece to what a path in its line leads to.
 fn path_in(is_program: bool, path: &[usize]) -> &[usize]
-    ensures { result.now ≡ path_in is_program path.now }
+    ensures { result.now ≡ path_in_piece is_program path.now }
 {
     match path {
         [_, rest @ ..] if is_program => rest,

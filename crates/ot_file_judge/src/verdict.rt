@@ -3,7 +3,7 @@ ghost use Rattle.std.specs.Prelude.{◌≡◌, ◌≢◌, ◌<◌, false, None, 
 ghost use Rattle.ot_book.specs.ReplyView.{told_of};
 ghost use Rattle.ot_book.specs.Answers as replies;
 ghost use Rattle.ot_file_judge.specs.Found.{is_full, is_taken};
-ghost use Rattle.ot_file_judge.specs.Judging.{passed, verdict_of, verdict_on};
+ghost use Rattle.ot_file_judge.specs.Judging.{book_passed, verdict_of, verdict_on};
 ghost use Rattle.ot_book.specs.Books.{last_told};
 
 use crate::fault::JudgeFault;
@@ -47,7 +47,7 @@ impl Verdict {
 pub(crate) fn judge_line(alloc: Global, book: &mut Book, line: &[u8]) -> Result<Verdict, JudgeFault>
     requires { book.old.pending ≡ None }
     ensures verdict { IfOk result (λ verdict. verdict ≡ verdict_of book.old line.now) }
-    ensures passed { IfOk result (λ verdict. is_full verdict ≡ false → book.new ≡ passed book.old line.now) }
+    ensures passed { IfOk result (λ verdict. is_full verdict ≡ false → book.new ≡ book_passed book.old line.now) }
     ensures closed { book.new.pending ≡ None }
 {
     match book.open(alloc, line)? {

@@ -6,7 +6,7 @@ use Rattle.ot_file_diagnosis.specs.Diagnoses.{Remark, Diagnosis}
 use Rattle.ot_file_diagnosis.specs.declared.diagnosis.Place.{Place}
 use Rattle.ot_file_judge.specs.Judging.{Refusal, told_in, IsPlaced, Standing, Goes, IsSeen}
 use Rattle.ot_file_judge.specs.declared.findings.Finding.{Finding}
-use Rattle.ot_file_report.specs.Report.{Names, refused, notes_told, AreNotes, IsTold, Reports}
+use Rattle.ot_file_report.specs.Report.{Names, refusal_at, notes_told, AreNotes, IsTold, Reports}
 use Rattle.ot_file_report.specs.NoteView.{note_by, stands_of}
 use Rattle.ot_file_report.specs.declared.note.Note.{Note}
 use Rattle.ot_file_report.proofs.NoteLemmas.{stands-notes}
@@ -44,9 +44,9 @@ are_notes blank one f notes seen names = record {
 }
 
 pub is_told : (blank : List ℕ) (one : Refusal) (f : Finding) (notes : List Note) (told : List Remark) → IsSeen one f → Names one (stands_of notes)
-    → told ≡ notes_told (option_map view f.request) blank f.start f.end f.place (map note_by notes) → IsTold blank one f.place (refused f.place f.is_long f.code told)
+    → told ≡ notes_told (option_map view f.request) blank f.start f.end f.place (map note_by notes) → IsTold blank one f.place (refusal_at f.place f.is_long f.code told)
 is_told blank one f notes told seen names is = (
   told,
   subst (AreNotes blank one f.place) (sym is) (are_notes blank one f notes seen names),
-  ap (λ long. refused f.place long f.code told) seen.long ∙ ap (λ code. refused f.place one.is_long code told) seen.code,
+  ap (λ long. refusal_at f.place long f.code told) seen.long ∙ ap (λ code. refusal_at f.place one.is_long code told) seen.code,
 )

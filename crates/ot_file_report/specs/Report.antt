@@ -47,10 +47,10 @@ Names one stands = NamesIn one.book one.request stands
 -- What is told of a file whose requests were judged: a diagnosis for each refusal, with its notes.
 
 -- a code, and what it means; a full log has none, and a line that is too long
-abbrev pub words_of : Bool → Option ℕ → List ℕ
-words_of true code = codes "long: without its white space the line has more than 65536 bytes; behind it nothing is answered"
-words_of false (Some code) = decimal code ++ (codes ": " ++ sentence_of code)
-words_of false None = codes "full: the log has no room for this request; a checkpoint begins it anew"
+abbrev pub words_of_code : Bool → Option ℕ → List ℕ
+words_of_code true code = codes "long: without its white space the line has more than 65536 bytes; behind it nothing is answered"
+words_of_code false (Some code) = decimal code ++ (codes ": " ++ sentence_of code)
+words_of_code false None = codes "full: the log has no room for this request; a checkpoint begins it anew"
 
 abbrev pub kind_of : Bool → Option ℕ → Code
 kind_of true code = Long
@@ -62,8 +62,8 @@ abbrev pub remark : Place → List ℕ → Remark
 remark place words = record { place = Some place; file = None; turns = []; message = words }
 
 -- a refusal at this place, with its notes
-abbrev pub refused : Place → Bool → Option ℕ → List Remark → Diagnosis
-refused place long code notes = record { severity = Error; code = kind_of long code; told = remark place (words_of long code); notes = notes }
+abbrev pub refusal_at : Place → Bool → Option ℕ → List Remark → Diagnosis
+refusal_at place long code notes = record { severity = Error; code = kind_of long code; told = remark place (words_of_code long code); notes = notes }
 
 -- a note stands at the statement of this number, or where the request is refused
 abbrev pub note_place : Option Data → List ℕ → ℕ → ℕ → Place → Option ℕ → Place
@@ -83,7 +83,7 @@ pub record AreNotes (blank : List ℕ) (one : Refusal) (p : Place) (told : List 
 -- a refusal that is placed here is told by its code, with its notes
 abbrev pub IsTold : List ℕ → Refusal → Place → Diagnosis → Type 0
 IsTold blank one p found =
-    (notes : List Remark) × AreNotes blank one p notes × (found ≡ refused p one.is_long (option_and_then code_in (told_in one)) notes)
+    (notes : List Remark) × AreNotes blank one p notes × (found ≡ refusal_at p one.is_long (option_and_then code_in (told_in one)) notes)
 
 -- each refusal where it is placed
 abbrev pub Reports : List ℕ → List Refusal → List Diagnosis → Type 0

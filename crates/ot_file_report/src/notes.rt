@@ -1,7 +1,7 @@
 //! The notes behind a refusal.
 ghost use Rattle.std.specs.Prelude.{◌≡◌, ◌≤◌, IfOk, length, map, option_and_then, Some, option_map, [], ◌∷◌};
 ghost use Rattle.serde_json.specs.View.{view};
-ghost use Rattle.ot_file_judge.specs.Judging.{Refusal, IsBehind, IsSeen};
+ghost use Rattle.ot_file_judge.specs.Judging.{Refusal, IsBookBehind, IsSeen};
 ghost use Rattle.ot_file_diagnosis.specs.DiagnosisView.{remark_by};
 ghost use Rattle.ot_file_report.specs.Report.{Names, NamesBy, StandIn, notes_told};
 ghost use Rattle.ot_file_report.specs.NoteView.{note_by, stands_of};
@@ -51,7 +51,7 @@ pub(crate) fn notes_of(
     book: &Book,
     finding: &Finding,
 ) -> Result<Vec<Note>, AllocError>
-    ensures { IfOk result (λ notes. (one : Refusal) → IsBehind one book.now → IsSeen one finding.now → Names one (stands_of notes.items)) }
+    ensures { IfOk result (λ notes. (one : Refusal) → IsBookBehind one book.now → IsSeen one finding.now → Names one (stands_of notes.items)) }
 {
     let Some(_) = finding.code else {
         return Ok(Vec::new(alloc));

@@ -1,11 +1,11 @@
 //! A file, judged, and what is told of it.
 ghost use Rattle.std.specs.Prelude.{◌≡◌, ◌≤◌, [], ◌∷◌, ◌++◌, List, Ok, IfOk, OnOk, length, map};
 ghost use Rattle.ot_file_diagnosis.specs.DiagnosisView.{remark_by, diagnosis_by};
-ghost use Rattle.ot_file_text.specs.Comments.{blanked};
+ghost use Rattle.ot_file_text.specs.Comments.{comments_blanked};
 ghost use Rattle.ot_store.specs.Arrays.{Named};
 ghost use Rattle.ot_model.specs.Programs.{arrays_of};
-ghost use Rattle.ot_file_judge.specs.Judging.{Refusal, IsBehind, IsSeen, refusals_in, finds, made, Goes};
-ghost use Rattle.ot_file_report.specs.Report.{Reports, IsTold, refused};
+ghost use Rattle.ot_file_judge.specs.Judging.{Refusal, IsBookBehind, IsSeen, refusals_in, finds, arrays_made, Goes};
+ghost use Rattle.ot_file_report.specs.Report.{Reports, IsTold, refusal_at};
 
 use crate::notes::{notes_of, placed};
 use crate::words::{kind_of, words_of};
@@ -22,8 +22,8 @@ pub fn report_on(
     text: &[u8],
     arrays: &[ArrayShape],
 ) -> Result<Vec<Diagnosis>, JudgeFault>
-    ensures { IfOk result (λ found. (now : List Named) × (made [] (arrays_of arrays.now) ≡ Ok now)
-        × Reports (blanked text.now) (refusals_in (finds now) (blanked text.now)) (map diagnosis_by found.items)) }
+    ensures { IfOk result (λ found. (now : List Named) × (arrays_made [] (arrays_of arrays.now) ≡ Ok now)
+        × Reports (comments_blanked text.now) (refusals_in (finds now) (comments_blanked text.now)) (map diagnosis_by found.items)) }
 {
     let blank = blanked(alloc, text)?;
     let mut findings = Findings::new(alloc, blank.as_slice(), arrays)?;
@@ -57,7 +57,7 @@ fn told_of(
     finding: &Finding,
 ) -> Result<Diagnosis, AllocError>
     requires { (finding.now.start ≤ finding.now.end) × (finding.now.end ≤ length findings.old.blank) }
-    ensures told { IfOk result (λ found. (one : Refusal) → IsBehind one findings.old.book → IsSeen one finding.now → IsTold findings.old.blank one finding.now.place (diagnosis_by found)) }
+    ensures told { IfOk result (λ found. (one : Refusal) → IsBookBehind one findings.old.book → IsSeen one finding.now → IsTold findings.old.blank one finding.now.place (diagnosis_by found)) }
     ensures same { findings.new ≡ findings.old }
 {
     let notes = notes_of(alloc, findings.book(), finding)?;
@@ -67,7 +67,7 @@ fn told_of(
 
 /// A refusal, with these notes.
 fn refused(alloc: Global, finding: &Finding, notes: Vec<Remark>) -> Result<Diagnosis, AllocError>
-    ensures { IfOk result (λ found. diagnosis_by found ≡ refused finding.now.place finding.now.is_long finding.now.code (map remark_by notes.items)) }
+    ensures { IfOk result (λ found. diagnosis_by found ≡ refusal_at finding.now.place finding.now.is_long finding.now.code (map remark_by notes.items)) }
 {
     let message = words_of(alloc, finding)?;
     Ok(Diagnosis {

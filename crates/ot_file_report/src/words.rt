@@ -9,7 +9,7 @@ use std::alloc::{AllocError, Global};
 
 /// What is said of a refusal: that the line is too long, or its code.
 pub(crate) fn words_of(alloc: Global, finding: &Finding) -> Result<String, AllocError>
-    ensures { IfOk result (λ words. string_bytes words ≡ meant.words_of finding.now.is_long finding.now.code) }
+    ensures { IfOk result (λ words. string_bytes words ≡ meant.words_of_code finding.now.is_long finding.now.code) }
 {
     if finding.is_long {
         return String::from_str(
@@ -22,7 +22,7 @@ pub(crate) fn words_of(alloc: Global, finding: &Finding) -> Result<String, Alloc
 
 /// A code and what it means, or that the log is full.
 fn code_words(alloc: Global, code: Option<u32>) -> Result<String, AllocError>
-    ensures { IfOk result (λ words. string_bytes words ≡ meant.words_of false code) }
+    ensures { IfOk result (λ words. string_bytes words ≡ meant.words_of_code false code) }
 {
     match code {
         Some(code) => format!(in alloc; "{code}: {}", sentence_of(code)),

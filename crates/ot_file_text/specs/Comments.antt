@@ -29,5 +29,5 @@ blanked_in part [] = []
 blanked_in part (b ∷ behind) = shown_in (part_after part b behind) b ∷ blanked_in (part_after part b behind) behind
 
 -- a file whose comments are blank
-abbrev pub blanked : List ℕ → List ℕ
-blanked text = blanked_in (Json Outside) text
+abbrev pub comments_blanked : List ℕ → List ℕ
+comments_blanked text = blanked_in (Json Outside) text

@@ -24,15 +24,15 @@ stray_in place [] = 0
 stray_in place (b ∷ behind) = if opens place b then 0 else suc (stray_in (place_after place b) behind)
 
 -- the piece that begins with a bracket behind so many bytes, by how far it closes, where so many bytes are left
-abbrev pub bracketed : Option ℕ → ℕ → ℕ → Piece
-bracketed (Some len) start left = record { kind = Closed; start = start; end = start + len }
-bracketed None start left = record { kind = Open; start = start; end = start + left }
+abbrev pub bracketed_piece : Option ℕ → ℕ → ℕ → Piece
+bracketed_piece (Some len) start left = record { kind = Closed; start = start; end = start + len }
+bracketed_piece None start left = record { kind = Open; start = start; end = start + left }
 
 -- the piece that begins with these bytes, behind so many others
 abbrev pub piece_at : List ℕ → ℕ → Option Piece
 piece_at [] start = None
 piece_at (b ∷ behind) start =
-    if is_opening b then Some (bracketed (closed_in outside (b ∷ behind)) start (length (b ∷ behind)))
+    if is_opening b then Some (bracketed_piece (closed_in outside (b ∷ behind)) start (length (b ∷ behind)))
     else Some (record { kind = Stray; start = start; end = start + stray_in Outside (b ∷ behind) })
 
 -- the first piece of a file from a byte on, white space before it left away

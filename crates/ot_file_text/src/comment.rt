@@ -1,6 +1,6 @@
 //! Comments of a file: from `//` outside of strings to the line's end.
 ghost use Rattle.std.specs.Prelude.{◌≡◌, IfOk};
-ghost use Rattle.ot_file_text.specs.Comments.{begins_comment, blanked, part_after, shown_in};
+ghost use Rattle.ot_file_text.specs.Comments.{begins_comment, comments_blanked, part_after, shown_in};
 
 use crate::place::Place;
 use std::alloc::{AllocError, Global};
@@ -17,7 +17,7 @@ enum Part {
 /// The text with each byte of a comment made a space, so that every other byte stays where it is. A comment goes from
 /// `//` outside of strings up to the line's end, which stays.
 pub fn blanked(alloc: Global, text: &[u8]) -> Result<Vec<u8>, AllocError>
-    ensures { IfOk result (λ blank. blank.items ≡ blanked text.now) }
+    ensures { IfOk result (λ blank. blank.items ≡ comments_blanked text.now) }
 {
     let mut blank = Vec::with_capacity(alloc, text.len())?;
     let mut part = Part::Json(Place::Outside);

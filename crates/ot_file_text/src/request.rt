@@ -1,7 +1,7 @@
 //! A file cut into its requests.
 ghost use Rattle.std.specs.Prelude.{◌≡◌, ◌+◌, ◌≤◌, ◌<◌, ◌^◌, length, IfSome};
 ghost use Rattle.ot_file_text.specs.Places.{outside};
-ghost use Rattle.ot_file_text.specs.Cuts.{blanks_in, closed_in, stray_in, bracketed, piece_at, piece_from};
+ghost use Rattle.ot_file_text.specs.Cuts.{blanks_in, closed_in, stray_in, bracketed_piece, piece_at, piece_from};
 ghost use Rattle.ot_file_text.specs.declared.place.Place.TheVariants.{Outside};
 
 use crate::nesting::Nesting;
@@ -63,7 +63,7 @@ fn piece_at(text: &[u8], start: usize) -> Option<Piece>
 fn bracketed(text: &[u8], start: usize) -> Piece
     requires fits { start + length text.now < 2 ^ 64 }
     requires some { 0 < length text.now }
-    ensures piece { result ≡ bracketed (closed_in outside text.now) start (length text.now) }
+    ensures piece { result ≡ bracketed_piece (closed_in outside text.now) start (length text.now) }
     ensures start { result.start ≡ start }
     ensures within { (start < result.end) × (result.end ≤ start + length text.now) }
 {

@@ -3,12 +3,12 @@ use Rattle.std.proofs.Common.{◌≡◌, ◌≢◌, ℕ, ◌<◌, List, length, 
 use Rattle.std.specs.Prelude.{Option, Some, None, option_map, slice_get, bytes_eq}
 use Rattle.std.proofs.lemmas.Slice.Eq.{bytes_eq-Decides}
 use Rattle.std.proofs.lemmas.Option.{slice_get-map, slice_get_read, slice_get_within, get_or_from_slice_get}
-use Rattle.ot_front.specs.Desks.{AreDistinct, IsPlaceOf}
+use Rattle.ot_front.specs.Desks.{AreDistinct, IsDeskOf}
 
-pub place_found : (names : List (List ℕ)) (name : List ℕ) (at : ℕ) → AreDistinct names → slice_get names at ≡ Some name → IsPlaceOf names name (Some at)
+pub place_found : (names : List (List ℕ)) (name : List ℕ) (at : ℕ) → AreDistinct names → slice_get names at ≡ Some name → IsDeskOf names name (Some at)
 place_found names name at distinct stands = λ k. (λ is. cc, λ here. ap Some (distinct at k name stands here))
 
-pub place_none : (names : List (List ℕ)) (name : List ℕ) → ((k : ℕ) → slice_get names k ≢ Some name) → IsPlaceOf names name None
+pub place_none : (names : List (List ℕ)) (name : List ℕ) → ((k : ℕ) → slice_get names k ≢ Some name) → IsDeskOf names name None
 place_none names name nowhere = λ k. (λ is. absurd (cc), λ here. absurd (nowhere k here))
 
 -- ---- a list of things with names

@@ -11,7 +11,7 @@ use Rattle.serde_json.specs.declared.value.Value.{Value}
 use Rattle.ot_book.specs.Books.{Register, next_number}
 use Rattle.ot_session.specs.Session.{HasNoEnd}
 use Rattle.ot_front.specs.FirstLines.{read_with}
-use Rattle.ot_front.specs.Greetings.{hello_of, hello_json, Greeting, greeting_of, Asks, IsFirstLine, IsTooLong, IsCut, IsRefused, IsGiven, refusal_text, hello_text, WritesReply, Answers, Greets}
+use Rattle.ot_front.specs.Greetings.{hello_of, hello_json, Greeting, greeting_of, Asks, IsFirstLine, IsTooLong, IsCutLine, IsRefused, IsGiven, refusal_text, hello_text, WritesReply, Answers, Greets}
 use Rattle.ot_lines.specs.declared.source.Failed.{Failed}
 use Rattle.ot_lines.specs.declared.lines.Heard.{Heard}
 use Rattle.ot_lines.specs.declared.lines.Heard.TheVariants.{Line, Long}
@@ -108,7 +108,7 @@ greets_long names ahead left ended start held result line first is reads clean l
 -- nothing was read for want of memory
 pub greets_nothing : (names : List (List ℕ)) (ahead : Option (List ℕ)) (ended : Type 0) (held : Option (List ℕ)) → Greets names ahead ahead ended held held (Err Memory)
 greets_nothing names ahead ended held =
-    let cut : IsCut [] = record {
+    let cut : IsCutLine [] = record {
       clean = λ k within. absurd (omega (arith, within));
       short = omega arith;
     } in record {

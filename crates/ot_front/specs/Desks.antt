@@ -10,5 +10,5 @@ abbrev pub IsKnown : List (List ℕ) → List ℕ → Type 0
 IsKnown names name = (k : ℕ) × (slice_get names k ≡ Some name)
 
 -- the place at which the name stands, counted from 0, or none where it stands nowhere
-abbrev pub IsPlaceOf : List (List ℕ) → List ℕ → Option ℕ → Type 0
-IsPlaceOf names name place = (k : ℕ) → (place ≡ Some k) ↔ (slice_get names k ≡ Some name)
+abbrev pub IsDeskOf : List (List ℕ) → List ℕ → Option ℕ → Type 0
+IsDeskOf names name place = (k : ℕ) → (place ≡ Some k) ↔ (slice_get names k ≡ Some name)

@@ -37,7 +37,7 @@ pub record IsTooLong (bytes : List ℕ) : Type 0 where
   pub long : length bytes ≡ max_first_line + 1
 
 -- no LF, and the line may still become whole
-pub record IsCut (bytes : List ℕ) : Type 0 where
+pub record IsCutLine (bytes : List ℕ) : Type 0 where
   pub clean : HasNoEnd bytes
   pub short : length bytes ≤ max_first_line
 
@@ -52,17 +52,17 @@ hello_of ds = None
 abbrev pub Greeting : Type 0
 Greeting = Result (List ℕ) Refusal
 
-abbrev pub named : Option (List ℕ) → Greeting
-named None = Err NotGreeting
-named (Some name) = Ok name
+abbrev pub greeting_named : Option (List ℕ) → Greeting
+greeting_named None = Err NotGreeting
+greeting_named (Some name) = Ok name
 
-abbrev pub greeted : Option Data → Greeting
-greeted None = Err NotJson
-greeted (Some d) = named (option_and_then hello_of (as_array d))
+abbrev pub greeting_in_data : Option Data → Greeting
+greeting_in_data None = Err NotJson
+greeting_in_data (Some d) = greeting_named (option_and_then hello_of (as_array d))
 
 -- what a line asks
 abbrev pub greeting_of : List ℕ → Greeting
-greeting_of line = greeted (value_of line)
+greeting_of line = greeting_in_data (value_of line)
 
 -- what the bytes ask that were read: those of a whole line, or too many
 abbrev pub Asks : List ℕ → Greeting → Type 0
@@ -134,7 +134,7 @@ NeverAsks bytes left ended result = ⊥
 abbrev pub AnswersFirstLine : List (List ℕ) → List ℕ → Option (List ℕ) → Type 0 → Option (List ℕ) → Option (List ℕ) → Result (Option Register) FrontFault → Type 0
 AnswersFirstLine names bytes left ended start held result =
     ((greeting : Greeting) × Asks bytes greeting × Answers names greeting start held result)
-    ⊎ (IsCut bytes × (held ≡ start) × NeverAsks bytes left ended result)
+    ⊎ (IsCutLine bytes × (held ≡ start) × NeverAsks bytes left ended result)
 
 -- a connection's first line was read, and nothing behind it, and answered
 pub record Greets (names : List (List ℕ)) (ahead left : Option (List ℕ)) (ended : Type 0) (start held : Option (List ℕ)) (result : Result (Option Register) FrontFault) : Type 0 where

@@ -1,6 +1,6 @@
 //! The desk on which the tenants' books lie while no session has them.
 ghost use Rattle.std.specs.Prelude.{◌≡◌, ◌≢◌, ◌<◌, ◌^◌, List, ℕ, None, Some, Err, map, vec_len, string_bytes, All, IfOk, IfErr, IfSome, OnOk, option_map};
-ghost use Rattle.ot_front.specs.Desks.{AreDistinct, IsKnown, IsPlaceOf};
+ghost use Rattle.ot_front.specs.Desks.{AreDistinct, IsKnown, IsDeskOf};
 
 use ot_book::Book;
 use std::alloc::{AllocError, Global};
@@ -61,7 +61,7 @@ impl Desk {
     /// The tenant's number: its place, counted from 0, among the books handed to `new`. It waits for
     /// nobody.
     pub fn position(&self, name: &str) -> Option<u32>
-        ensures { IsPlaceOf self.now name.now result }
+        ensures { IsDeskOf self.now name.now result }
     {
         for (at, known) in self.names.iter().enumerate() {
             if known.as_str() == name {

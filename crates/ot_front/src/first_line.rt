@@ -1,7 +1,7 @@
 //! The first line of a connection, read byte by byte, so that nothing behind it is taken.
 ghost use Rattle.std.specs.Prelude.{◌≡◌, ◌≢◌, ◌≤◌, ℕ, Ok, length, OnOk, OnErr};
 ghost use Rattle.std.specs.Io.KnownBytes.{Consumes, IsAtEnd};
-ghost use Rattle.ot_lines.specs.Lines.{HasNoEnd, opened};
+ghost use Rattle.ot_lines.specs.Lines.{HasNoEnd, hearing_opened};
 ghost use Rattle.ot_lines.specs.declared.lines.Heard.TheVariants.{Long, End};
 ghost use Rattle.ot_session.specs.Serving.{next_count, count_after};
 ghost use Rattle.ot_front.specs.FirstLines.{first_bounds, read_with};
@@ -21,7 +21,7 @@ pub(crate) fn first_bounds() -> Bounds
 
 /// Hears a first line, and reads nothing behind its LF.
 pub(crate) fn hear_first<R: Source>(lines: &mut Lines, source: &mut R) -> Result<Heard, Failed>
-    requires { lines.old ≡ opened first_bounds }
+    requires { lines.old ≡ hearing_opened first_bounds }
     ensures bytes { Consumes (R.flow source.old).ahead (R.flow source.new).ahead (read_with result lines.new.line) }
     ensures one { HasNoEnd lines.new.line }
     ensures long { result ≡ Ok Long → length lines.new.line ≡ 65 }

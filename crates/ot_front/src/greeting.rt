@@ -4,7 +4,7 @@ ghost use Rattle.serde_json.specs.Find.{as_array};
 ghost use Rattle.serde_json.specs.View.{view, items_view};
 ghost use Rattle.ot_book.specs.Answers.{value_of};
 ghost use Rattle.ot_session.specs.Serving.{next_count, count_after};
-ghost use Rattle.ot_lines.specs.Lines.{opened};
+ghost use Rattle.ot_lines.specs.Lines.{hearing_opened};
 ghost use Rattle.ot_front.specs.FirstLines.{first_bounds};
 ghost use Rattle.ot_front.specs.Greetings.{hello_of, greeting_of, hello_text, refusal_text, WritesReply, Answers, Greets, IsGiven, IsRefused};
 ghost use Rattle.ot_front.specs.Racks.{with_taken, with_laid, Hands};
@@ -58,7 +58,7 @@ pub(crate) fn greet_from<B: Rack, R: Source, W: Sink>(
     source: &mut R,
     sink: &mut W,
 ) -> Result<Option<Book>, FrontFault>
-    requires { lines.old ≡ opened first_bounds }
+    requires { lines.old ≡ hearing_opened first_bounds }
     ensures greets { Greets (B.names rack.old) (R.flow source.old).ahead (R.flow source.new).ahead ((R.flow source.new).ends ≡ next_count (R.flow source.old).ends)
         (W.contents sink.old) (W.contents sink.new) result }
     ensures names { B.names rack.new ≡ B.names rack.old }

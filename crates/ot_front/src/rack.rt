@@ -1,6 +1,6 @@
 //! Where the books of tenants come from and go back to, as one connection sees it.
 ghost use Rattle.std.specs.Prelude.{◌≡◌, ◌≢◌, ℕ, List, Option, None, Err, IfOk, OnErr};
-ghost use Rattle.ot_front.specs.Desks.{IsKnown, IsPlaceOf};
+ghost use Rattle.ot_front.specs.Desks.{IsKnown, IsDeskOf};
 ghost use Rattle.ot_front.specs.Racks.{Moves, with_taken, with_laid};
 ghost use Rattle.ot_front.specs.declared.desk.DeskFault.TheVariants.{Unknown};
 
@@ -21,7 +21,7 @@ pub(crate) trait Rack {
 
     /// The tenant's number, as `Desk::position`.
     fn position(&self, name: &str) -> Option<u32>
-        ensures { IsPlaceOf (names self.now) name.now result };
+        ensures { IsDeskOf (names self.now) name.now result };
 
     /// Takes the tenant's book, as `Desk::take`.
     fn take(&mut self, name: &str) -> Result<Book, DeskFault>

@@ -6,12 +6,12 @@ use Rattle.std.proofs.lemmas.List.{get_or_past, get_or_default, set-get_or}
 use Rattle.std.proofs.lemmas.Option.{same_Some, slice_get_read}
 use Rattle.ot_check.specs.Jobs.{Spec, IsMeaning}
 use Rattle.ot_check.specs.declared.job.Outcome.{Outcome}
-use Rattle.ot_job.specs.Dealings.{Live, Fails as HasFailed, claimable_in, aborted, IsOf, IsOver, NoneOut, state_of}
+use Rattle.ot_job.specs.Dealings.{Live, Fails as HasFailed, claimable_in, job_aborted, IsOf, IsOver, NoneOut, live_state}
 use Rattle.ot_job.specs.Moves.{Claimed, Settles as HasSettled}
 use Rattle.ot_job.specs.Taken.{Taken as Piece, Came as Done}
 use Rattle.ot_job.specs.declared.state.State.TheVariants.{Working, Failing, Ended, Failed}
 use Rattle.ot_job.proofs.DealingsLemmas.{claimed-gives}
-use Rattle.ot_hall.specs.Floors.{job_of, Floor, with_job, IsFree, SubmitsFor, EntersFor, NothingAt, ClaimsFor, ClaimsOf, IsWorking, FailsIn, AbortsJob, HasJob, HasOver, LeavesFor, CollectsFor, SettlesFor, units_of, RunsShort}
+use Rattle.ot_hall.specs.Floors.{job_of, Floor, with_job, IsFree, SubmitsFor, EntersFor, NothingAt, ClaimsFor, ClaimsOf, IsWorking, FailsIn, AbortsJob, HasJob, HasOver, LeavesFor, CollectsFor, SettlesFor, tenant_units, RunsShort}
 use Rattle.ot_hall.specs.Index.{Begins}
 use Rattle.ot_hall.specs.declared.hall.Collected.TheVariants as collected
 
@@ -46,7 +46,7 @@ claims-of f now t pick worker job next (Ok (Some p)) is at claimed = subst (λ o
 claims-of f now t pick worker job next (Err e) is at claimed = tt
 
 pub runs-short : {T E : Type 0} (f now : Floor) (t : ℕ) (job next : Live) (r : Result T E) → f ≡ now → job_of f.jobs t ≡ Some job
-    → OnErr r (state_of job ≡ Working) → OnErr r (0 < length (claimable_in job)) → OnErr r (next ≡ job)
+    → OnErr r (live_state job ≡ Working) → OnErr r (0 < length (claimable_in job)) → OnErr r (next ≡ job)
     → OnErr r (RunsShort now t (with_job f t (Some next)))
 runs-short f now t job next (Ok x) is at working some same = tt
 runs-short f now t job next (Err e) is at working some same = record {
@@ -61,7 +61,7 @@ fails-in f now t done job next is at failed =
     let does : FailsIn f t done (Some job) (with_job f t (Some next)) = record { next = next; failed = failed; new_is = refl } in
     subst (λ (o : Floor). FailsIn o t done (job_of o.jobs t) (with_job f t (Some next))) is (subst (λ o. FailsIn f t done o (with_job f t (Some next))) (sym at) does)
 
-pub aborts-job : (f now : Floor) (t : ℕ) (job next : Live) → f ≡ now → job_of f.jobs t ≡ Some job → next ≡ aborted job → AbortsJob now t (with_job f t (Some next))
+pub aborts-job : (f now : Floor) (t : ℕ) (job next : Live) → f ≡ now → job_of f.jobs t ≡ Some job → next ≡ job_aborted job → AbortsJob now t (with_job f t (Some next))
 aborts-job f now t job next is at fails =
     subst (λ o. AbortsJob o t (with_job f t (Some next))) is (record { job = job; is = at; new_is = ap (λ j. with_job f t (Some j)) fails })
 
@@ -75,7 +75,7 @@ leaves f now t job jobs is over at left =
     let o = subst (λ g. HasOver g t) (sym is) over in
     subst (λ g. LeavesFor g t job (record { jobs = jobs; units = f.units })) is (record {
       is = at;
-      over = subst (λ (j : Live). IsOver (state_of j)) (same_Some o.job job (sym o.is ∙ at)) o.over;
+      over = subst (λ (j : Live). IsOver (live_state j)) (same_Some o.job job (sym o.is ∙ at)) o.over;
       new_is = ap (λ js. let r : Floor = record { jobs = js; units = f.units } in r) left;
     })
 
@@ -83,18 +83,18 @@ abbrev has-job : (f : Floor) (t : ℕ) (spec : Spec) (job : Live) → job_of f.j
 has-job f t spec job at of = record { job = job; is = at; of = of }
 
 pub collects-pending : (f now : Floor) (t : ℕ) (spec : Spec) (job : Live) → f ≡ now → job_of f.jobs t ≡ Some job → IsOf spec job
-    → (state_of job ≡ Working) ⊎ (state_of job ≡ Failing) → CollectsFor now t spec collected.Pending now
+    → (live_state job ≡ Working) ⊎ (live_state job ≡ Failing) → CollectsFor now t spec collected.Pending now
 collects-pending f now t spec job is at of state = subst (λ o. CollectsFor o t spec collected.Pending o) is ((has-job f t spec job at of, state), refl)
 
 pub collects-ended : (f now : Floor) (t : ℕ) (spec : Spec) (job : Live) (outcome : Outcome) (jobs : List (Option Live)) → f ≡ now → job_of f.jobs t ≡ Some job → IsOf spec job
-    → state_of job ≡ Ended → NoneOut job → IsMeaning spec outcome → jobs ≡ set f.jobs t None
+    → live_state job ≡ Ended → NoneOut job → IsMeaning spec outcome → jobs ≡ set f.jobs t None
     → CollectsFor now t spec (collected.Ended outcome) (record { jobs = jobs; units = f.units })
 collects-ended f now t spec job outcome jobs is at of state calm means left =
     subst (λ o. CollectsFor o t spec (collected.Ended outcome) (record { jobs = jobs; units = f.units })) is
     ((has-job f t spec job at of, state, calm), means, ap (λ js. let r : Floor = record { jobs = js; units = f.units } in r) left)
 
 pub collects-failed : (f now : Floor) (t : ℕ) (spec : Spec) (job : Live) (jobs : List (Option Live)) → f ≡ now → job_of f.jobs t ≡ Some job → IsOf spec job
-    → state_of job ≡ Failed → NoneOut job → jobs ≡ set f.jobs t None
+    → live_state job ≡ Failed → NoneOut job → jobs ≡ set f.jobs t None
     → CollectsFor now t spec collected.Failed (record { jobs = jobs; units = f.units })
 collects-failed f now t spec job jobs is at of state calm left =
     subst (λ o. CollectsFor o t spec collected.Failed (record { jobs = jobs; units = f.units })) is
@@ -121,7 +121,7 @@ pub seen : {X : Type 0} (xs : List X) (t : ℕ) (x : X) → t < length xs → x 
 seen xs t x = slice_get_read xs (length xs) t x refl
 
 pub settles : (f now : Floor) (t : ℕ) (done : Done) (n x : ℕ) (job next : Live) → f ≡ now → job_of f.jobs t ≡ Some job
-    → HasSettled job done n next → x ≡ units_of f t + n → SettlesFor now t done n (record { jobs = set f.jobs t (Some next); units = set f.units t x })
+    → HasSettled job done n next → x ≡ tenant_units f t + n → SettlesFor now t done n (record { jobs = set f.jobs t (Some next); units = set f.units t x })
 settles f now t done n x job next is at settled more =
     subst (λ o. SettlesFor o t done n (record { jobs = set f.jobs t (Some next); units = set f.units t x })) is (record {
       job = job;

@@ -11,7 +11,7 @@ use Rattle.std.proofs.lemmas.Nat.{and_le_l}
 use Rattle.std.proofs.lemmas.Grind.{div_ceil_times}
 use Rattle.std.proofs.lemmas.Nat.Bits.{bit_at_and, bit_at-zero, bit_at-lt, bit_at_mask_inside, bit_at_mask_below, bit_at-trailing_zeros, ones_shl}
 use Rattle.ot_hall.proofs.IndexLemmas.{replicated-at}
-use Rattle.ot_hall.specs.Marking.{is_marked, IsFirst, has_bit, IsLowest, mark_in}
+use Rattle.ot_hall.specs.Marking.{is_number_marked, IsFirst, has_bit_at, IsLowest, bit_marked}
 
 -- ---- one word
 
@@ -28,10 +28,10 @@ bit-ahead word from k low after within = omega (arith, bit-from word from k low,
 bit-before : (word from k : ℕ) → from < 64 → k < from → bit_at (from_on word from) k ≡ 0
 bit-before word from k low before = omega (arith, bit-from word from k low, bit_at_mask_below from 64 k before)
 
-clear : (word k : ℕ) → bit_at word k ≡ 0 → has_bit word k ≡ false
+clear : (word k : ℕ) → bit_at word k ≡ 0 → has_bit_at word k ≡ false
 clear word k is = ap (λ b. b == 1) is
 
-pub none-from : (word from : ℕ) → from < 64 → from_on word from ≡ 0 → HoldsNowhere (has_bit word) from 64
+pub none-from : (word from : ℕ) → from < 64 → from_on word from ≡ 0 → HoldsNowhere (has_bit_at word) from 64
 none-from word from low none k after within = clear word k (sym (bit-ahead word from k low after within) ∙ ap (λ w. bit_at w k) none ∙ bit_at-zero k)
 
 pub lowest-from : (word from : ℕ) → word < 2 ^ 64 → from < 64 → 0 < from_on word from → IsLowest word from (Some (trailing_zeros w64 (from_on word from)))
@@ -54,25 +54,25 @@ lowest-from word from fits low some =
 -- ---- the words
 
 -- the marks are those of a list, where they are at each number
-pub marks-are : (words : List ℕ) (count : ℕ) (marks : List Bool) → length marks ≡ count → ((k : ℕ) → k < count → mark_in words k ≡ get_or marks k false)
-    → map (mark_in words) (range_with_len 0 count) ≡ marks
+pub marks-are : (words : List ℕ) (count : ℕ) (marks : List Bool) → length marks ≡ count → ((k : ℕ) → k < count → bit_marked words k ≡ get_or marks k false)
+    → map (bit_marked words) (range_with_len 0 count) ≡ marks
 marks-are words count marks many each =
-    ext_get_or false (map (mark_in words) (range_with_len 0 count)) marks (length-map-range_with_len (mark_in words) 0 count ∙ sym many)
+    ext_get_or false (map (bit_marked words) (range_with_len 0 count)) marks (length-map-range_with_len (bit_marked words) 0 count ∙ sym many)
     (λ k within.
-    let below : k < count = omega (arith, within, length-map-range_with_len (mark_in words) 0 count) in
-    get_or-map-range_with_len (mark_in words) 0 count k k false below (omega arith) ∙ each k below)
+    let below : k < count = omega (arith, within, length-map-range_with_len (bit_marked words) 0 count) in
+    get_or-map-range_with_len (bit_marked words) 0 count k k false below (omega arith) ∙ each k below)
 
 -- a mark is its bit, since no bit is set behind them
-pub marked : (words : List ℕ) (count : ℕ) (k : ℕ) → ((j : ℕ) → count ≤ j → mark_in words j ≡ false) → is_marked (map (mark_in words) (range_with_len 0 count)) k ≡ mark_in words k
+pub marked : (words : List ℕ) (count : ℕ) (k : ℕ) → ((j : ℕ) → count ≤ j → bit_marked words j ≡ false) → is_number_marked (map (bit_marked words) (range_with_len 0 count)) k ≡ bit_marked words k
 marked words count k clean = elim (cases_lt k count) [
-  | inl within ↦ get_or-map-range_with_len (mark_in words) 0 count k k false within (omega arith)
-  | inr past ↦ get_or_past (map (mark_in words) (range_with_len 0 count)) k false (omega (arith, length-map-range_with_len (mark_in words) 0 count)) ∙ sym (clean k past)
+  | inl within ↦ get_or-map-range_with_len (bit_marked words) 0 count k k false within (omega arith)
+  | inr past ↦ get_or_past (map (bit_marked words) (range_with_len 0 count)) k false (omega (arith, length-map-range_with_len (bit_marked words) 0 count)) ∙ sym (clean k past)
 ]
 
-pub none-in : (n k : ℕ) → mark_in (replicate n 0) k ≡ false
+pub none-in : (n k : ℕ) → bit_marked (replicate n 0) k ≡ false
 none-in n k = clear (get_or (replicate n 0) (k / 64) 0) (k % 64) (ap (λ (w : ℕ). bit_at w (k % 64)) (replicated-at {X = ℕ} 0 n (k / 64)) ∙ bit_at-zero (k % 64))
 
-pub none-set : (n count : ℕ) → map (mark_in (replicate n 0)) (range_with_len 0 count) ≡ replicate count false
+pub none-set : (n count : ℕ) → map (bit_marked (replicate n 0)) (range_with_len 0 count) ≡ replicate count false
 none-set n count = marks-are (replicate n 0) count (replicate count false) (length-replicate count false) (λ k within. none-in n k ∙ sym (get_or-replicate count k false false within))
 
 -- ---- a mark is put
@@ -80,33 +80,33 @@ none-set n count = marks-are (replicate n 0) count (replicate count false) (leng
 -- the word of a number becomes another, where only its bit differs
 pub record Puts (words : List ℕ) (number w : ℕ) (is_set : Bool) : Type 0 where
   pub within : number / 64 < length words
-  pub here : has_bit w (number % 64) ≡ is_set
-  pub others : (i : ℕ) → i < 64 → i ≢ number % 64 → has_bit w i ≡ has_bit (get_or words (number / 64) 0) i
+  pub here : has_bit_at w (number % 64) ≡ is_set
+  pub others : (i : ℕ) → i < 64 → i ≢ number % 64 → has_bit_at w i ≡ has_bit_at (get_or words (number / 64) 0) i
 
-put-here : (words : List ℕ) (number w : ℕ) (is_set : Bool) → Puts words number w is_set → mark_in (set words (number / 64) w) number ≡ is_set
-put-here words number w is_set puts = ap (λ v. has_bit v (number % 64)) (get_or-set_same words (number / 64) w 0 puts.within) ∙ puts.here
+put-here : (words : List ℕ) (number w : ℕ) (is_set : Bool) → Puts words number w is_set → bit_marked (set words (number / 64) w) number ≡ is_set
+put-here words number w is_set puts = ap (λ v. has_bit_at v (number % 64)) (get_or-set_same words (number / 64) w 0 puts.within) ∙ puts.here
 
-pub put-other : (words : List ℕ) (number w : ℕ) (is_set : Bool) → Puts words number w is_set → (k : ℕ) → k ≢ number → mark_in (set words (number / 64) w) k ≡ mark_in words k
+pub put-other : (words : List ℕ) (number w : ℕ) (is_set : Bool) → Puts words number w is_set → (k : ℕ) → k ≢ number → bit_marked (set words (number / 64) w) k ≡ bit_marked words k
 put-other words number w is_set puts k apart =
     let new = set words (number / 64) w in
     elim (cases_eq (k / 64) (number / 64)) [
       | inl same ↦
-          ap (λ i. has_bit (get_or new i 0) (k % 64)) same ∙ ap (λ v. has_bit v (k % 64)) (get_or-set_same words (number / 64) w 0 puts.within)
-          ∙ puts.others (k % 64) (omega arith) (λ e. apart (omega (arith, same, e))) ∙ ap (λ i. has_bit (get_or words i 0) (k % 64)) (sym same)
-      | inr other ↦ ap (λ v. has_bit v (k % 64)) (get_or-set_other words (number / 64) (k / 64) w 0 other)
+          ap (λ i. has_bit_at (get_or new i 0) (k % 64)) same ∙ ap (λ v. has_bit_at v (k % 64)) (get_or-set_same words (number / 64) w 0 puts.within)
+          ∙ puts.others (k % 64) (omega arith) (λ e. apart (omega (arith, same, e))) ∙ ap (λ i. has_bit_at (get_or words i 0) (k % 64)) (sym same)
+      | inr other ↦ ap (λ v. has_bit_at v (k % 64)) (get_or-set_other words (number / 64) (k / 64) w 0 other)
     ]
 
 pub put-marks : (words : List ℕ) (count number w : ℕ) (is_set : Bool) → number < count → Puts words number w is_set
-    → map (mark_in (set words (number / 64) w)) (range_with_len 0 count) ≡ set (map (mark_in words) (range_with_len 0 count)) number is_set
+    → map (bit_marked (set words (number / 64) w)) (range_with_len 0 count) ≡ set (map (bit_marked words) (range_with_len 0 count)) number is_set
 put-marks words count number w is_set below puts =
-    let old = map (mark_in words) (range_with_len 0 count) in
-    let many : length old ≡ count = length-map-range_with_len (mark_in words) 0 count in
+    let old = map (bit_marked words) (range_with_len 0 count) in
+    let many : length old ≡ count = length-map-range_with_len (bit_marked words) 0 count in
     marks-are (set words (number / 64) w) count (set old number is_set) (length-set old number is_set ∙ many) (λ k within. elim (cases_eq k number) [
       | inl here ↦
-          ap (mark_in (set words (number / 64) w)) here ∙ put-here words number w is_set puts ∙ sym (get_or-set_same old number is_set false (omega (arith, below, many)))
+          ap (bit_marked (set words (number / 64) w)) here ∙ put-here words number w is_set puts ∙ sym (get_or-set_same old number is_set false (omega (arith, below, many)))
           ∙ ap (λ i. get_or (set old number is_set) i false) (sym here)
       | inr other ↦
-          put-other words number w is_set puts k other ∙ sym (get_or-map-range_with_len (mark_in words) 0 count k k false within (omega arith))
+          put-other words number w is_set puts k other ∙ sym (get_or-map-range_with_len (bit_marked words) 0 count k k false within (omega arith))
           ∙ sym (get_or-set_other old number k is_set false other)
     ])
 
@@ -116,12 +116,12 @@ put-marks words count number w is_set below puts =
 pub record IsLookedAt (words : List ℕ) (from next place : ℕ) : Type 0 where
   pub at : next / 64 ≡ place
   pub behind : from ≤ next
-  pub none : HoldsNowhere (mark_in words) from next
+  pub none : HoldsNowhere (bit_marked words) from next
 
-in-word : (words : List ℕ) (k place : ℕ) → k / 64 ≡ place → mark_in words k ≡ has_bit (get_or words place 0) (k % 64)
-in-word words k place is = ap (λ i. has_bit (get_or words i 0) (k % 64)) is
+in-word : (words : List ℕ) (k place : ℕ) → k / 64 ≡ place → bit_marked words k ≡ has_bit_at (get_or words place 0) (k % 64)
+in-word words k place is = ap (λ i. has_bit_at (get_or words i 0) (k % 64)) is
 
-pub looked-on : (words : List ℕ) (from next place : ℕ) → IsLookedAt words from next place → HoldsNowhere (has_bit (get_or words place 0)) (next % 64) 64
+pub looked-on : (words : List ℕ) (from next place : ℕ) → IsLookedAt words from next place → HoldsNowhere (has_bit_at (get_or words place 0)) (next % 64) 64
     → IsLookedAt words from ((place + 1) * 64) (place + 1)
 looked-on words from next place looked none = record {
   at = omega arith;
@@ -134,15 +134,15 @@ looked-on words from next place looked none = record {
   ];
 }
 
-pub found : (words : List ℕ) (count from next place bit : ℕ) → ((j : ℕ) → count ≤ j → mark_in words j ≡ false) → IsLookedAt words from next place
-    → IsLowest (get_or words place 0) (next % 64) (Some bit) → IsFirst (map (mark_in words) (range_with_len 0 count)) from (Some (place * 64 + bit))
+pub found : (words : List ℕ) (count from next place bit : ℕ) → ((j : ℕ) → count ≤ j → bit_marked words j ≡ false) → IsLookedAt words from next place
+    → IsLowest (get_or words place 0) (next % 64) (Some bit) → IsFirst (map (bit_marked words) (range_with_len 0 count)) from (Some (place * 64 + bit))
 found words count from next place bit clean looked lowest =
     let k : ℕ = place * 64 + bit in
-    let marks = map (mark_in words) (range_with_len 0 count) in
-    let many : length marks ≡ count = length-map-range_with_len (mark_in words) 0 count in
+    let marks = map (bit_marked words) (range_with_len 0 count) in
+    let many : length marks ≡ count = length-map-range_with_len (bit_marked words) 0 count in
     let at : k / 64 ≡ place = omega (arith, lowest.0) in
     let rest : k % 64 ≡ bit = omega (arith, lowest.0) in
-    let hit : mark_in words k ≡ true = in-word words k place at ∙ ap (has_bit (get_or words place 0)) rest ∙ lowest.1.hit lowest.0 in
+    let hit : bit_marked words k ≡ true = in-word words k place at ∙ ap (has_bit_at (get_or words place 0)) rest ∙ lowest.1.hit lowest.0 in
     let within : k < count = elim (cases_lt k count) [
       | inl within ↦ within
       | inr past ↦ absurd (true≢false (sym hit ∙ clean k past))
@@ -161,17 +161,17 @@ found words count from next place bit clean looked lowest =
       },
     )
 
-pub not-found : (words : List ℕ) (count from next place : ℕ) → ((j : ℕ) → count ≤ j → mark_in words j ≡ false) → IsLookedAt words from next place → length words ≤ place
-    → IsFirst (map (mark_in words) (range_with_len 0 count)) from None
+pub not-found : (words : List ℕ) (count from next place : ℕ) → ((j : ℕ) → count ≤ j → bit_marked words j ≡ false) → IsLookedAt words from next place → length words ≤ place
+    → IsFirst (map (bit_marked words) (range_with_len 0 count)) from None
 not-found words count from next place clean looked past k after within = marked words count k clean ∙ (elim (cases_lt k next) [
   | inl was ↦ looked.none k after was
-  | inr behind ↦ in-word words k (k / 64) refl ∙ ap (λ w. has_bit w (k % 64)) (get_or_past words (k / 64) 0 (omega (arith, looked.at, behind, past))) ∙ clear 0 (k % 64) (bit_at-zero (k % 64))
+  | inr behind ↦ in-word words k (k / 64) refl ∙ ap (λ w. has_bit_at w (k % 64)) (get_or_past words (k / 64) 0 (omega (arith, looked.at, behind, past))) ∙ clear 0 (k % 64) (bit_at-zero (k % 64))
 ])
 
 -- ---- bounds
 
-pub below-count : (words : List ℕ) (count number : ℕ) (marks : List Bool) → map (mark_in words) (range_with_len 0 count) ≡ marks → number < length marks → number < count
-below-count words count number marks is below = omega (arith, below, ap length is, length-map-range_with_len (mark_in words) 0 count)
+pub below-count : (words : List ℕ) (count number : ℕ) (marks : List Bool) → map (bit_marked words) (range_with_len 0 count) ≡ marks → number < length marks → number < count
+below-count words count number marks is below = omega (arith, below, ap length is, length-map-range_with_len (bit_marked words) 0 count)
 
 pub within-words : (words : List ℕ) (count number : ℕ) → length words ≡ div_ceil count 64 → number < count → number / 64 < length words
 within-words words count number many below = omega (arith, many, below, div_ceil_times count 64 (omega arith))

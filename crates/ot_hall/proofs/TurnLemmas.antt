@@ -9,7 +9,7 @@ use Rattle.ot_job.specs.Dealings.{Live, claimable_in}
 use Rattle.ot_hall.specs.Floors.{job_of, has_claimable, NothingAt, NothingAnywhere}
 use Rattle.ot_hall.specs.Index.{NothingIn, IsNext}
 use Rattle.ot_hall.specs.FloorView.{IsHall}
-use Rattle.ot_hall.specs.Marking.{is_marked, IsFirst}
+use Rattle.ot_hall.specs.Marking.{is_number_marked, IsFirst}
 use Rattle.ot_hall.specs.declared.hall.Hall.TheInside.{Inside}
 use Rattle.ot_hall.proofs.FloorLemmas.{job-within}
 use Rattle.ot_hall.proofs.IndexLemmas.{map-replicate}
@@ -28,8 +28,8 @@ marked-read marks jobs t job are within =
 pub as-many-marks : (marks : List Bool) (jobs : List (Option Live)) → AreMarked marks jobs → length marks ≡ length jobs
 as-many-marks marks jobs are = ap length are ∙ length-map jobs has_claimable
 
-mark-is : (marks : List Bool) (jobs : List (Option Live)) (t : ℕ) → AreMarked marks jobs → is_marked marks t ≡ has_claimable (job_of jobs t)
-mark-is marks jobs t are = ap (λ m. is_marked m t) are ∙ get_or-map has_claimable jobs t None
+mark-is : (marks : List Bool) (jobs : List (Option Live)) (t : ℕ) → AreMarked marks jobs → is_number_marked marks t ≡ has_claimable (job_of jobs t)
+mark-is marks jobs t are = ap (λ m. is_number_marked m t) are ∙ get_or-map has_claimable jobs t None
 
 -- ---- what they tell
 
@@ -40,7 +40,7 @@ something : (jobs : List (Option Live)) (t : ℕ) (job : Option Live) → job_of
 something jobs t None is is_so none = true≢false (sym is_so)
 something jobs t (Some j) is is_so none = true≢false (sym is_so ∙ ap (λ tasks. nat_lt 0 (length tasks)) (none j is))
 
-nothing-in : (marks : List Bool) (jobs : List (Option Live)) (from to : ℕ) → AreMarked marks jobs → HoldsNowhere (is_marked marks) from to → NothingIn jobs from to
+nothing-in : (marks : List Bool) (jobs : List (Option Live)) (from to : ℕ) → AreMarked marks jobs → HoldsNowhere (is_number_marked marks) from to → NothingIn jobs from to
 nothing-in marks jobs from to are none t after before = nothing jobs t (sym (mark-is marks jobs t are) ∙ none t after before)
 
 -- ---- whose turn it is

@@ -2,7 +2,7 @@
 use Rattle.std.specs.Prelude.{◌≡◌, [], ◌+◌, ◌⊎◌, ℕ, List, replicate, Option, Some, None, slice_get, slice_set, slice_index_or, nat_lt, Bool, false, length}
 use Rattle.std.specs.List.{sum_by}
 use Rattle.ot_check.specs.Jobs.{Spec, IsMeaning}
-use Rattle.ot_job.specs.Dealings.{Live, Starts, Fails as HasFailed, claimable_in, aborted, IsOf, IsOver, NoneOut, state_of}
+use Rattle.ot_job.specs.Dealings.{Live, Starts, Fails as HasFailed, claimable_in, job_aborted, IsOf, IsOver, NoneOut, live_state}
 use Rattle.ot_job.specs.Moves.{Claimed, Settles as HasSettled, Refuses}
 use Rattle.ot_job.specs.Taken.{Taken as Piece, Came as Done}
 use Rattle.ot_job.specs.declared.piece.Refused.{Refused}
@@ -27,8 +27,8 @@ pub record Floor : Type 0 where
   pub units : List ℕ
 
 -- the units settled for a tenant
-abbrev pub units_of : Floor → ℕ → ℕ
-units_of f t = slice_index_or f.units t 0
+abbrev pub tenant_units : Floor → ℕ → ℕ
+tenant_units f t = slice_index_or f.units t 0
 
 -- the units settled for all
 abbrev pub total_of : Floor → ℕ
@@ -44,7 +44,7 @@ with_job f t job = record { jobs = slice_set f.jobs t job; units = f.units }
 
 -- and with more units of it
 abbrev pub with_settled : Floor → ℕ → Live → ℕ → Floor
-with_settled f t job n = record { jobs = slice_set f.jobs t (Some job); units = slice_set f.units t (units_of f t + n) }
+with_settled f t job n = record { jobs = slice_set f.jobs t (Some job); units = slice_set f.units t (tenant_units f t + n) }
 
 -- there is such a tenant, and it has no job
 abbrev pub IsFree : Floor → ℕ → Type 0
@@ -82,7 +82,7 @@ ClaimsOf old t pick worker (Some piece) new = ClaimsFor old t pick worker piece 
 pub record IsWorking (f : Floor) (t : ℕ) : Type 0 where
   pub job : Live
   pub is : job_of f.jobs t ≡ Some job
-  pub working : state_of job ≡ state.Working
+  pub working : live_state job ≡ state.Working
 
 -- a piece of the tenant's job is settled, and its units are counted
 pub record SettlesFor (old : Floor) (t : ℕ) (done : Done) (n : ℕ) (new : Floor) : Type 0 where
@@ -111,7 +111,7 @@ FailsIn old t done (Some job) new = FailsJob old t done job new
 pub record AbortsJob (old : Floor) (t : ℕ) (new : Floor) : Type 0 where
   pub job : Live
   pub is : job_of old.jobs t ≡ Some job
-  pub new_is : new ≡ with_job old t (Some (aborted job))
+  pub new_is : new ≡ with_job old t (Some (job_aborted job))
 
 -- the tenant has a job of this spec
 pub record HasJob (f : Floor) (t : ℕ) (spec : Spec) : Type 0 where
@@ -127,22 +127,22 @@ IsStrange f t spec = (j : Live) → job_of f.jobs t ≡ Some j → IsOf spec j �
 abbrev pub CollectsFor : Floor → ℕ → Spec → Collected → Floor → Type 0
 CollectsFor old t spec collected.Stranger new = IsStrange old t spec × (new ≡ old)
 CollectsFor old t spec collected.Pending new =
-    ((has : HasJob old t spec) × ((state_of has.job ≡ state.Working) ⊎ (state_of has.job ≡ state.Failing))) × (new ≡ old)
+    ((has : HasJob old t spec) × ((live_state has.job ≡ state.Working) ⊎ (live_state has.job ≡ state.Failing))) × (new ≡ old)
 CollectsFor old t spec (collected.Ended outcome) new =
-    ((has : HasJob old t spec) × (state_of has.job ≡ state.Ended) × NoneOut has.job) × IsMeaning spec outcome × (new ≡ with_job old t None)
+    ((has : HasJob old t spec) × (live_state has.job ≡ state.Ended) × NoneOut has.job) × IsMeaning spec outcome × (new ≡ with_job old t None)
 CollectsFor old t spec collected.Failed new =
-    ((has : HasJob old t spec) × (state_of has.job ≡ state.Failed) × NoneOut has.job) × (new ≡ with_job old t None)
+    ((has : HasJob old t spec) × (live_state has.job ≡ state.Failed) × NoneOut has.job) × (new ≡ with_job old t None)
 
 -- the tenant's job is over
 pub record HasOver (f : Floor) (t : ℕ) : Type 0 where
   pub job : Live
   pub is : job_of f.jobs t ≡ Some job
-  pub over : IsOver (state_of job)
+  pub over : IsOver (live_state job)
 
 -- the tenant's job, which is over, is taken out
 pub record LeavesFor (old : Floor) (t : ℕ) (job : Live) (new : Floor) : Type 0 where
   pub is : job_of old.jobs t ≡ Some job
-  pub over : IsOver (state_of job)
+  pub over : IsOver (live_state job)
   pub new_is : new ≡ with_job old t None
 
 -- Claims by turn.

@@ -62,10 +62,10 @@ impl Model for Hall {
 }
 
 impl Hall {
-    ghost use Rattle.ot_job.specs.Dealings.{claimable_in, state_of};
-    ghost use Rattle.ot_hall.specs.Floors.{job_of, new_floor, units_of, total_of, IsFree, SubmitsFor, EntersFor, ClaimsOf, IsWorking, NothingAt, SettlesFor, RefusesIn, FailsIn, AbortsJob, CollectsFor, HasOver, LeavesFor, NothingAnywhere, ClaimsSome, RunsShort};
+    ghost use Rattle.ot_job.specs.Dealings.{claimable_in, live_state};
+    ghost use Rattle.ot_hall.specs.Floors.{job_of, new_floor, tenant_units, total_of, IsFree, SubmitsFor, EntersFor, ClaimsOf, IsWorking, NothingAt, SettlesFor, RefusesIn, FailsIn, AbortsJob, CollectsFor, HasOver, LeavesFor, NothingAnywhere, ClaimsSome, RunsShort};
     ghost use Rattle.ot_hall.specs.Index.{IsNext};
-    ghost use Rattle.ot_hall.specs.Lively.{claimable_of, over_of};
+    ghost use Rattle.ot_hall.specs.Lively.{claimable_count, over_of};
     ghost use Rattle.ot_hall.specs.Lively.{LivelyAt};
     ghost use Rattle.ot_hall.specs.declared.hall.SubmitFault.TheVariants.{Busy};
 
@@ -265,7 +265,7 @@ impl Hall {
 
     /// How the tenant's job stands.
     pub fn state(&self, tenant: u32) -> Option<State>
-        ensures { result ≡ option_map (λ j. state_of j) (job_of self.now.jobs tenant) }
+        ensures { result ≡ option_map (λ j. live_state j) (job_of self.now.jobs tenant) }
     {
         let job = self.jobs.get(tenant)?;
         Some(job.state())
@@ -293,7 +293,7 @@ impl Hall {
     /// How many tasks of the tenant are claimable, at most 20,001, and 1 where its job is over, else 0. A job that works with no
     /// piece out has a claimable task, and one that fails has a piece out.
     pub fn outlook(&self, tenant: u32) -> (u64, u64)
-        ensures claimable { result.0 ≡ claimable_of (job_of self.now.jobs tenant) }
+        ensures claimable { result.0 ≡ claimable_count (job_of self.now.jobs tenant) }
         ensures few { result.0 ≤ 20001 }
         ensures over { result.1 ≡ over_of (job_of self.now.jobs tenant) }
         ensures one { result.1 ≤ 1 }
@@ -311,7 +311,7 @@ impl Hall {
 
     /// The units that were settled for the tenant, and for all.
     pub fn units(&self, tenant: u32) -> (u64, u64)
-        ensures { result ≡ (units_of self.now tenant, total_of self.now) }
+        ensures { result ≡ (tenant_units self.now tenant, total_of self.now) }
     {
         match self.units.get(tenant as usize) {
             Some(units) => (*units, self.total),

@@ -1,5 +1,5 @@
 ghost use Rattle.std.specs.Prelude.{◌≡◌, ◌≢◌, ◌<◌, ℕ, false, IfOk, length, replicate, slice_set};
-ghost use Rattle.ot_hall.specs.Marking.{has_bit, IsLowest, IsFirst};
+ghost use Rattle.ot_hall.specs.Marking.{has_bit_at, IsLowest, IsFirst};
 
 use std::alloc::{AllocError, Global};
 use std::marker::Model;
@@ -58,8 +58,8 @@ impl Marks {
 // The word with a bit set or cleared.
 fn with_bit(word: u64, k: u32, is_set: bool) -> u64
     requires { k < 64 }
-    ensures here { has_bit result k ≡ is_set }
-    ensures others { (i : ℕ) → i < 64 → i ≢ k → has_bit result i ≡ has_bit word i }
+    ensures here { has_bit_at result k ≡ is_set }
+    ensures others { (i : ℕ) → i < 64 → i ≢ k → has_bit_at result i ≡ has_bit_at word i }
 {
     let bit = 1u64 << k;
     if is_set { word | bit } else { word & !bit }

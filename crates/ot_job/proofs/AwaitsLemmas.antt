@@ -1,6 +1,6 @@
 -- The children that may be unawaited, where a task stands and at its end.
 use Rattle.std.proofs.Common.{◌≡◌, ℕ, Bool, true, false, not, ◌&&◌, ◌||◌, List, [], ◌∷◌, Option, refl, sym, subst, ◌∙◌, Some, None, true≢false, if◌then◌else◌}
-use Rattle.ot_job.proofs.Common.{E, Set, Fold, If, Task, Wait, Group, Body, End, Next, append, Cell, Operation, Use, Sibling, is_in, Children, behind_one, AreAssigns, Open, Kids, children_of, kids_behind, AwaitsAll, list_any, is_unfinished, awaits, and_left, and_right, and_true, Waiting, is_awaited_at, is_held, unawaited}
+use Rattle.ot_job.proofs.Common.{E, Set, Fold, If, Task, Wait, Group, Body, End, Next, append, Cell, Operation, Use, Sibling, is_in, Children, behind_one, AreAssigns, Open, Kids, children_of, kids_behind, AwaitsAll, list_any, is_unfinished, awaits, and_left, and_right, and_true, Waiting, is_awaited_at, is_held, unfinished_unawaited}
 use Rattle.ot_check.specs.Discipline.{anyone, behind}
 use Rattle.ot_check.proofs.Cited.{any-more, behind-more, false_below}
 use Rattle.ot_job.proofs.PlaceLemmas.{FewerKids, Monotone, UnawaitedBy, behind-fewer, behind-branch, taken-or, behind-wait, behind-task, enter-fewer, behind-enter}
@@ -81,24 +81,24 @@ weaker-any kids f g w h =
 
 -- what is true of more is true of some child more often
 pub monotone : (waiting : Waiting) (kids : List Sibling) (f g : Sibling → Bool) → ((s : Sibling) → f s ≡ true → g s ≡ true)
-    → unawaited waiting kids f ≡ true → unawaited waiting kids g ≡ true
+    → unfinished_unawaited waiting kids f ≡ true → unfinished_unawaited waiting kids g ≡ true
 monotone waiting kids f g w h =
     weaker-any kids (λ s. not (is_awaited_at waiting s) && f s) (λ s. not (is_awaited_at waiting s) && g s)
     (λ s k. and_true (not (is_awaited_at waiting s)) (g s) (and_left (not (is_awaited_at waiting s)) (f s) k) (w s (and_right (not (is_awaited_at waiting s)) (f s) k))) h
 
 -- at a wait: those that aren't awaited by it
 pub executed-wait : (w : Option (List Use)) (kids : List Sibling) (test : Sibling → Bool)
-    → unawaited (Some w) kids test ≡ true → unawaited None kids (λ s. test s && not (awaits w s.uses)) ≡ true
+    → unfinished_unawaited (Some w) kids test ≡ true → unfinished_unawaited None kids (λ s. test s && not (awaits w s.uses)) ≡ true
 executed-wait w kids test h =
     weaker-any kids (λ s. not (awaits w s.uses) && test s) (λ s. test s && not (awaits w s.uses)) (λ s k.
     and_true (test s) (not (awaits w s.uses)) (and_right (not (awaits w s.uses)) (test s) k) (and_left (not (awaits w s.uses)) (test s) k)) h
 
 -- a task that goes on has awaited whom its wait awaits: those that are unawaited are as at any other place
 pub let-go : (waiting : Waiting) (kids : List Sibling) (test : Sibling → Bool) → is_held waiting kids ≡ false
-    → unawaited None kids test ≡ true → unawaited waiting kids test ≡ true
+    → unfinished_unawaited None kids test ≡ true → unfinished_unawaited waiting kids test ≡ true
 let-go waiting [] test free h = h
 let-go waiting (s ∷ kids) test free h =
-    bits (is_unfinished s) (is_awaited_at waiting s) (test s) (is_held waiting kids) (unawaited None kids test) (unawaited waiting kids test) free h
+    bits (is_unfinished s) (is_awaited_at waiting s) (test s) (is_held waiting kids) (unfinished_unawaited None kids test) (unfinished_unawaited waiting kids test) free h
     (λ rest later. let-go waiting kids test rest later)
   where
     bits : (u a t n l m : Bool) → ((u && a) || n) ≡ false → ((u && t) || l) ≡ true → (n ≡ false → l ≡ true → m ≡ true) → ((u && (not a && t)) || m) ≡ true

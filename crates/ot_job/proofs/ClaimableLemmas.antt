@@ -1,6 +1,6 @@
 -- Who is claimable, as the code finds it, and whose claimability a change leaves.
 use Rattle.std.proofs.Common.{◌≡◌, ◌≢◌, ◌<◌, ℕ, zero, suc, Bool, true, false, not, ◌||◌, ◌&&◌, ◌==◌, List, [], ◌∷◌, ◌++◌, length, take, refl, sym, ap, ◌∙◌, inl, inr, arith, Option, is_some, slice_get, option_map, unwrap_or, get_or, subst, true≢false, ◌%◌, Some, None}
-use Rattle.ot_job.proofs.Common.{list_all, cases_eq, updated, length-updated, Use, Sibling, is_ready, with_finished, depends_on, Region, with_child, without, at, is_claimable, is_let_go, slice_get-push, nat_tests, IsReady, claimable_of, picked}
+use Rattle.ot_job.proofs.Common.{list_all, cases_eq, updated, length-updated, Use, Sibling, is_ready, with_finished, depends_on, Region, with_child, without, at, is_claimable, is_let_go, slice_get-push, nat_tests, IsReady, claimable_of, picked_at}
 use Rattle.std.proofs.lemmas.List.{take-append-le}
 use Rattle.ot_check.proofs.Cited.{and_false}
 use Rattle.ot_depend.proofs.ReadyLemmas.{depends_on-from_DependsOn}
@@ -144,9 +144,9 @@ other-or i b h = let none : (i == 0) ≡ false = grind (arith, nat_tests) in ap 
 
 -- ---- who is picked is claimable
 
-pub picked-claimable : (rs : List Region) (pick i : ℕ) → picked (claimable_of rs) pick ≡ Some i → (i < length rs) × (is_claimable rs i ≡ true)
+pub picked-claimable : (rs : List Region) (pick i : ℕ) → picked_at (claimable_of rs) pick ≡ Some i → (i < length rs) × (is_claimable rs i ≡ true)
 picked-claimable rs pick i h = by (claimable_of rs) refl h
   where
-    by : (xs : List ℕ) → claimable_of rs ≡ xs → picked xs pick ≡ Some i → (i < length rs) × (is_claimable rs i ≡ true)
+    by : (xs : List ℕ) → claimable_of rs ≡ xs → picked_at xs pick ≡ Some i → (i < length rs) × (is_claimable rs i ≡ true)
     by [] e h = cc
     by (x ∷ xs) e h = passing-found (is_claimable rs) (length rs) (pick % length (x ∷ xs)) i (ap (λ l. slice_get l (pick % length (x ∷ xs))) e ∙ h)

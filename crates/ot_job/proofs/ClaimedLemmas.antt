@@ -1,9 +1,9 @@
 -- What a job is once its owners have lent for a claim.
 use Rattle.std.proofs.Common.{◌≡◌, ℕ, List, [], refl, sym, ap, subst, ◌∙◌, Option, Bool, get_or, All, IsSome, if◌then◌else◌}
-use Rattle.ot_job.proofs.Common.{E, Body, cell_of, lengths, updated, NamedIn, AreInOrder, Use, Keeping, lease_of, lent_from, uses_of, Owned, begun_for, worths, LentCell, CanRun, AreHeld, leading, behind, test_of, awake, begun, group_passed, Region, piece_touches, claimable_of, picked, Claims, ahead, Holds, live_of, Live, at, left_open, IsWell, IsOnCourse, Inside}
+use Rattle.ot_job.proofs.Common.{E, Body, cell_of, lengths, updated, NamedIn, AreInOrder, Use, Keeping, lease_of, lent_from, uses_of, Owned, begun_for, worths, LentCell, CanRun, AreHeld, leading, after_parts, test_of, awake, piece_begun, group_passed, Region, piece_touches, claimable_of, picked_at, Claims, ahead, Holds, live_of, Live, at, left_open, IsWell, IsOnCourse, Inside}
 use Rattle.ot_owner.specs.Keeping.{Prepared, IsLast}
 use Rattle.ot_owner.proofs.RightsLemmas.{lent_uses}
-use Rattle.ot_job.specs.Calls.{IsLent, MayLend}
+use Rattle.ot_job.specs.Calls.{IsLentBy, MayLend}
 use Rattle.ot_job.proofs.InsideLemmas.{IsPicked}
 use Rattle.ot_job.proofs.LendingLemmas.{claim-open, claim-unused, claim-known, claim-folds, claim-fresh}
 use Rattle.ot_job.proofs.ClaimableLemmas.{at-here}
@@ -22,9 +22,9 @@ module _ (s : Inside) (w : IsWell (live_of s)) (pick i : ℕ) (p : IsPicked s pi
 -- it always is and as the claim has it
 pub record AreLent (j : Live) (t : Region) (pick i worker : ℕ) (decl : List Use) (lent : List LentCell) (new : Live) : Type 0 where
   pub are : uses_of lent ≡ decl
-  pub can : (assigns : Body) (test : Option E) → assigns ≡ leading (awake t).rest → test ≡ test_of (behind (awake t).rest) → CanRun assigns test lent
+  pub can : (assigns : Body) (test : Option E) → assigns ≡ leading (awake t).rest → test ≡ test_of (after_parts (awake t).rest) → CanRun assigns test lent
   pub well : IsWell new
-  pub claims : (assigns : Body) (test : Option E) → assigns ≡ leading (awake t).rest → test ≡ test_of (behind (awake t).rest) → Claims j pick worker (record { task = i; assigns = assigns; test = test; lent = lent }) new
+  pub claims : (assigns : Body) (test : Option E) → assigns ≡ leading (awake t).rest → test ≡ test_of (after_parts (awake t).rest) → Claims j pick worker (record { task = i; assigns = assigns; test = test; lent = lent }) new
 
 module _ (s : Inside) (w : IsWell (live_of s)) (pick i : ℕ) (p : IsPicked s pick i) (t : Region) (here : t ≡ get_or s.tasks i t) (worker : ℕ) (decl : List Use) (are : AreHeld t decl) (ordered : AreInOrder decl)
     (slip : Prepared) (slip-is : slip ≡ record { uses = decl; worker = worker }) (owners : Keeping) (before-is : owners.owned ≡ s.owners.owned) (told : Option ℕ) (told-is : told ≡ group_passed t) where
@@ -67,13 +67,13 @@ module _ (s : Inside) (w : IsWell (live_of s)) (pick i : ℕ) (p : IsPicked s pi
       })))
 
   -- what they have lent
-  module _ (cells : List (List ℕ)) (owned : Owned) (lent : List LentCell) (are-lent : IsLent owners.owned s.cells told slip lent owned cells) where
+  module _ (cells : List (List ℕ)) (owned : Owned) (lent : List LentCell) (are-lent : IsLentBy owners.owned s.cells told slip lent owned cells) where
     -- told of the job that was
-    l : IsLent s.owners.owned s.cells passed asked lent owned cells
+    l : IsLentBy s.owners.owned s.cells passed asked lent owned cells
     l =
-        subst (λ (a : Prepared). IsLent s.owners.owned s.cells passed a lent owned cells) slip-is
-        (subst (λ (n : Option ℕ). IsLent s.owners.owned s.cells n slip lent owned cells) passed-is
-        (subst (λ (b : Owned). IsLent b s.cells told slip lent owned cells) before-is are-lent))
+        subst (λ (a : Prepared). IsLentBy s.owners.owned s.cells passed a lent owned cells) slip-is
+        (subst (λ (n : Option ℕ). IsLentBy s.owners.owned s.cells n slip lent owned cells) passed-is
+        (subst (λ (b : Owned). IsLentBy b s.cells told slip lent owned cells) before-is are-lent))
 
     uses-are : uses_of lent ≡ decl
     uses-are = lent_uses cells decl lent l.lent
@@ -91,14 +91,14 @@ module _ (s : Inside) (w : IsWell (live_of s)) (pick i : ℕ) (p : IsPicked s pi
     worth-now = l.lent ∙ ap (lent_from cells) (sym uses-are) ∙ claim-fresh j w o i p.known p.can worker (lease_of lent) held in-order cells owned l.lengths l.worth groups-now
 
     abbrev new : Live
-    new = record j { regions = updated s.tasks i (begun worker (lease_of lent)); cells = cells; owned = owned }
+    new = record j { regions = updated s.tasks i (piece_begun worker (lease_of lent)); cells = cells; owned = owned }
 
     -- what was taken of its body
     ahead-is : (b : Body) → b ≡ leading (awake t).rest → b ≡ leading (ahead j i)
     ahead-is b is = is ∙ ap (λ (r : Region). leading (awake r).rest) (sym same)
 
-    test-is : (e : Option E) → e ≡ test_of (behind (awake t).rest) → e ≡ test_of (behind (ahead j i))
-    test-is e is = is ∙ ap (λ (r : Region). test_of (behind (awake r).rest)) (sym same)
+    test-is : (e : Option E) → e ≡ test_of (after_parts (awake t).rest) → e ≡ test_of (after_parts (ahead j i))
+    test-is e is = is ∙ ap (λ (r : Region). test_of (after_parts (awake r).rest)) (sym same)
 
     pub lends : AreLent j t pick i worker decl lent new
     lends = record {
@@ -108,7 +108,7 @@ module _ (s : Inside) (w : IsWell (live_of s)) (pick i : ℕ) (p : IsPicked s pi
           (subst (λ (e : Option E). CanRun (leading (ahead j i)) e lent) (sym (test-is e asks)) (claim-can j o i lent held (worths s.owners.owned s.cells) worth-now));
       well = claim-well j w p.working i p.known p.can worker (lease_of lent) held in-order (ap lease_of worth-now) cells owned l.lengths l.worth l.out groups-now;
       claims = λ b e taken asks. record {
-        task = ap (λ (b : Bool). picked (if b then [] else claimable_of s.tasks) pick) p.working ∙ p.is;
+        task = ap (λ (b : Bool). picked_at (if b then [] else claimable_of s.tasks) pick) p.working ∙ p.is;
         assigns = ahead-is b taken;
         test = test-is e asks;
         held =

@@ -1,6 +1,6 @@
 -- A task ends its body, and its parent's table tells so: what holds of the regions stays.
 use Rattle.std.proofs.Common.{◌≡◌, ◌≢◌, ℕ, zero, suc, ◌<◌, Bool, true, false, not, ◌&&◌, ◌||◌, List, [], ◌∷◌, length, refl, sym, ap, subst, ◌∙◌, ◌⊎◌, inl, inr, arith, true≢false, None, option_map, Some, slice_get, ◌==◌, ⊎_elim}
-use Rattle.ot_job.proofs.Common.{is_awaited_at, list_any, cases_eq, cases_lt, End, updated, Use, length-updated, Sibling, is_unfinished, with_finished, IsReady, is_in, or_right, Cell, Operation, same_fold, allows, folds_to, has_cell, Open, todo, AwaitsAll, unawaited, Region, over, without, told_parent, closed, at, parent_of, todo_at, ended_at, parents, DontMix, OnlyFolds, grouped_in, IsBegun, IsKin, IsPlaced, IsSound}
+use Rattle.ot_job.proofs.Common.{is_awaited_at, list_any, cases_eq, cases_lt, End, updated, Use, length-updated, Sibling, is_unfinished, with_finished, IsReady, is_in, or_right, Cell, Operation, same_fold, allows, folds_to, has_cell, Open, todo, AwaitsAll, unfinished_unawaited, Region, over, without, told_parent, region_ended_at, at, parent_of, todo_at, ended_at, parents, DontMix, OnlyFolds, grouped_in, IsRootOrReady, IsKin, IsSoundRegion, IsSoundRegions}
 use Rattle.std.proofs.lemmas.Bool.{true_from_ne_false}
 use Rattle.ot_model.proofs.CellsLemmas.{slice_get-updated, slice_get-updated-other}
 use Rattle.ot_check.proofs.Bits.{or_more}
@@ -65,12 +65,12 @@ grouped-same (g ∷ gs) s t o c e =
     ∙ ap (λ b. ((same_fold g.op o && has_cell g.cells c) && is_in g.group t) || b) (grouped-same gs s t o c e)
 
 -- a child of it has finished
-placed-without : (c : ℕ) (r : Region) → IsPlaced r → IsPlaced (without c r)
+placed-without : (c : ℕ) (r : Region) → IsSoundRegion r → IsSoundRegion (without c r)
 placed-without c r p = record {
-  fine = at-fewer r.own (unawaited r.waiting (with_finished r.children c)) (unawaited r.waiting r.children) r.rest r.groups fewer p.fine;
+  fine = at-fewer r.own (unfinished_unawaited r.waiting (with_finished r.children c)) (unfinished_unawaited r.waiting r.children) r.rest r.groups fewer p.fine;
   inside = p.inside;
   tasks = p.tasks;
-  awaits = λ uses own. awaits-fewer (unawaited r.waiting (with_finished r.children c)) (unawaited r.waiting r.children) r.rest r.groups fewer (p.awaits uses own);
+  awaits = λ uses own. awaits-fewer (unfinished_unawaited r.waiting (with_finished r.children c)) (unfinished_unawaited r.waiting r.children) r.rest r.groups fewer (p.awaits uses own);
   within = λ k s there u may.
       let b = before r.children c k s there in
       p.within k b.entry b.there u (subst (λ us. allows (Some us) u ≡ true) b.uses may);
@@ -91,22 +91,22 @@ placed-without c r p = record {
   exclusive = p.exclusive;
 }
   where
-    fewer : (test : Sibling → Bool) → unawaited r.waiting (with_finished r.children c) test ≡ true → unawaited r.waiting r.children test ≡ true
+    fewer : (test : Sibling → Bool) → unfinished_unawaited r.waiting (with_finished r.children c) test ≡ true → unfinished_unawaited r.waiting r.children test ≡ true
     fewer test h = fewer-any r.children c (λ s. not (is_awaited_at r.waiting s) && test s) h
 
 -- it has ended its body
-placed-over : (r : Region) → IsPlaced r → r.rest ≡ End → r.groups ≡ [] → IsPlaced (over r)
+placed-over : (r : Region) → IsSoundRegion r → r.rest ≡ End → r.groups ≡ [] → IsSoundRegion (over r)
 placed-over r p was none = placed-as r p r.rest r.waiting true p.fine p.inside p.tasks p.awaits (λ e. ap (λ b. todo b r.groups) was ∙ ap (todo End) none) (λ e. none)
 
 -- a body that ends leaves no child unfinished, but the root's
-all-finished : (r : Region) → IsPlaced r → r.rest ≡ End → r.groups ≡ [] → r.waiting ≡ None → (uses : List Use) → r.own ≡ Some uses
+all-finished : (r : Region) → IsSoundRegion r → r.rest ≡ End → r.groups ≡ [] → r.waiting ≡ None → (uses : List Use) → r.own ≡ Some uses
     → (k : ℕ) (s : Sibling) → slice_get r.children k ≡ Some s → s.finished ≡ true
 all-finished r p was none calm uses own k s there = true_from_ne_false s.finished (λ e. true≢false (kid-none r.children (λ x. true) k s left there e))
   where
     left : list_any (λ x. is_unfinished x && true) r.children ≡ false
     left =
-        let at = subst (λ gs. AwaitsAll (unawaited r.waiting r.children) End gs) none (subst (λ b. AwaitsAll (unawaited r.waiting r.children) b r.groups) was (p.awaits uses own)) in
-        ap (λ w. unawaited w r.children (λ x. true)) (sym calm) ∙ awaits-end (unawaited r.waiting r.children) at
+        let at = subst (λ gs. AwaitsAll (unfinished_unawaited r.waiting r.children) End gs) none (subst (λ b. AwaitsAll (unfinished_unawaited r.waiting r.children) b r.groups) was (p.awaits uses own)) in
+        ap (λ w. unfinished_unawaited w r.children (λ x. true)) (sym calm) ∙ awaits-end (unfinished_unawaited r.waiting r.children) at
 
 -- ---- all regions
 
@@ -125,7 +125,7 @@ told-ready (r ∷ rs) zero c zero k h = IsReady-finished r.children c k h
 told-ready (r ∷ rs) (suc p) c (suc q) k h = told-ready rs p c q k h
 told-ready rs p c q k h = h
 
-module _ (ws : List Region) (s : IsSound ws) (i : ℕ) (h : i < length ws) (was : (at ws i).rest ≡ End) (none : (at ws i).groups ≡ []) (calm : (at ws i).waiting ≡ None) where
+module _ (ws : List Region) (s : IsSoundRegions ws) (i : ℕ) (h : i < length ws) (was : (at ws i).rest ≡ End) (none : (at ws i).groups ≡ []) (calm : (at ws i).waiting ≡ None) where
   abbrev p : ℕ
   p = parent_of ws i
 
@@ -133,7 +133,7 @@ module _ (ws : List Region) (s : IsSound ws) (i : ℕ) (h : i < length ws) (was 
   c = (at ws i).child
 
   abbrev now : List Region
-  now = closed i ws
+  now = region_ended_at i ws
 
   abbrev noted : List Region
   noted = told_parent i ws
@@ -171,7 +171,7 @@ module _ (ws : List Region) (s : IsSound ws) (i : ℕ) (h : i < length ws) (was 
   entry-was q k x there =
       told-by i ws (λ l. slice_get (at l q).children k ≡ Some x → Before (at ws q).children k x) (λ z. itself (at ws q).children k x) (λ pos. told-entry ws p c q k x) (ap (λ t. slice_get t k) (sym (tables q)) ∙ there)
 
-  pub begun-closed : (j : ℕ) → IsBegun ws j → IsBegun now j
+  pub begun-closed : (j : ℕ) → IsRootOrReady ws j → IsRootOrReady now j
   begun-closed j b pos =
       let r = b pos in (
         omega (arith, r.0, long-closed),
@@ -234,7 +234,7 @@ module _ (ws : List Region) (s : IsSound ws) (i : ℕ) (h : i < length ws) (was 
   pub parents-closed : parents now ≡ parents ws
   parents-closed = parents-updated noted i over (λ r. refl) ∙ told-by i ws (λ l. parents l ≡ parents ws) (λ z. refl) (λ pos. parents-updated ws p (without c) (λ r. refl))
 
-  pub sound-closed : IsSound now
+  pub sound-closed : IsSoundRegions now
   sound-closed = record {
     root = same (λ r. r.own) (λ r. refl) (λ r. refl) 0 ∙ s.root;
     top = parent-same 0 ∙ s.top;
@@ -247,11 +247,11 @@ module _ (ws : List Region) (s : IsSound ws) (i : ℕ) (h : i < length ws) (was 
     older = λ a b pos lt below even.
         let o = s.older a b pos lt (omega (arith, below, long-closed)) (sym (parent-same b) ∙ even ∙ parent-same a) in
         omega (arith, o, child-same a, child-same b);
-    begun = λ j pos below. subst (IsBegun now) (sym (parent-same j)) (begun-closed (parent_of ws j) (s.begun j pos (omega (arith, below, long-closed))));
+    begun = λ j pos below. subst (IsRootOrReady now) (sym (parent-same j)) (begun-closed (parent_of ws j) (s.begun j pos (omega (arith, below, long-closed))));
     entered = λ j o os is. begun-closed j (s.entered j o os (sym (same (λ r. r.groups) (λ r. refl) (λ r. refl) j) ∙ is));
-    placed = at-each IsPlaced noted i over placed-told (placed-over (at noted i) (placed-told i) (same-told (λ r. r.rest) (λ r. refl) i ∙ was) (same-told (λ r. r.groups) (λ r. refl) i ∙ none));
+    placed = at-each IsSoundRegion noted i over placed-told (placed-over (at noted i) (placed-told i) (same-told (λ r. r.rest) (λ r. refl) i ∙ was) (same-told (λ r. r.groups) (λ r. refl) i ∙ none));
     done = done-now;
   }
     where
-      placed-told : (j : ℕ) → IsPlaced (at noted j)
-      placed-told = told-by i ws (λ l. (j : ℕ) → IsPlaced (at l j)) (λ z. s.placed) (λ pos. at-each IsPlaced ws p (without c) s.placed (placed-without c (at ws p) (s.placed p)))
+      placed-told : (j : ℕ) → IsSoundRegion (at noted j)
+      placed-told = told-by i ws (λ l. (j : ℕ) → IsSoundRegion (at l j)) (λ z. s.placed) (λ pos. at-each IsSoundRegion ws p (without c) s.placed (placed-without c (at ws p) (s.placed p)))

@@ -27,7 +27,7 @@ pub use Rattle.ot_model.specs.declared.stmt.Use.{Use}
 pub use Rattle.ot_model.proofs.CellsLemmas.{length-updated, updated-updated}
 pub use Rattle.ot_model.proofs.CountsLemmas.{tasks_in-≤-size}
 pub use Rattle.ot_model.proofs.SerialLemmas.{serial-append}
-pub use Rattle.ot_depend.specs.Siblings.{has, LetsTheSame, IsReady, IsUnfinished, Sibling, created, is_in, is_ready, is_unfinished, is_unfinished_in, with_finished}
+pub use Rattle.ot_depend.specs.Siblings.{has, LetsTheSame, IsReady, IsUnfinished, Sibling, sibling_created, is_in, is_ready, is_unfinished, is_unfinished_in, with_finished}
 pub use Rattle.ot_depend.proofs.ListLemmas.{slice_get-push_place}
 pub use Rattle.ot_depend.proofs.SiblingsLemmas.{slice_get-push}
 pub use Rattle.ot_owner.specs.Worth.{all_back, AreJoined, AreWorthSame, worth, worth_over, worths}
@@ -38,36 +38,36 @@ pub use Rattle.ot_owner.specs.declared.lent.LentCell.{LentCell}
 pub use Rattle.ot_owner.proofs.LentLemmas.{found-lent}
 pub use Rattle.ot_owner.proofs.OutLemmas.{permutation_rest}
 pub use Rattle.ot_owner.proofs.WorthLemmas.{cell_of-worths, worths-same}
-pub use Rattle.ot_job_roster.specs.Members.{Kept, Tells, put, with_kid, with_member}
+pub use Rattle.ot_job_roster.specs.Members.{Kept, Tells, told_put, with_kid, with_member}
 pub use Rattle.ot_job_roster.proofs.TellsLemmas.{put-here, put-other, tells-same}
 pub use Rattle.ot_check.specs.Discipline.{AreAssigns, Children, IsClean, IsFine, IsHarmless, behind_one}
 pub use Rattle.ot_check.specs.Offences.{Declared, Openings, allows, awaits, clashes, covers, folds_by, folds_to, has_cell, opened_by_any, touches, use_as, Agree, EachRead, EachTask, EachTouch}
 pub use Rattle.ot_check.specs.declared.fault.Offence.TheVariants.{ConflictsWithChild, NotDeclared, ReductionMisuse}
 pub use Rattle.ot_check.proofs.Cited.{and_left, and_right, and_true, clash_free, group_free, groups_inside, harmless, harmless_if, not_false, not_true, opened-none, or_false_left, or_false_right, or_right, or_true, same_is, touch-weaker, true_or}
-pub use Rattle.ot_job_task.specs.Assigns.{CanAssign, CanRun, AreHeld, held, held_as, mode_held, noted, stronger, with_mode}
-pub use Rattle.ot_job_task.specs.Copies.{Look, assigned}
-pub use Rattle.ot_job_task.specs.Pieces.{awake, begun, behind, group_passed, leading, leading_len, passed, test_of, is_at_end}
-pub use Rattle.ot_job_task.specs.Regions.{Open, todo, Region, Run, Waiting, children_at, executed, group_next, inside, new_region, next_task, over, rest_at, root_region, stepped, stepped_from, stopped, tasks_next, with_child, with_created, with_rest, without, end_lets_go, is_awaited_at, is_held, is_let_go, region_weight, weight_left, weight_of}
+pub use Rattle.ot_job_task.specs.Assigns.{CanAssign, CanRun, AreHeld, held_mode, held_as, mode_held, mode_noted, stronger, with_mode}
+pub use Rattle.ot_job_task.specs.Copies.{Look, copies_assigned}
+pub use Rattle.ot_job_task.specs.Pieces.{awake, piece_begun, after_parts, group_passed, leading, leading_len, groups_passed, test_of, is_at_end}
+pub use Rattle.ot_job_task.specs.Regions.{Open, todo, Region, Run, Waiting, children_at, control_executed, group_next, inside, new_region, next_task, over, rest_at, root_region, region_stepped, stepped_from, region_stopped, tasks_next, with_child, with_created, with_rest, without, end_lets_go, is_awaited_at, is_held, is_let_go, region_weight, weight_left, weight_of}
 pub use Rattle.ot_job_task.specs.Touched.{assign_touches, piece_touches, test_touches}
 pub use Rattle.ot_job_task.proofs.CellLemmas.{same_self}
 pub use Rattle.ot_job_task.proofs.HeldLemmas.{reads-append}
-pub use Rattle.ot_job.specs.Awaiting.{AwaitsAll, IsFineAt, Kids, children_of, kids_behind, opened, unawaited}
+pub use Rattle.ot_job.specs.Awaiting.{AwaitsAll, IsFineAt, Kids, children_of, kids_behind, openings_of, unfinished_unawaited}
 pub use Rattle.ot_job.specs.Calls.{HasPiece, IsBack}
-pub use Rattle.ot_job.specs.Claiming.{claimable_of, is_claimable, picked}
-pub use Rattle.ot_job.specs.Moves.{Claims, ahead, CreatesInOrder, Settles, closed, counted, counts_after, moved_on, settled, told_parent, units_of}
-pub use Rattle.ot_job.specs.Left.{out_in, children_left, left}
+pub use Rattle.ot_job.specs.Claiming.{claimable_of, is_claimable, picked_at}
+pub use Rattle.ot_job.specs.Moves.{Claims, ahead, CreatesInOrder, Settles, region_ended_at, units_counted, counts_after, moved_on, regions_settled, told_parent, units_of}
+pub use Rattle.ot_job.specs.Left.{out_in, children_left, left_of_job}
 pub use Rattle.ot_job.specs.Holding.{Holds, touches_out}
 pub use Rattle.ot_job.specs.JobView.{live_of}
 pub use Rattle.ot_job.specs.Listing.{AreKept, IsRefreshed, member, members}
-pub use Rattle.ot_job.specs.Dealings.{Live, aborted, all_ended, any_out, claimable_in, state_in}
-pub use Rattle.ot_job.specs.Numbered.{at, ended_at, gone, left_of, parent_of, parents, todo_at}
+pub use Rattle.ot_job.specs.Dealings.{Live, job_aborted, all_ended, any_out, claimable_in, state_in}
+pub use Rattle.ot_job.specs.Numbered.{at, ended_at, empty_region, left_of, parent_of, parents, todo_at}
 pub use Rattle.ot_job.specs.Opened.{AreOpen, IsFor, IsRoomFor}
 pub use Rattle.ot_job.specs.Opening.{MayOpen, Opens, left_open}
 pub use Rattle.ot_job.specs.Running.{RunsWell}
-pub use Rattle.ot_job.specs.Sound.{DontMix, IsBegun, IsKin, IsPlaced, IsSound, LetsAll, NamedOnce, OnlyFolds, grouped_in, may_at}
+pub use Rattle.ot_job.specs.Sound.{DontMix, IsRootOrReady, IsKin, IsSoundRegion, IsSoundRegions, LetsAll, NamedOnce, OnlyFolds, grouped_in, may_at}
 pub use Rattle.ot_job.specs.Taken.{Came, IsOut, Taken, taken_by, worker_in}
 pub use Rattle.ot_job.specs.Well.{IsOnCourse, IsWell, MaySettle}
-pub use Rattle.ot_job.specs.Whole.{assigns_out, loan_in, loans_out, whole, wholes, with_loan}
+pub use Rattle.ot_job.specs.Whole.{assigns_out, loan_in, loans_out, whole_region, wholes, with_loan}
 pub use Rattle.ot_job.specs.declared.job.Job.TheInside.{Inside}
 pub use Rattle.ot_job.specs.declared.state.State.TheVariants.{Ended, Failed, Failing, Working}
 pub use Rattle.ot_job.specs.Rights.{IsRight}

@@ -1,6 +1,6 @@
 -- Assignments on copies, given back, are the assignments on the cells.
 use Rattle.std.proofs.Common.{◌≡◌, ◌⊎◌, ℕ, Option, Some, None, Bool, true, false, refl, sym, ap, subst, ◌∙◌, inl, inr, if◌then◌else◌, option_map, suc, cond, List, [], ◌∷◌, arith, true≢false, IsSome, find, All}
-use Rattle.ot_job.proofs.Common.{join_by, unit_of, Cell, Mode, Reads, Writes, Folds, Use, E, Set, Fold, Body, End, Next, val, cell_of, same_cell, State, bump, change, serial, Operation, use_as, EachRead, EachTouch, same_is, Look, assigned, AreAssigns, same_self, same_Some, option_map_id, lengths, is_fold, joined, is_at, first_at, value_at, AreJoined, LentCell, found-lent, cases_Bool}
+use Rattle.ot_job.proofs.Common.{join_by, unit_of, Cell, Mode, Reads, Writes, Folds, Use, E, Set, Fold, Body, End, Next, val, cell_of, same_cell, State, bump, change, serial, Operation, use_as, EachRead, EachTouch, same_is, Look, copies_assigned, AreAssigns, same_self, same_Some, option_map_id, lengths, is_fold, joined, is_at, first_at, value_at, AreJoined, LentCell, found-lent, cases_Bool}
 use Rattle.ot_model.specs.Monoids.{join-associative, join-absorbed}
 use Rattle.ot_model.specs.Cells.{with_cell}
 use Rattle.ot_check.proofs.Cited.{read-weaker, value-same}
@@ -87,7 +87,7 @@ module _ (modes : Cell → Option Mode) (before : Look) where
           rw e (subst (IsGiven (modes d) (before d) (copies d)) (sym (model.cell_of-with_cell-other s.cells c d f (λ same. true≢false (sym (same_self c d same) ∙ e)))) (g d))
 
   -- the copies after the assignments, given back, are the cells after them
-  pub given-serial : (piece : Body) (copies : Look) (s : State) → AreAssigns piece → EachTouch (Lets modes) piece → Given copies s → Given (assigned piece copies) (serial piece s)
+  pub given-serial : (piece : Body) (copies : Look) (s : State) → AreAssigns piece → EachTouch (Lets modes) piece → Given copies s → Given (copies_assigned piece copies) (serial piece s)
   given-serial End copies s only may g = g
   given-serial (Next (Set c e) rest) copies s only may g =
       let v = val (cell_of s.cells) e in
@@ -124,7 +124,7 @@ mode_at lent c = option_map (λ l. l.mode) (find (is_at c) lent)
 module _ (first last : List LentCell) (before after : List (List ℕ)) (piece : Body)
     (modes_same : (c : Cell) → mode_at last c ≡ mode_at first c)
     (inputs : All (HasInputs before) first)
-    (made : (c : Cell) → value_at last c ≡ assigned piece (first_at first) c)
+    (made : (c : Cell) → value_at last c ≡ copies_assigned piece (first_at first) c)
     (only : AreAssigns piece) (may : EachTouch (Lets (mode_at first)) piece)
     (back : AreJoined last (cell_of before) (cell_of after))
     (there : All (λ l. IsSome (cell_of before l.cell)) last)
@@ -148,7 +148,7 @@ module _ (first last : List LentCell) (before after : List (List ℕ)) (piece : 
         pick None e = rw e refl
         pick (Some l) e = let f = found (HasInputs before) first c l inputs e in rw e (given l l.mode refl f.0 f.1)
 
-    done : (c : Cell) → IsGiven (mode_at first c) (cell_of before c) (assigned piece (first_at first) c) (cell_of (serial piece begin).cells c)
+    done : (c : Cell) → IsGiven (mode_at first c) (cell_of before c) (copies_assigned piece (first_at first) c) (cell_of (serial piece begin).cells c)
     done c = given-serial (mode_at first) (cell_of before) piece (first_at first) begin only may start c
 
     each : (c : Cell) → cell_of after c ≡ cell_of (serial piece begin).cells c

@@ -1,6 +1,6 @@
 -- What a job counts: through each change of the regions, and at its end.
 use Rattle.std.proofs.Common.{◌≡◌, ℕ, ◌+◌, ◌≤◌, Bool, true, false, ◌&&◌, filter, List, [], ◌∷◌, None, refl, ap, ◌∙◌, arith, ◌==◌, if◌then◌else◌, ◌<◌, zero, suc, cond, not, ◌||◌, length, sym, is_some, count_by}
-use Rattle.ot_job.proofs.Common.{Set, Fold, If, Task, Wait, Group, Body, End, Next, val, cell_of, lengths, size, tasks_in, join_by, State, bump, change, either, serial, serial_run, state_of, AreAssigns, left, children_left, leading_len, counted, counts_after, list_any, range_with_len, sum_by-cons, updated, Region, at, all_ended, any_out, out_in, list_all}
+use Rattle.ot_job.proofs.Common.{Set, Fold, If, Task, Wait, Group, Body, End, Next, val, cell_of, lengths, size, tasks_in, join_by, State, bump, change, either, serial, serial_run, state_of, AreAssigns, left_of_job, children_left, leading_len, units_counted, counts_after, list_any, range_with_len, sum_by-cons, updated, Region, at, all_ended, any_out, out_in, list_all}
 use Rattle.std.proofs.lemmas.List.Folds.{sum_by-zero}
 use Rattle.ot_model.proofs.CellsLemmas.{lengths-with_cell}
 use Rattle.ot_model.specs.declared.plain.Counts.{Counts}
@@ -35,9 +35,9 @@ children-grow todo p k (q ∷ qs) s =
     by false own rest = rest s
 
 -- what is counted so far is in what is counted at the end
-pub left-grows : (todo : ℕ → Body) (ps : List ℕ) (s : State) → (s.tasks ≤ (left todo ps s).tasks) × (s.units ≤ (left todo ps s).units)
+pub left-grows : (todo : ℕ → Body) (ps : List ℕ) (s : State) → (s.tasks ≤ (left_of_job todo ps s).tasks) × (s.units ≤ (left_of_job todo ps s).units)
 left-grows todo ps s =
-    grows-on s (children_left todo 0 1 ps s) (left todo ps s) (children-grow todo 0 1 ps s) (serial-grows (todo 0) (children_left todo 0 1 ps s))
+    grows-on s (children_left todo 0 1 ps s) (left_of_job todo ps s) (children-grow todo 0 1 ps s) (serial-grows (todo 0) (children_left todo 0 1 ps s))
 
 -- a body counts at most its statements, and its task statements
 pub serial-few : (b : Body) (s : State) → ((serial b s).tasks ≤ s.tasks + tasks_in b) × ((serial b s).units ≤ s.units + size b)
@@ -88,21 +88,21 @@ same-state s t a b c =
 
 -- the piece, and then the statement behind it
 pub settled-state : (piece rest : Body) (cells : List (List ℕ)) (counts : Counts) → AreAssigns piece
-    → counted rest (serial piece (state_of cells counts)) ≡ state_of (serial_run piece cells).cells (counts_after counts piece rest)
+    → units_counted rest (serial piece (state_of cells counts)) ≡ state_of (serial_run piece cells).cells (counts_after counts piece rest)
 settled-state piece rest cells counts only =
-    ap (counted rest) (same-state (serial piece (state_of cells counts)) (record { cells = (serial_run piece cells).cells; tasks = counts.tasks; units = counts.units + leading_len piece })
+    ap (units_counted rest) (same-state (serial piece (state_of cells counts)) (record { cells = (serial_run piece cells).cells; tasks = counts.tasks; units = counts.units + leading_len piece })
     (piece-cells piece (state_of cells counts)) n.0 n.1)
     ∙ by rest
   where
     n : ((serial piece (state_of cells counts)).tasks ≡ counts.tasks) × ((serial piece (state_of cells counts)).units ≡ counts.units + leading_len piece)
     n = piece-counts piece (state_of cells counts) only
 
-    one : (k : ℕ) → counted (Next (Wait None) End) (record { cells = (serial_run piece cells).cells; tasks = k; units = counts.units + leading_len piece })
+    one : (k : ℕ) → units_counted (Next (Wait None) End) (record { cells = (serial_run piece cells).cells; tasks = k; units = counts.units + leading_len piece })
         ≡ record { cells = (serial_run piece cells).cells; tasks = k + 0; units = counts.units + (leading_len piece + 1) }
     one k = same-state (record { cells = (serial_run piece cells).cells; tasks = k + 0; units = counts.units + leading_len piece + 1 })
         (record { cells = (serial_run piece cells).cells; tasks = k + 0; units = counts.units + (leading_len piece + 1) }) refl refl (omega arith)
 
-    by : (b : Body) → counted b (record { cells = (serial_run piece cells).cells; tasks = counts.tasks; units = counts.units + leading_len piece })
+    by : (b : Body) → units_counted b (record { cells = (serial_run piece cells).cells; tasks = counts.tasks; units = counts.units + leading_len piece })
         ≡ state_of (serial_run piece cells).cells (counts_after counts piece b)
     by End = same-state _ (state_of (serial_run piece cells).cells (counts_after counts piece End)) refl (omega arith) (omega arith)
     by (Next (Task d b) r) =

@@ -1,6 +1,6 @@
 -- A settle leaves a job on its course.
 use Rattle.std.proofs.Common.{◌≡◌, ℕ, ◌<◌, ◌≤◌, true, false, List, ◌∷◌, length, refl, sym, ap, subst, ◌∙◌, arith, ◌+◌, Option, Some, None, option_map, nat_lt, IsSome, IsPermutation, All}
-use Rattle.ot_job.proofs.Common.{length-map, All-weaker, IsPermutation-sym, IsPermutation-trans, E, Body, append, val, NamedIn, AreInShape, size, tasks_in, cell_of, updated, lengths, AreInOrder, State, serial, serial_run, state_of, Cell, Operation, Use, length-updated, folds_to, EachTouch, IsFine, all_back, Owned, loan_of, LentCell, Lease, lease_of, lent_from, first_at, value_at, AreJoined, worth, worth_over, worths, cell_of-worths, permutation_rest, assigned, todo, opened, children_of, unawaited, IsFineAt, Region, Run, with_rest, next_task, group_next, at, todo_at, parents, left_of, IsBegun, IsSound, OnlyFolds, leading, leading_len, test_of, held, piece_touches, assigns_out, whole, wholes, loans_out, Opens, RunsWell, Live, weight_of, IsOnCourse, IsWell, Came, IsOut, taken_by, moved_on, settled, counted, counts_after, units_of}
+use Rattle.ot_job.proofs.Common.{length-map, All-weaker, IsPermutation-sym, IsPermutation-trans, E, Body, append, val, NamedIn, AreInShape, size, tasks_in, cell_of, updated, lengths, AreInOrder, State, serial, serial_run, state_of, Cell, Operation, Use, length-updated, folds_to, EachTouch, IsFine, all_back, Owned, loan_of, LentCell, Lease, lease_of, lent_from, first_at, value_at, AreJoined, worth, worth_over, worths, cell_of-worths, permutation_rest, copies_assigned, todo, openings_of, children_of, unfinished_unawaited, IsFineAt, Region, Run, with_rest, next_task, group_next, at, todo_at, parents, left_of, IsRootOrReady, IsSoundRegions, OnlyFolds, leading, leading_len, test_of, held_mode, piece_touches, assigns_out, whole_region, wholes, loans_out, Opens, RunsWell, Live, weight_of, IsOnCourse, IsWell, Came, IsOut, taken_by, moved_on, regions_settled, units_counted, counts_after, units_of}
 use Rattle.ot_owner.proofs.OpenLemmas.{joined-same}
 use Rattle.ot_owner.proofs.WorthLemmas.{lengths-worths}
 use Rattle.ot_job.proofs.CopiesLemmas.{Lets, mode_at, back-serial, test-serial, HasInputs}
@@ -30,7 +30,7 @@ counts-few j o =
     (omega (arith, g.0, t, f.0), omega (arith, g.1, u, f.1))
 
 module _ (j : Live) (w : IsWell j) (working : j.failing ≡ false) (d : Came) (out : IsOut j.regions d)
-    (made : (c : Cell) → value_at d.lent c ≡ assigned d.assigns (first_at d.lent) c) (told : d.answer ≡ option_map (λ e. val (value_at d.lent) e) d.test)
+    (made : (c : Cell) → value_at d.lent c ≡ copies_assigned d.assigns (first_at d.lent) c) (told : d.answer ≡ option_map (λ e. val (value_at d.lent) e) d.test)
     (cells : List (List ℕ)) (owned : Owned) (back : AreJoined d.lent (worth j.owned j.cells) (worth owned cells)) (long : lengths cells ≡ lengths j.cells)
     (ended : IsPermutation j.owned.out (loan_of out.0.0 d.lent ∷ owned.out))
     (groups : Opens (group_next (at j.regions d.task).rest) j.counts.units (all_back out.0.0 d.lent j.owned.groups) owned.groups)
@@ -46,7 +46,7 @@ module _ (j : Live) (w : IsWell j) (working : j.failing ≡ false) (d : Came) (o
 
   abbrev pub settles : Live
   settles = record j {
-    regions = settled (taken_by d.answer) j.counts.units i j.regions;
+    regions = regions_settled (taken_by d.answer) j.counts.units i j.regions;
     cells = cells;
     owned = owned;
     counts = counts_after j.counts d.assigns r.rest;
@@ -70,7 +70,7 @@ module _ (j : Live) (w : IsWell j) (working : j.failing ≡ false) (d : Came) (o
   lens = lengths j.cells
 
   h : i < length ws
-  h = omega (arith, known, length-map j.regions whole)
+  h = omega (arith, known, length-map j.regions whole_region)
 
   rest-was : (at ws i).rest ≡ append d.assigns r.rest
   rest-was = ap (λ (x : Region). x.rest) (at-whole j.regions i) ∙ ap (λ p. append (assigns_out p) r.rest) out.0.1
@@ -107,17 +107,17 @@ module _ (j : Live) (w : IsWell j) (working : j.failing ≡ false) (d : Came) (o
   inputs : All (HasInputs before) d.lent
   inputs = has-inputs before d.lent (ap (λ (l : Lease). l.firsts) (w.present i run out.0.1)) there
 
-  fine-here : IsFine r.own (opened r.groups) (children_of (unawaited r.waiting r.children)) (append d.assigns r.rest)
+  fine-here : IsFine r.own (openings_of r.groups) (children_of (unfinished_unawaited r.waiting r.children)) (append d.assigns r.rest)
   fine-here =
-      let f = subst (λ (x : Region). IsFineAt x.own (unawaited x.waiting x.children) x.rest x.groups) (at-whole j.regions i) (o.sound.placed i).fine in
-      subst (IsFine r.own (opened r.groups) (children_of (unawaited r.waiting r.children))) (ap (λ p. append (assigns_out p) r.rest) out.0.1)
-      (fine-innermost r.own (unawaited r.waiting r.children) (whole r).rest r.groups f)
+      let f = subst (λ (x : Region). IsFineAt x.own (unfinished_unawaited x.waiting x.children) x.rest x.groups) (at-whole j.regions i) (o.sound.placed i).fine in
+      subst (IsFine r.own (openings_of r.groups) (children_of (unfinished_unawaited r.waiting r.children))) (ap (λ p. append (assigns_out p) r.rest) out.0.1)
+      (fine-innermost r.own (unfinished_unawaited r.waiting r.children) (whole_region r).rest r.groups f)
 
   exclusive : (o : Operation) (c : Cell) → folds_to r.own o c ≡ true → OnlyFolds o r.own c
   exclusive = subst (λ (x : Region). (o : Operation) (c : Cell) → folds_to x.own o c ≡ true → OnlyFolds o x.own c) (at-whole j.regions i) (o.sound.placed i).exclusive
 
   may : EachTouch (Lets (mode_at d.lent)) d.assigns
-  may = lets-piece lens r.own (opened r.groups) (children_of (unawaited r.waiting r.children)) d.assigns r.rest well.assigns named-all fine-here exclusive d.lent well.modes
+  may = lets-piece lens r.own (openings_of r.groups) (children_of (unfinished_unawaited r.waiting r.children)) d.assigns r.rest well.assigns named-all fine-here exclusive d.lent well.modes
 
   -- what came back is what the assigns make of the cells
   cells-now : after ≡ (serial_run d.assigns before).cells
@@ -129,7 +129,7 @@ module _ (j : Live) (w : IsWell j) (working : j.failing ≡ false) (d : Came) (o
   test-now e is =
       ap taken_by (told ∙ ap (option_map (λ x. val (value_at d.lent) x)) (out.1 ∙ is))
       ∙ ap (nat_lt 0) (test-serial d.lent d.lent before after d.assigns (λ c. refl) inputs made well.assigns may backed there e
-      (lets-test lens r.own (opened r.groups) (children_of (unawaited r.waiting r.children)) d.assigns r.rest well.assigns named-all fine-here exclusive d.lent well.modes e is)
+      (lets-test lens r.own (openings_of r.groups) (children_of (unfinished_unawaited r.waiting r.children)) d.assigns r.rest well.assigns named-all fine-here exclusive d.lent well.modes e is)
       ∙ ap (λ c. val (cell_of c) e) (sym cells-now))
 
   abbrev t : State
@@ -150,10 +150,10 @@ module _ (j : Live) (w : IsWell j) (working : j.failing ≡ false) (d : Came) (o
   rest1 : (at ws1 i).rest ≡ r.rest
   rest1 = ap (λ (x : Region). x.rest) here1
 
-  begun : IsBegun ws i
+  begun : IsRootOrReady ws i
   begun = o.begun i run out.0.1
 
-  begun1 : (k : ℕ) → IsBegun ws k → IsBegun ws1 k
+  begun1 : (k : ℕ) → IsRootOrReady ws k → IsRootOrReady ws1 k
   begun1 = begun-changed ws i (with_rest r.rest) h (record { parent = λ r. refl; child = λ r. refl; own = λ r. refl; children = λ r. refl; ended = λ r. refl })
 
   named1 : (k : ℕ) → NamedIn lens (todo_at ws1 k)
@@ -166,7 +166,7 @@ module _ (j : Live) (w : IsWell j) (working : j.failing ≡ false) (d : Came) (o
 
   -- ---- the statement behind it
 
-  goes : Goes lens ws1 (moved_on (taken_by d.answer) j.counts.units i ws1) t1 (counted (at ws1 i).rest t1)
+  goes : Goes lens ws1 (moved_on (taken_by d.answer) j.counts.units i ws1) t1 (units_counted (at ws1 i).rest t1)
   goes =
       goes-on lens ws1 (sound-piece ws o.sound i h d.assigns r.rest rest-was well.assigns alive) i h1
       (ap (λ (x : Region). x.ended) here1 ∙ alive) (ap (λ (x : Region). x.waiting) here1 ∙ calm) (begun1 i begun) named1 t1 (taken_by d.answer) j.counts.units
@@ -177,10 +177,10 @@ module _ (j : Live) (w : IsWell j) (working : j.failing ≡ false) (d : Came) (o
   now-is : wholes settles.regions ≡ moved_on (taken_by d.answer) j.counts.units i ws1
   now-is = wholes-settled (taken_by d.answer) j.counts.units i j.regions known
 
-  state-now : state_of after (counts_after j.counts d.assigns r.rest) ≡ counted (at ws1 i).rest t1
+  state-now : state_of after (counts_after j.counts d.assigns r.rest) ≡ units_counted (at ws1 i).rest t1
   state-now =
       ap (λ c. state_of c (counts_after j.counts d.assigns r.rest)) cells-now
-      ∙ sym (settled-state d.assigns r.rest before j.counts well.assigns) ∙ ap (λ b. counted b t1) (sym rest1)
+      ∙ sym (settled-state d.assigns r.rest before j.counts well.assigns) ∙ ap (λ b. units_counted b t1) (sym rest1)
 
   kept-now : left_of (wholes settles.regions) (state_of after (counts_after j.counts d.assigns r.rest)) ≡ serial_run j.program.body j.before
   kept-now =
@@ -203,7 +203,7 @@ module _ (j : Live) (w : IsWell j) (working : j.failing ≡ false) (d : Came) (o
       let before = at j.regions k in
       let now = at settles.regions k in
       record {
-        modes = λ c. v.modes c ∙ ap (λ p. held p (piece_touches x.assigns (test_of before.rest)) c) (sym (ap (λ (r : Region). r.own) a)) ∙ ap (λ b. held now.own (piece_touches x.assigns (test_of b)) c) (sym (ap (λ (r : Region). r.rest) a));
+        modes = λ c. v.modes c ∙ ap (λ p. held_mode p (piece_touches x.assigns (test_of before.rest)) c) (sym (ap (λ (r : Region). r.own) a)) ∙ ap (λ b. held_mode now.own (piece_touches x.assigns (test_of b)) c) (sym (ap (λ (r : Region). r.rest) a));
         ordered = v.ordered;
         assigns = v.assigns;
         stops = ap leading (ap (λ (r : Region). r.rest) a) ∙ v.stops;
@@ -211,11 +211,11 @@ module _ (j : Live) (w : IsWell j) (working : j.failing ≡ false) (d : Came) (o
         alive = ap (λ (r : Region). r.ended) a ∙ v.alive;
       }
 
-  begun-now : (k : ℕ) (x : Run) → (at settles.regions k).running ≡ Some x → IsBegun (wholes settles.regions) k
+  begun-now : (k : ℕ) (x : Run) → (at settles.regions k).running ≡ Some x → IsRootOrReady (wholes settles.regions) k
   begun-now k x is =
       let was = other-out k x is in
-      subst (λ l. IsBegun l k) (sym now-is)
-      (goes.begun k (omega (arith, runs-within j.regions k x was, length-map j.regions whole, length-updated ws i (with_rest r.rest))) (begun1 k (o.begun k x was)))
+      subst (λ l. IsRootOrReady l k) (sym now-is)
+      (goes.begun k (omega (arith, runs-within j.regions k x was, length-map j.regions whole_region, length-updated ws i (with_rest r.rest))) (begun1 k (o.begun k x was)))
 
   inputs-now : (k : ℕ) (x : Run) → (at settles.regions k).running ≡ Some x → x.lease ≡ lease_of (lent_from after x.lease.uses)
   inputs-now k x is =
@@ -240,8 +240,8 @@ module _ (j : Live) (w : IsWell j) (working : j.failing ≡ false) (d : Came) (o
 
   pub settle-course : IsOnCourse settles
   settle-course = record {
-    some = omega (arith, o.some, length-map j.regions whole, length-updated ws i (with_rest r.rest), goes.long, ap length now-is, length-map settles.regions whole);
-    sound = subst IsSound (sym now-is) goes.sound;
+    some = omega (arith, o.some, length-map j.regions whole_region, length-updated ws i (with_rest r.rest), goes.long, ap length now-is, length-map settles.regions whole_region);
+    sound = subst IsSoundRegions (sym now-is) goes.sound;
     named = λ k. subst (λ l. NamedIn l (todo_at (wholes settles.regions) k)) (sym long) (subst (λ l. NamedIn lens (todo_at l k)) (sym now-is) (goes.named k));
     runs = runs-now;
     begun = begun-now;

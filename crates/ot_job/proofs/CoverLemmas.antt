@@ -1,6 +1,6 @@
 -- Each touch of a piece may be made on what it holds.
 use Rattle.std.proofs.Common.{◌≡◌, ◌≢◌, ◌<◌, ℕ, zero, suc, ◌+◌, Bool, true, false, List, [], ◌∷◌, ◌++◌, map, refl, sym, ap, subst, ◌∙◌, inl, inr, arith, true≢false, Option, Some, None, IsSome, cond, option_map, if◌then◌else◌, fold, find, ◌%◌}
-use Rattle.ot_job.proofs.Common.{false_from_ne_true, range_with_len, E, Literal, CellAt, Apply, PickFrom, Set, Fold, Body, End, Next, NamedIn, ValueNamedIn, cell_at, HasAll, cells_named, Cell, Operation, Section, Mode, Reads, Writes, Folds, Use, use_as, touches, Declared, folds_to, same_cell, lent_from, copy_of, first_at, value_at, is_at, same_is, same_self, AreAssigns, CanAssign, mode_in, same_fold, assign_touches, held, noted, stronger, with_mode, mode_held, reads-append, EachRead, cases_Bool}
+use Rattle.ot_job.proofs.Common.{false_from_ne_true, range_with_len, E, Literal, CellAt, Apply, PickFrom, Set, Fold, Body, End, Next, NamedIn, ValueNamedIn, cell_at, HasAll, cells_named, Cell, Operation, Section, Mode, Reads, Writes, Folds, Use, use_as, touches, Declared, folds_to, same_cell, lent_from, copy_of, first_at, value_at, is_at, same_is, same_self, AreAssigns, CanAssign, mode_in, same_fold, assign_touches, held_mode, mode_noted, stronger, with_mode, mode_held, reads-append, EachRead, cases_Bool}
 use Rattle.std.proofs.Math.Nat.{mod-lt, mod-eq_of_lt}
 use Rattle.ot_owner.specs.Lending.{MayChange}
 use Rattle.ot_job.proofs.HoldsLemmas.{Among}
@@ -10,7 +10,7 @@ abbrev pub Covers : Option Mode → Mode → Type 0
 Covers None m = ⊥
 Covers (Some Reads) Reads = Unit {0}
 Covers (Some Reads) m = ⊥
-Covers (Some held) m = Unit {0}
+Covers (Some held_mode) m = Unit {0}
 
 -- folds by one operation, or by two, cover any touch
 two-folds : (o p : Operation) (w : Mode) → Covers (Some (stronger (Folds o) (Folds p))) w
@@ -35,20 +35,20 @@ itself None Reads = tt
 itself o n = tt
 
 module _ (own : Declared) where
-  stays : (c : Cell) (us : List Use) (o : Option Mode) (w : Mode) → Covers o w → Covers (fold (noted own c) o us) w
+  stays : (c : Cell) (us : List Use) (o : Option Mode) (w : Mode) → Covers o w → Covers (fold (mode_noted own c) o us) w
   stays c [] o w h = h
-  stays c (u ∷ us) o w h = stays c us (noted own c o u) w (by (same_cell u.cell c) refl)
+  stays c (u ∷ us) o w h = stays c us (mode_noted own c o u) w (by (same_cell u.cell c) refl)
     where
       by : (b : Bool) → same_cell u.cell c ≡ b → Covers (if same_cell u.cell c then Some (with_mode o (mode_held own u)) else o) w
       by true e = rw e (grow o (mode_held own u) w h)
       by false e = rw e h
 
-  pub covered : (us : List Use) (o : Option Mode) (u : Use) → Among u us → Covers (fold (noted own u.cell) o us) (mode_held own u)
+  pub covered : (us : List Use) (o : Option Mode) (u : Use) → Among u us → Covers (fold (mode_noted own u.cell) o us) (mode_held own u)
   covered [] o u h = absurd h
   covered (v ∷ us) o u (inl e) =
-      stays u.cell us (noted own u.cell o v) (mode_held own u)
+      stays u.cell us (mode_noted own u.cell o v) (mode_held own u)
       (rw (same_self v.cell u.cell (ap (λ (x : Use). x.cell) e)) (subst (λ (x : Use). Covers (Some (with_mode o (mode_held own v))) (mode_held own x)) e (itself o (mode_held own v))))
-  covered (v ∷ us) o u (inr h) = covered us (noted own u.cell o v) u h
+  covered (v ∷ us) o u (inr h) = covered us (mode_noted own u.cell o v) u h
 
 -- ---- on the lent copies
 
@@ -157,13 +157,13 @@ module _ (lens : List ℕ) (own : Declared) (cells : List (List ℕ)) (d : List 
 
 -- a piece that holds what its touches ask may make its assigns
 pub piece-can : (lens : List ℕ) (own : Declared) (cells : List (List ℕ)) (d : List Use) (piece : Body) (more : List Use) → AreAssigns piece → NamedIn lens piece
-    → ((c : Cell) → mode_in d c ≡ held own (assign_touches piece ++ more) c) → CanAssign piece (lent_from cells d)
+    → ((c : Cell) → mode_in d c ≡ held_mode own (assign_touches piece ++ more) c) → CanAssign piece (lent_from cells d)
 piece-can lens own cells d piece more only n modes =
     can-assign lens own cells d piece only n (λ u k. subst (λ o. Covers o (mode_held own u)) (sym (modes u.cell)) (covered own (assign_touches piece ++ more) None u (among-left u (assign_touches piece) more k)))
 
 -- and its condition's cells are lent
 pub piece-reads : (lens : List ℕ) (own : Declared) (cells : List (List ℕ)) (d : List Use) (piece : Body) (e : E) → ValueNamedIn lens e
-    → ((c : Cell) → mode_in d c ≡ held own (assign_touches piece ++ map (use_as Reads) (cells_named e)) c) → HasAll (value_at (lent_from cells d)) e
+    → ((c : Cell) → mode_in d c ≡ held_mode own (assign_touches piece ++ map (use_as Reads) (cells_named e)) c) → HasAll (value_at (lent_from cells d)) e
 piece-reads lens own cells d piece e named modes =
     let all = assign_touches piece ++ map (use_as Reads) (cells_named e) in
     value-all lens (value_at (lent_from cells d)) e named

@@ -1,6 +1,6 @@
 -- A task that is created leaves what holds of its parent's region, and who is whose child.
 use Rattle.std.proofs.Common.{◌≡◌, ℕ, zero, suc, Bool, true, false, not, ◌&&◌, ◌||◌, List, [], ◌∷◌, ◌++◌, map, length, refl, sym, ap, subst, ◌∙◌, ◌⊎◌, inl, inr, ⊎_elim, true≢false, ◌==◌, Some, slice_get, ◌≢◌, ◌+◌, ◌<◌, ◌≤◌, arith, length-append}
-use Rattle.ot_job.proofs.Common.{Waiting, Region, with_rest, with_child, is_awaited_at, list_any, same_Some, Body, End, Next, Task, Cell, Operation, Mode, Reads, Writes, Folds, same_fold, Use, Sibling, created, is_unfinished, is_in, use_as, EachTouch, EachTask, Declared, allows, folds_to, has_cell, ReductionMisuse, or_true, true_or, or_right, and_left, and_right, and_true, IsClean, Open, todo, opened, children_of, IsFineAt, AwaitsAll, unawaited, DontMix, LetsAll, NamedOnce, OnlyFolds, IsPlaced, grouped_in, cases_eq, slice_get_within, updated, length-updated, IsReady, new_region, at, parent_of, IsBegun, IsKin, IsSound, slice_get-push, gone}
+use Rattle.ot_job.proofs.Common.{Waiting, Region, with_rest, with_child, is_awaited_at, list_any, same_Some, Body, End, Next, Task, Cell, Operation, Mode, Reads, Writes, Folds, same_fold, Use, Sibling, sibling_created, is_unfinished, is_in, use_as, EachTouch, EachTask, Declared, allows, folds_to, has_cell, ReductionMisuse, or_true, true_or, or_right, and_left, and_right, and_true, IsClean, Open, todo, openings_of, children_of, IsFineAt, AwaitsAll, unfinished_unawaited, DontMix, LetsAll, NamedOnce, OnlyFolds, IsSoundRegion, grouped_in, cases_eq, slice_get_within, updated, length-updated, IsReady, new_region, at, parent_of, IsRootOrReady, IsKin, IsSoundRegions, slice_get-push, empty_region}
 use Rattle.std.proofs.lemmas.List.Folds.{list_any-append}
 use Rattle.ot_check.specs.Offences.{exceeds, misfits}
 use Rattle.ot_check.specs.declared.fault.Offence.TheVariants.{ChildBeyond}
@@ -16,34 +16,34 @@ use Rattle.ot_job.proofs.EachLemmas.{field-kept, more-by_number}
 
 -- a child is created in each open group that names a cell
 opened-grouped : (gs : List Open) (d : List Use) (groups : List ℕ) (o : Operation) (c : Cell) → ((g : ℕ) → list_any (λ h. h == g) (map (λ o. o.group) gs) ≡ true → list_any (λ h. h == g) groups ≡ true)
-    → opened gs o c ≡ true → grouped_in gs (created d groups) o c ≡ true
+    → openings_of gs o c ≡ true → grouped_in gs (sibling_created d groups) o c ≡ true
 opened-grouped [] d groups o c in_all h = h
 opened-grouped (g ∷ gs) d groups o c in_all h =
-    elim (or_true (opened gs o c) (same_fold g.op o && has_cell g.cells c) h) [
-      | inl outer ↦ or_right ((same_fold g.op o && has_cell g.cells c) && is_in g.group (created d groups)) (grouped_in gs (created d groups) o c)
+    elim (or_true (openings_of gs o c) (same_fold g.op o && has_cell g.cells c) h) [
+      | inl outer ↦ or_right ((same_fold g.op o && has_cell g.cells c) && is_in g.group (sibling_created d groups)) (grouped_in gs (sibling_created d groups) o c)
           (opened-grouped gs d groups o c (λ n there. in_all n (or_right (g.group == n) (list_any (λ h. h == n) (map (λ o. o.group) gs)) there)) outer)
-      | inr here ↦ true_or ((same_fold g.op o && has_cell g.cells c) && is_in g.group (created d groups)) (grouped_in gs (created d groups) o c)
-          (and_true (same_fold g.op o && has_cell g.cells c) (is_in g.group (created d groups)) here (in_all g.group (true_or (g.group == g.group) _ (eq_itself g.group))))
+      | inr here ↦ true_or ((same_fold g.op o && has_cell g.cells c) && is_in g.group (sibling_created d groups)) (grouped_in gs (sibling_created d groups) o c)
+          (and_true (same_fold g.op o && has_cell g.cells c) (is_in g.group (sibling_created d groups)) here (in_all g.group (true_or (g.group == g.group) _ (eq_itself g.group))))
     ]
 
-pub grouped-opened : (gs : List Open) (s : Sibling) (o : Operation) (c : Cell) → grouped_in gs s o c ≡ true → opened gs o c ≡ true
+pub grouped-opened : (gs : List Open) (s : Sibling) (o : Operation) (c : Cell) → grouped_in gs s o c ≡ true → openings_of gs o c ≡ true
 grouped-opened [] s o c h = h
 grouped-opened (g ∷ gs) s o c h =
     elim (or_true ((same_fold g.op o && has_cell g.cells c) && is_in g.group s) (grouped_in gs s o c) h) [
-      | inl here ↦ or_right (opened gs o c) (same_fold g.op o && has_cell g.cells c) (and_left (same_fold g.op o && has_cell g.cells c) (is_in g.group s) here)
-      | inr outer ↦ true_or (opened gs o c) (same_fold g.op o && has_cell g.cells c) (grouped-opened gs s o c outer)
+      | inl here ↦ or_right (openings_of gs o c) (same_fold g.op o && has_cell g.cells c) (and_left (same_fold g.op o && has_cell g.cells c) (is_in g.group s) here)
+      | inr outer ↦ true_or (openings_of gs o c) (same_fold g.op o && has_cell g.cells c) (grouped-opened gs s o c outer)
     ]
 
 -- groups of which no two name one cell name it by one operation
-pub opened-alike : (gs : List Open) → NamedOnce gs → (o p : Operation) (c : Cell) → opened gs o c ≡ true → opened gs p c ≡ true → o ≡ p
+pub opened-alike : (gs : List Open) → NamedOnce gs → (o p : Operation) (c : Cell) → openings_of gs o c ≡ true → openings_of gs p c ≡ true → o ≡ p
 opened-alike [] once o p c h k = absurd (true≢false (sym h))
 opened-alike (g ∷ gs) once o p c h k =
-    elim (or_true (opened gs o c) (same_fold g.op o && has_cell g.cells c) h) [
-      | inl outer ↦ elim (or_true (opened gs p c) (same_fold g.op p && has_cell g.cells c) k) [
+    elim (or_true (openings_of gs o c) (same_fold g.op o && has_cell g.cells c) h) [
+      | inl outer ↦ elim (or_true (openings_of gs p c) (same_fold g.op p && has_cell g.cells c) k) [
         | inl other ↦ opened-alike gs once.1 o p c outer other
         | inr here ↦ absurd (true≢false (sym outer ∙ once.0 o c (and_right (same_fold g.op p) (has_cell g.cells c) here)))
       ]
-      | inr here ↦ elim (or_true (opened gs p c) (same_fold g.op p && has_cell g.cells c) k) [
+      | inr here ↦ elim (or_true (openings_of gs p c) (same_fold g.op p && has_cell g.cells c) k) [
         | inl outer ↦ absurd (true≢false (sym outer ∙ once.0 p c (and_right (same_fold g.op o) (has_cell g.cells c) here)))
         | inr other ↦ sym (one-op g.op o (and_left (same_fold g.op o) (has_cell g.cells c) here)) ∙ one-op g.op p (and_left (same_fold g.op p) (has_cell g.cells c) other)
       ]
@@ -59,8 +59,8 @@ more-place P [] x old new (suc k) y h = cc
 more-place P (z ∷ xs) x old new zero y h = old 0 y h
 more-place P (z ∷ xs) x old new (suc k) y h = more-place (λ n. P (suc n)) xs x (λ n w g. old (suc n) w g) new k y h
 
-pub kids-more : (waiting : Waiting) (kids : List Sibling) (new : Sibling) (test : Sibling → Bool) → unawaited waiting (kids ++ new ∷ []) test ≡ true
-    → (unawaited waiting kids test || test new) ≡ true
+pub kids-more : (waiting : Waiting) (kids : List Sibling) (new : Sibling) (test : Sibling → Bool) → unfinished_unawaited waiting (kids ++ new ∷ []) test ≡ true
+    → (unfinished_unawaited waiting kids test || test new) ≡ true
 kids-more waiting kids new test h =
     let left = λ (s : Sibling). is_unfinished s && (not (is_awaited_at waiting s) && test s) in
     bits (list_any left kids) (is_unfinished new) (not (is_awaited_at waiting new)) (test new) (sym (list_any-append left kids (new ∷ [])) ∙ h)
@@ -72,37 +72,37 @@ kids-more waiting kids new test h =
     bits false true false t h = absurd (true≢false (sym h))
     bits false false n t h = absurd (true≢false (sym h))
 
-module _ (r : Region) (p : IsPlaced r) (d : List Use) (b rest : Body) (was : r.rest ≡ Next (Task d b) rest)
-    (clean : (own : Declared) → own ≡ r.own → IsClean own (opened r.groups) (children_of (unawaited r.waiting r.children)) (Task d b))
+module _ (r : Region) (p : IsSoundRegion r) (d : List Use) (b rest : Body) (was : r.rest ≡ Next (Task d b) rest)
+    (clean : (own : Declared) → own ≡ r.own → IsClean own (openings_of r.groups) (children_of (unfinished_unawaited r.waiting r.children)) (Task d b))
     (exclusive : (o : Operation) (c : Cell) → folds_to (Some d) o c ≡ true → OnlyFolds o (Some d) c)
   where
     abbrev pub next : Region
     next = with_child d (with_rest rest r)
 
     abbrev pub new : Sibling
-    new = created d (map (λ o. o.group) r.groups)
+    new = sibling_created d (map (λ o. o.group) r.groups)
 
     exceed : list_any (exceeds r.own) d ≡ false
-    exceed = sym (is_offence-ChildBeyond r.own (opened r.groups) (children_of (unawaited r.waiting r.children)) d b) ∙ clean r.own refl ChildBeyond
+    exceed = sym (is_offence-ChildBeyond r.own (openings_of r.groups) (children_of (unfinished_unawaited r.waiting r.children)) d b) ∙ clean r.own refl ChildBeyond
 
-    misfit : list_any (misfits r.own (opened r.groups)) d ≡ false
-    misfit = sym (is_offence-ReductionMisuse r.own (opened r.groups) (children_of (unawaited r.waiting r.children)) d b) ∙ clean r.own refl ReductionMisuse
+    misfit : list_any (misfits r.own (openings_of r.groups)) d ≡ false
+    misfit = sym (is_offence-ReductionMisuse r.own (openings_of r.groups) (children_of (unfinished_unawaited r.waiting r.children)) d b) ∙ clean r.own refl ReductionMisuse
 
     may : (u : Use) → allows (Some d) u ≡ true → allows r.own u ≡ true
-    may u h = child_fits r.own (opened r.groups) d p.writes exceed misfit u h
+    may u h = child_fits r.own (openings_of r.groups) d p.writes exceed misfit u h
 
-    fits : (o : Operation) (c : Cell) → folds_to (Some d) o c ≡ true → (folds_to r.own o c ≡ true) ⊎ (opened r.groups o c ≡ true)
-    fits o c h = fits-folds r.own (opened r.groups) d o c misfit h
+    fits : (o : Operation) (c : Cell) → folds_to (Some d) o c ≡ true → (folds_to r.own o c ≡ true) ⊎ (openings_of r.groups o c ≡ true)
+    fits o c h = fits-folds r.own (openings_of r.groups) d o c misfit h
 
     grouped_new : (o : Operation) (c : Cell) → folds_to (Some d) o c ≡ true → (folds_to r.own o c ≡ true) ⊎ (grouped_in r.groups new o c ≡ true)
     grouped_new o c h = ⊎_elim (λ e. inl e) (λ e. inr (opened-grouped r.groups d (map (λ o. o.group) r.groups) o c (λ g k. k) e)) (fits o c h)
 
     -- of a cell of an open group the new child may do no more than fold by the group's operation
-    only_new : (o : Operation) (c : Cell) → opened r.groups o c ≡ true → OnlyFolds o (Some d) c
+    only_new : (o : Operation) (c : Cell) → openings_of r.groups o c ≡ true → OnlyFolds o (Some d) c
     only_new o c here m h = by m h
       where
         unread : allows (Some d) (use_as Reads c) ≡ false
-        unread = fits-reads r.own (opened r.groups) d o c misfit here
+        unread = fits-reads r.own (openings_of r.groups) d o c misfit here
 
         by : (m : Mode) → allows (Some d) (use_as m c) ≡ true → m ≡ Folds o
         by Reads h = absurd (true≢false (sym h ∙ unread))
@@ -127,8 +127,8 @@ module _ (r : Region) (p : IsPlaced r) (d : List Use) (b rest : Body) (was : r.r
     own_new : DontMix d d
     own_new = exclusive
 
-    pub placed-parent : IsFineAt next.own (unawaited next.waiting next.children) next.rest next.groups
-        → ((uses : List Use) → r.own ≡ Some uses → AwaitsAll (unawaited next.waiting next.children) next.rest next.groups) → IsPlaced next
+    pub placed-parent : IsFineAt next.own (unfinished_unawaited next.waiting next.children) next.rest next.groups
+        → ((uses : List Use) → r.own ≡ Some uses → AwaitsAll (unfinished_unawaited next.waiting next.children) next.rest next.groups) → IsSoundRegion next
     placed-parent fine awaits = record {
       fine = fine;
       inside = (subst (EachTouchAll r.own) (ap (λ x. todo x r.groups) was ∙ todo-next (Task d b) rest r.groups) p.inside).1;
@@ -141,7 +141,7 @@ module _ (r : Region) (p : IsPlaced r) (d : List Use) (b rest : Body) (was : r.r
       once = p.once;
       writes = p.writes;
       grouped = more-place (λ k s. s.finished ≡ false → (o : Operation) (c : Cell) → folds_to (Some s.uses) o c ≡ true → (folds_to r.own o c ≡ true) ⊎ (grouped_in r.groups s o c ≡ true)) r.children new p.grouped (λ alive. grouped_new);
-      reduced = more-place (λ k s. s.finished ≡ false → (o : Operation) (c : Cell) → opened r.groups o c ≡ true → OnlyFolds o (Some s.uses) c) r.children new p.reduced (λ alive. only_new);
+      reduced = more-place (λ k s. s.finished ≡ false → (o : Operation) (c : Cell) → openings_of r.groups o c ≡ true → OnlyFolds o (Some s.uses) c) r.children new p.reduced (λ alive. only_new);
       exclusive = p.exclusive;
     }
       where
@@ -187,7 +187,7 @@ module _ (rs : List Region) (i : ℕ) (h : i < length rs) (uses : List Use) (bod
 
   -- another task, the parent, the new one, or none
   pub at-each-one : (P : ℕ → Region → Type 0) → ((j : ℕ) → j < length rs → j ≢ i → P j (at rs j)) → P i (with_child uses (at rs i)) → P (length rs) (new_region i child uses body)
-      → ((j : ℕ) → length rs < j → P j gone) → (j : ℕ) → P j (at more j)
+      → ((j : ℕ) → length rs < j → P j empty_region) → (j : ℕ) → P j (at more j)
   at-each-one P others parent fresh past =
       more-by_number P (updated rs i (with_child uses)) (new_region i child uses body) (λ j l. elim (cases_eq j i) [
         | inl e ↦ subst (λ n. P n (at (updated rs i (with_child uses)) n)) (sym e) (subst (P i) (sym (at-updated rs i (with_child uses) h)) parent)
@@ -203,11 +203,11 @@ module _ (rs : List Region) (i : ℕ) (h : i < length rs) (uses : List Use) (bod
   entry-kept p k s l there = elim (cases_eq p i) [
     | inl e ↦ ap (λ n. slice_get (at more n).children k) e ∙ ap (λ (r : Region). slice_get r.children k) at-parent
         ∙ (let here : slice_get (at rs i).children k ≡ Some s = subst (λ n. slice_get (at rs n).children k ≡ Some s) e there in
-        slice_get-push (at rs i).children (created uses (map (λ o. o.group) (at rs i).groups)) k (slice_get_within (at rs i).children k s here) ∙ here)
+        slice_get-push (at rs i).children (sibling_created uses (map (λ o. o.group) (at rs i).groups)) k (slice_get_within (at rs i).children k s here) ∙ here)
     | inr e ↦ ap (λ (r : Region). slice_get r.children k) (at-others p l e) ∙ there
   ]
 
-  module _ (s : IsSound rs) where
+  module _ (s : IsSoundRegions rs) where
     pub kin-more : (j : ℕ) → 0 < j → j < length more → IsKin more j
     kin-more j pos l = let (entry, there, uses, finished) = at-each-one KinOf (λ j below other pos l. old j below pos) (λ pos l. old i h pos) (λ pos l. fresh)
         (λ j past pos l. absurd (omega (arith, past, l, long))) j pos l in record { entry = entry; there = there; uses = uses; finished = finished }
@@ -219,9 +219,9 @@ module _ (rs : List Region) (i : ℕ) (h : i < length rs) (uses : List Use) (bod
         old j below pos = let k = s.kin j pos below in (k.entry, entry-kept (parent_of rs j) (at rs j).child k.entry (omega (arith, s.down j pos, below)) k.there, k.uses, k.finished)
 
         fresh : (entry : Sibling) × (slice_get (at more i).children child ≡ Some entry) × (Some uses ≡ Some entry.uses) × (entry.finished ≡ false)
-        fresh = (created uses (map (λ o. o.group) (at rs i).groups), ap (λ (r : Region). slice_get r.children child) at-parent ∙ slice_get-last (at rs i).children _, refl, refl)
+        fresh = (sibling_created uses (map (λ o. o.group) (at rs i).groups), ap (λ (r : Region). slice_get r.children child) at-parent ∙ slice_get-last (at rs i).children _, refl, refl)
 
-    pub begun-more : (j : ℕ) → j < length rs → IsBegun rs j → IsBegun more j
+    pub begun-more : (j : ℕ) → j < length rs → IsRootOrReady rs j → IsRootOrReady more j
     begun-more j l begun pos =
         let b = begun pos in
         let p = same-field (λ r. r.parent) (λ r. refl) j l in

@@ -1,12 +1,12 @@
 -- A job's calls, as whoever deals with it sees them.
 use Rattle.std.proofs.Common.{◌≡◌, ◌≢◌, ℕ, zero, suc, ◌+◌, ◌<◌, ◌≤◌, Bool, true, false, not, ◌&&◌, ◌||◌, List, [], ◌∷◌, length, get_or, refl, sym, ap, subst, ◌∙◌, ◌⊎◌, inl, inr, arith, true≢false, ◌==◌, ◌%◌, Option, Some, None, is_some, option_map, if◌then◌else◌}
-use Rattle.ot_job.proofs.Common.{range_with_len, same_Some, none-some, slice_get-get_or, length-range_with_len, length-filter, count_by-le-length, false_from_ne_true, E, Body, expanded_of, updated, and_left, not_true, Lease, lease_of, loan_of, Region, Run, stopped, root_region, at, Live, Taken, Came, IsOut, taken_by, behind, test_of, begun, with_loan, loans_out, is_claimable, claimable_of, picked, is_let_go, is_ready, Claims, ahead, Settles, moved_on, settled, any_out, all_ended, claimable_in, aborted, region_weight, weight_left, IsWell, Working, Failing, Ended, Failed, out_in, or_right, cases_Bool}
+use Rattle.ot_job.proofs.Common.{range_with_len, same_Some, none-some, slice_get-get_or, length-range_with_len, length-filter, count_by-le-length, false_from_ne_true, E, Body, expanded_of, updated, and_left, not_true, Lease, lease_of, loan_of, Region, Run, region_stopped, root_region, at, Live, Taken, Came, IsOut, taken_by, after_parts, test_of, piece_begun, with_loan, loans_out, is_claimable, claimable_of, picked_at, is_let_go, is_ready, Claims, ahead, Settles, moved_on, regions_settled, any_out, all_ended, claimable_in, job_aborted, region_weight, weight_left, IsWell, Working, Failing, Ended, Failed, out_in, or_right, cases_Bool}
 use Rattle.std.proofs.lemmas.Nat.{mod_below}
 use Rattle.std.proofs.lemmas.List.Sorted.{length_permutation}
 use Rattle.ot_check.specs.Jobs.{Spec}
 use Rattle.ot_job.proofs.SettleLemmas.{run_of, runs-within}
 use Rattle.ot_job.specs.Moves.{Claimed}
-use Rattle.ot_job.specs.Dealings.{Starts, FailsBy, Work, work_of, brought, run_with, work_in, work_at, NoneOut, out_of, state_of, weight_of, after_failure, IsFresh, Takes, Returns, Gives, Pays, Breaks, Aborts}
+use Rattle.ot_job.specs.Dealings.{Starts, FailsBy, Work, work_of, work_brought, run_with, work_in, work_at, NoneOut, out_of, live_state, settles_left, after_failure, IsFresh, Takes, Returns, Gives, Pays, Breaks, Aborts}
 use Rattle.ot_job_task.specs.Regions.{weight_of as weight_in}
 use Rattle.ot_job.proofs.CountingLemmas.{one, count-cons, count-updated, out-any}
 use Rattle.ot_job.proofs.KeptLemmas.{at-updated, at-updated-other}
@@ -20,18 +20,18 @@ use Rattle.ot_job.proofs.StuckLemmas.{none-out as none-at, state-working}
 
 -- ---- the piece that is out
 
-pub out-work : (j : Live) (d : Came) → IsOut j.regions d → work_at j d.task ≡ Some (brought d)
+pub out-work : (j : Live) (d : Came) → IsOut j.regions d → work_at j d.task ≡ Some (work_brought d)
 out-work j d out =
     ap (option_map (run_with (test_of (at j.regions d.task).rest))) out.0.1
     ∙ ap (λ (t : Option E). Some (run_with t (run_of out.0.0 d))) (sym out.1)
 
-pub work-out : (j : Live) (d : Came) → work_at j d.task ≡ Some (brought d) → IsOut j.regions d
+pub work-out : (j : Live) (d : Came) → work_at j d.task ≡ Some (work_brought d) → IsOut j.regions d
 work-out j d h = by (at j.regions d.task).running refl h
   where
-    by : (o : Option Run) → (at j.regions d.task).running ≡ o → option_map (run_with (test_of (at j.regions d.task).rest)) o ≡ Some (brought d) → IsOut j.regions d
-    by None e same = absurd (none-some (brought d) same)
+    by : (o : Option Run) → (at j.regions d.task).running ≡ o → option_map (run_with (test_of (at j.regions d.task).rest)) o ≡ Some (work_brought d) → IsOut j.regions d
+    by None e same = absurd (none-some (work_brought d) same)
     by (Some run) e same =
-        let one : run_with (test_of (at j.regions d.task).rest) run ≡ brought d = same_Some (run_with (test_of (at j.regions d.task).rest) run) (brought d) same in
+        let one : run_with (test_of (at j.regions d.task).rest) run ≡ work_brought d = same_Some (run_with (test_of (at j.regions d.task).rest) run) (work_brought d) same in
         ((run.worker, e ∙ ap (λ (w : Work). Some (let r : Run = record { worker = run.worker; assigns = w.assigns; lease = w.lease } in r)) one), sym (ap (λ (w : Work). w.test) one))
 
 work-same : (a b : Region) → a.running ≡ b.running → a.rest ≡ b.rest → work_in a ≡ work_in b
@@ -95,7 +95,7 @@ failed-state rs = ap (λ (b : Bool). if b then Failing else Failed) (sym (out-an
 
 -- ---- how it stands
 
-working-is : (j : Live) → j.failing ≡ false → all_ended j.regions ≡ false → state_of j ≡ Working
+working-is : (j : Live) → j.failing ≡ false → all_ended j.regions ≡ false → live_state j ≡ Working
 working-is j working left = rw (working, left)
 
 one-alive : (rs : List Region) (i : ℕ) → (at rs i).ended ≡ false → all_ended rs ≡ false
@@ -119,11 +119,11 @@ starts-fresh spec j s = record {
 
 -- ---- a claim
 
-some-picked : (xs : List ℕ) (pick i : ℕ) → picked xs pick ≡ Some i → 0 < length xs
+some-picked : (xs : List ℕ) (pick i : ℕ) → picked_at xs pick ≡ Some i → 0 < length xs
 some-picked [] pick i h = absurd (none-some i h)
 some-picked (x ∷ xs) pick i h = omega arith
 
-none-picked : (xs : List ℕ) (pick : ℕ) → picked xs pick ≡ None → xs ≡ []
+none-picked : (xs : List ℕ) (pick : ℕ) → picked_at xs pick ≡ None → xs ≡ []
 none-picked [] pick h = refl
 none-picked (x ∷ xs) pick h =
     absurd (none-some (get_or (x ∷ xs) (pick % length (x ∷ xs)) 0) (sym h ∙ slice_get-get_or (x ∷ xs) (pick % length (x ∷ xs)) 0 (mod_below pick (length (x ∷ xs)) (omega arith))))
@@ -135,16 +135,16 @@ claimable-alive rs i can =
     (and_left (not (at rs i).ended && not (is_some (at rs i).running)) (((i == 0) || is_ready (at rs (at rs i).parent).children (at rs i).child) && is_let_go (at rs i)) can))
 
 -- where one is picked, some task is claimable
-pub picked-in : (failing : Bool) (rs : List Region) (pick i : ℕ) → picked (if failing then [] else claimable_of rs) pick ≡ Some i
-    → (failing ≡ false) × (picked (claimable_of rs) pick ≡ Some i)
+pub picked-in : (failing : Bool) (rs : List Region) (pick i : ℕ) → picked_at (if failing then [] else claimable_of rs) pick ≡ Some i
+    → (failing ≡ false) × (picked_at (claimable_of rs) pick ≡ Some i)
 picked-in true rs pick i is = cc
 picked-in false rs pick i is = (refl, is)
 
-pub picked-some : (j : Live) (pick i : ℕ) → j.failing ≡ false → picked (claimable_of j.regions) pick ≡ Some i → 0 < length (claimable_in j)
+pub picked-some : (j : Live) (pick i : ℕ) → j.failing ≡ false → picked_at (claimable_of j.regions) pick ≡ Some i → 0 < length (claimable_in j)
 picked-some j pick i working h =
-    some-picked (claimable_in j) pick i (ap (λ (b : Bool). picked (if b then [] else claimable_of j.regions) pick) working ∙ h)
+    some-picked (claimable_in j) pick i (ap (λ (b : Bool). picked_at (if b then [] else claimable_of j.regions) pick) working ∙ h)
 
-pub picked-working : (j : Live) (pick i : ℕ) → j.failing ≡ false → picked (claimable_of j.regions) pick ≡ Some i → state_of j ≡ Working
+pub picked-working : (j : Live) (pick i : ℕ) → j.failing ≡ false → picked_at (claimable_of j.regions) pick ≡ Some i → live_state j ≡ Working
 picked-working j pick i working h = working-is j working (one-alive j.regions i (claimable-alive j.regions i (picked-claimable j.regions pick i h).1))
 
 pub claims-takes : (old : Live) (pick worker : ℕ) (p : Taken) (new : Live) → Claims old pick worker p new → Takes old p.task (work_of p) new
@@ -152,9 +152,9 @@ claims-takes old pick worker p new c = subst (λ (n : Live). Takes old p.task (w
   free = work-none (at rs i) idle;
   taken =
       ap work_in here
-      ∙ ap (λ (b : Body). Some (run_with (test_of (behind (ahead old i))) (let r : Run = record { worker = worker; assigns = b; lease = lease } in r))) (sym c.assigns)
+      ∙ ap (λ (b : Body). Some (run_with (test_of (after_parts (ahead old i))) (let r : Run = record { worker = worker; assigns = b; lease = lease } in r))) (sym c.assigns)
       ∙ ap (λ (t : Option E). Some (run_with t (let r : Run = record { worker = worker; assigns = p.assigns; lease = lease } in r))) (sym c.test);
-  others = λ k other. ap work_in (at-updated-other rs i k (begun worker lease) other);
+  others = λ k other. ap work_in (at-updated-other rs i k (piece_begun worker lease) other);
   out = counts;
   weight = weight-begun worker lease rs i both.0 idle;
   units = refl;
@@ -173,7 +173,7 @@ claims-takes old pick worker p new c = subst (λ (n : Live). Takes old p.task (w
     lease = lease_of p.lent
 
     now : Live
-    now = record old { regions = updated old.regions p.task (begun worker (lease_of p.lent)); cells = new.cells; owned = new.owned }
+    now = record old { regions = updated old.regions p.task (piece_begun worker (lease_of p.lent)); cells = new.cells; owned = new.owned }
 
     working : old.failing ≡ false
     working = (picked-in old.failing rs pick i c.task).0
@@ -184,19 +184,19 @@ claims-takes old pick worker p new c = subst (λ (n : Live). Takes old p.task (w
     idle : (at rs i).running ≡ None
     idle = claimable-idle rs i both.1
 
-    here : at (updated rs i (begun worker lease)) i ≡ begun worker lease (at rs i)
-    here = at-updated rs i (begun worker lease) both.0
+    here : at (updated rs i (piece_begun worker lease)) i ≡ piece_begun worker lease (at rs i)
+    here = at-updated rs i (piece_begun worker lease) both.0
 
     left : all_ended rs ≡ false
     left = one-alive rs i (claimable-alive rs i both.1)
 
-    left-now : all_ended (updated rs i (begun worker lease)) ≡ false
-    left-now = one-alive (updated rs i (begun worker lease)) i (ap (λ (r : Region). r.ended) here ∙ claimable-alive rs i both.1)
+    left-now : all_ended (updated rs i (piece_begun worker lease)) ≡ false
+    left-now = one-alive (updated rs i (piece_begun worker lease)) i (ap (λ (r : Region). r.ended) here ∙ claimable-alive rs i both.1)
 
-    counts : out_in (updated rs i (begun worker lease)) ≡ out_in rs + 1
+    counts : out_in (updated rs i (piece_begun worker lease)) ≡ out_in rs + 1
     counts =
         let none : one (runs (at rs i)) ≡ 0 = ap (λ (o : Option Run). one (is_some o)) idle in
-        let w = count-updated runs (begun worker lease) rs i both.0 in
+        let w = count-updated runs (piece_begun worker lease) rs i both.0 in
         omega (arith, w, none)
 
 pub claimed-gives : (old : Live) (pick worker : ℕ) (p : Option Taken) (new : Live) → Claimed old pick worker p new → Gives old p new
@@ -209,22 +209,22 @@ claimable-few rs =
 
 -- ---- a settle
 
-work-settled-other : (taken : Bool) (g i : ℕ) (rs : List Region) (k : ℕ) → k ≢ i → work_in (at (settled taken g i rs) k) ≡ work_in (at rs k)
-work-settled-other taken g i rs k other = ap work_in (at-updated-other (moved_on taken g i rs) i k stopped other) ∙ pick (others-moved taken g i rs k other)
+work-settled-other : (taken : Bool) (g i : ℕ) (rs : List Region) (k : ℕ) → k ≢ i → work_in (at (regions_settled taken g i rs) k) ≡ work_in (at rs k)
+work-settled-other taken g i rs k other = ap work_in (at-updated-other (moved_on taken g i rs) i k region_stopped other) ∙ pick (others-moved taken g i rs k other)
   where
     pick : Alike (at (moved_on taken g i rs) k) (at rs k) ⊎ ((at (moved_on taken g i rs) k).running ≡ None) → work_in (at (moved_on taken g i rs) k) ≡ work_in (at rs k)
     pick (inl (kids, a)) = work-same (at (moved_on taken g i rs) k) (at rs k) (ap (λ (r : Region). r.running) a) (ap (λ (r : Region). r.rest) a)
     pick (inr none) =
         work-none (at (moved_on taken g i rs) k) none ∙ sym (work-none (at rs k) (sym (moved-running taken g i rs k) ∙ none))
 
-work-settled : (taken : Bool) (g i : ℕ) (rs : List Region) → work_in (at (settled taken g i rs) i) ≡ None
-work-settled taken g i rs = by (at (settled taken g i rs) i).running refl
+work-settled : (taken : Bool) (g i : ℕ) (rs : List Region) → work_in (at (regions_settled taken g i rs) i) ≡ None
+work-settled taken g i rs = by (at (regions_settled taken g i rs) i).running refl
   where
-    by : (o : Option Run) → (at (settled taken g i rs) i).running ≡ o → work_in (at (settled taken g i rs) i) ≡ None
-    by None e = work-none (at (settled taken g i rs) i) e
+    by : (o : Option Run) → (at (regions_settled taken g i rs) i).running ≡ o → work_in (at (regions_settled taken g i rs) i) ≡ None
+    by None e = work-none (at (regions_settled taken g i rs) i) e
     by (Some run) e = absurd ((still-out taken g i rs i run e).0 refl)
 
-pub settles-returns : (old : Live) (d : Came) (n : ℕ) (new : Live) → Settles old d n new → Returns old d.task (brought d) new
+pub settles-returns : (old : Live) (d : Came) (n : ℕ) (new : Live) → Settles old d n new → Returns old d.task (work_brought d) new
 settles-returns old d n new s = record {
   was = out-work old d s.out;
   free = ap (λ (rs : List Region). work_in (at rs i)) regions ∙ work-settled (taken_by d.answer) old.counts.units i old.regions;
@@ -236,14 +236,14 @@ settles-returns old d n new s = record {
     i : ℕ
     i = d.task
 
-    regions : new.regions ≡ settled (taken_by d.answer) old.counts.units i old.regions
+    regions : new.regions ≡ regions_settled (taken_by d.answer) old.counts.units i old.regions
     regions = ap (λ (j : Live). j.regions) s.now
 
     counts : out_in new.regions + 1 ≡ out_in old.regions
     counts =
-        let same = length_permutation (loans_out old.regions) (loan_of s.out.0.0 d.lent ∷ loans_out (settled (taken_by d.answer) old.counts.units i old.regions))
+        let same = length_permutation (loans_out old.regions) (loan_of s.out.0.0 d.lent ∷ loans_out (regions_settled (taken_by d.answer) old.counts.units i old.regions))
         (loans-settled (taken_by d.answer) old.counts.units i old.regions (run_of s.out.0.0 d) (runs-within old.regions i (run_of s.out.0.0 d) s.out.0.1) s.out.0.1) in
-        omega (arith, same, ap out_in regions, out-loans old.regions, out-loans (settled (taken_by d.answer) old.counts.units i old.regions))
+        omega (arith, same, ap out_in regions, out-loans old.regions, out-loans (regions_settled (taken_by d.answer) old.counts.units i old.regions))
 
 pub settles-pays : (old : Live) (d : Came) (n : ℕ) (new : Live) → Settles old d n new → Pays old d n new
 settles-pays old d n new s = record {
@@ -258,30 +258,30 @@ settles-pays old d n new s = record {
     working-now : new.failing ≡ false
     working-now = ap (λ (j : Live). j.failing) s.now ∙ (state-working old s.working).0
 
-    after : (b : Bool) → all_ended new.regions ≡ b → (state_of new ≡ Working) ⊎ (state_of new ≡ Ended)
+    after : (b : Bool) → all_ended new.regions ≡ b → (live_state new ≡ Working) ⊎ (live_state new ≡ Ended)
     after false e = inl (working-is new working-now e)
     after true e = inr (rw (working-now, e))
 
 -- a job that goes well works while a piece of it is out
-pub works : (j : Live) (d : Came) → IsWell j → IsOut j.regions d → j.failing ≡ false → state_of j ≡ Working
+pub works : (j : Live) (d : Came) → IsWell j → IsOut j.regions d → j.failing ≡ false → live_state j ≡ Working
 works j d w out going =
     working-is j going (one-alive j.regions d.task ((w.course going).runs d.task (run_of out.0.0 d) out.0.1).alive)
 
 -- ---- a piece comes back without results
 
-pub state-by-out : (old : Live) (d : Came) → IsOut old.regions d → old.failing ≡ true → state_of old ≡ Failing
+pub state-by-out : (old : Live) (d : Came) → IsOut old.regions d → old.failing ≡ true → live_state old ≡ Failing
 state-by-out old d out e = rw (e, any-at old.regions d.task (run_of out.0.0 d) out.0.1)
 
 pub fails-breaks : (old : Live) (d : Came) (new : Live) → FailsBy old d new → Breaks old d new
 fails-breaks old d new f = subst (λ (n : Live). Breaks old d n) (sym f.now) (record {
   returns = record {
     was = out-work old d f.out;
-    free = ap work_in (at-updated rs i stopped within);
-    others = λ k other. ap work_in (at-updated-other rs i k stopped other);
+    free = ap work_in (at-updated rs i region_stopped within);
+    others = λ k other. ap work_in (at-updated-other rs i k region_stopped other);
     out = counts;
     same = record { program = refl; before = refl };
   };
-  state = failed-state (updated rs i stopped);
+  state = failed-state (updated rs i region_stopped);
   going = f.going;
   units = refl;
 })
@@ -298,20 +298,20 @@ fails-breaks old d new f = subst (λ (n : Live). Breaks old d n) (sym f.now) (re
     within : i < length rs
     within = runs-within rs i run f.out.0.1
 
-    counts : out_in (updated rs i stopped) + 1 ≡ out_in rs
+    counts : out_in (updated rs i region_stopped) + 1 ≡ out_in rs
     counts =
         let some : one (runs (at rs i)) ≡ 1 = ap (λ (o : Option Run). one (is_some o)) f.out.0.1 in
-        let w = count-updated runs stopped rs i within in
+        let w = count-updated runs region_stopped rs i within in
         omega (arith, w, some)
 
 -- how a job stands that a piece comes back to
-pub stands-by : (old : Live) (d : Came) → IsWell old → IsOut old.regions d → ((state_of old ≡ Working) × (out_of old ≤ weight_of old)) ⊎ (state_of old ≡ Failing)
+pub stands-by : (old : Live) (d : Came) → IsWell old → IsOut old.regions d → ((live_state old ≡ Working) × (out_of old ≤ settles_left old)) ⊎ (live_state old ≡ Failing)
 stands-by old d w out = elim (cases_Bool old.failing) [
   | inl e ↦ inr (state-by-out old d out e)
   | inr e ↦ inl (works old d w out e, out-light old.regions (λ k x is. ((w.course e).runs k x is).alive))
 ]
 
-pub aborted-aborts : (old new : Live) → new ≡ aborted old → Aborts old new
+pub aborted-aborts : (old new : Live) → new ≡ job_aborted old → Aborts old new
 aborted-aborts old new is = subst (λ (n : Live). Aborts old n) (sym is) (record {
   state = failed-state old.regions;
   works = λ k. refl;

@@ -1,6 +1,6 @@
 -- What a piece holds is a right of its touches, and what is true of each touch is true of each use of the list.
 use Rattle.std.proofs.Common.{◌≡◌, ◌<◌, ℕ, zero, suc, ◌+◌, ◌%◌, Bool, true, false, List, [], ◌∷◌, ◌++◌, map, refl, sym, ap, subst, ◌∙◌, ◌⊎◌, inl, inr, ⊎_elim, arith, Option, Some, None, if◌then◌else◌, fold, Contains}
-use Rattle.ot_job.proofs.Common.{range_with_len, same_Some, none-some, E, Literal, CellAt, Apply, PickFrom, Set, Fold, If, Body, End, Next, cell_at, cells_named, Cell, Operation, Section, Mode, Reads, Writes, Folds, Use, use_as, touches, Declared, folds_to, same_cell, same_fold, EachRead, EachTouch, IsRight, same_is, assign_touches, test_touches, held, held_as, noted, with_mode, stronger, mode_held, reads-append, cases_Bool}
+use Rattle.ot_job.proofs.Common.{range_with_len, same_Some, none-some, E, Literal, CellAt, Apply, PickFrom, Set, Fold, If, Body, End, Next, cell_at, cells_named, Cell, Operation, Section, Mode, Reads, Writes, Folds, Use, use_as, touches, Declared, folds_to, same_cell, same_fold, EachRead, EachTouch, IsRight, same_is, assign_touches, test_touches, held_mode, held_as, mode_noted, with_mode, stronger, mode_held, reads-append, cases_Bool}
 use Rattle.std.proofs.Math.Nat.{mod-eq_of_lt}
 use Rattle.ot_job.proofs.FoldLemmas.{same-op}
 
@@ -72,10 +72,10 @@ module _ (own : Declared) (c : Cell) (alike : (p q : Operation) → folds_to own
   later : (us : List Use) (v : Use) (m : Mode) → HeldBy us m → HeldBy (v ∷ us) m
   later us v m h = (h.0, inr h.1, h.2, h.3)
 
-  held-by : (us : List Use) (o : Option Mode) (m : Mode) → IsOwnIf o → fold (noted own c) o us ≡ Some m → (o ≡ Some m) ⊎ HeldBy us m
+  held-by : (us : List Use) (o : Option Mode) (m : Mode) → IsOwnIf o → fold (mode_noted own c) o us ≡ Some m → (o ≡ Some m) ⊎ HeldBy us m
   held-by [] o m ours h = inl h
   held-by (u ∷ us) o m ours h =
-      ⊎_elim (λ e. here (same_cell u.cell c) refl o ours e) (λ k. inr (later us u m k)) (held-by us (noted own c o u) m (still (same_cell u.cell c) refl o ours) h)
+      ⊎_elim (λ e. here (same_cell u.cell c) refl o ours e) (λ k. inr (later us u m k)) (held-by us (mode_noted own c o u) m (still (same_cell u.cell c) refl o ours) h)
     where
       still : (b : Bool) → same_cell u.cell c ≡ b → (o : Option Mode) → IsOwnIf o → IsOwnIf (if same_cell u.cell c then Some (with_mode o (mode_held own u)) else o)
       still true same o ours = rw same (own-mixed o (mode_held own u) ours (own-held u (same_is u.cell c same)))
@@ -99,7 +99,7 @@ module _ (own : Declared) (c : Cell) (alike : (p q : Operation) → folds_to own
     | inr a ↦ subst (λ n. IsRight own Touched (use_as n c)) (rw a at e) (inr (p, t, a))
   ]
 
-  pub held-right : (us : List Use) (m : Mode) → held own us c ≡ Some m → IsRight own (λ u. Among u us) (use_as m c)
+  pub held-right : (us : List Use) (m : Mode) → held_mode own us c ≡ Some m → IsRight own (λ u. Among u us) (use_as m c)
   held-right us m h = ⊎_elim (λ e. absurd (none-some m e)) found (held-by us None m tt h)
     where
       found : HeldBy us m → IsRight own (λ u. Among u us) (use_as m c)

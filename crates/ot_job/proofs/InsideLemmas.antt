@@ -1,6 +1,6 @@
 -- A job's fields as its invariant sees them, and what a claim and a settle find of them and make of them.
 use Rattle.std.proofs.Common.{◌≡◌, ℕ, ◌+◌, ◌<◌, ◌≤◌, ◌∙◌, refl, ap, ap₂, sym, subst, arith, List, ◌∷◌, Bor, Bool, true, false, true≢false, length, ◌↔◌, IsTrue, if◌then◌else◌, Option, Some, IfSome, option_map, get_or, IsPermutation}
-use Rattle.ot_job.proofs.Common.{size, expanded_of, Cell, Operation, Use, tasks_in-≤-size, all_back, Keeping, Owned, loan_of, leading_len, Region, group_next, tasks_next, weight_of, IsBack, claimable_of, is_claimable, picked, live_of, Live, at, IsRoomFor, Opens, CreatesInOrder, Settles, settled, units_of, claimable_in, Came, IsOut, taken_by, worker_in, IsWell, IsOnCourse, MaySettle, Inside}
+use Rattle.ot_job.proofs.Common.{size, expanded_of, Cell, Operation, Use, tasks_in-≤-size, all_back, Keeping, Owned, loan_of, leading_len, Region, group_next, tasks_next, weight_of, IsBack, claimable_of, is_claimable, picked_at, live_of, Live, at, IsRoomFor, Opens, CreatesInOrder, Settles, regions_settled, units_of, claimable_in, Came, IsOut, taken_by, worker_in, IsWell, IsOnCourse, MaySettle, Inside}
 use Rattle.ot_owner.specs.Keeping.{IsOpenable}
 use Rattle.ot_job_task.specs.Regions.{is_control}
 use Rattle.ot_job.specs.Calls.{MayEnd, MayTakeBack}
@@ -15,13 +15,13 @@ use Rattle.ot_job.proofs.WellLemmas.{settle-may}
 -- the task that is picked: the job doesn't fail, and it is among the claimable tasks
 pub record IsPicked (s : Inside) (pick i : ℕ) : Type 0 where
   pub working : s.failing ≡ false
-  pub is : picked (claimable_of s.tasks) pick ≡ Some i
+  pub is : picked_at (claimable_of s.tasks) pick ≡ Some i
   pub known : i < length s.tasks
   pub can : is_claimable s.tasks i ≡ true
 
-pub picked-here : (s : Inside) (l : Live) (pick i : ℕ) (told : Option ℕ) → live_of s ≡ l → told ≡ picked (claimable_in l) pick → told ≡ Some i → IsPicked s pick i
+pub picked-here : (s : Inside) (l : Live) (pick i : ℕ) (told : Option ℕ) → live_of s ≡ l → told ≡ picked_at (claimable_in l) pick → told ≡ Some i → IsPicked s pick i
 picked-here s l pick i told view is some =
-    let found = picked-in s.failing s.tasks pick i (ap (λ (x : Live). picked (claimable_in x) pick) view ∙ sym is ∙ some) in
+    let found = picked-in s.failing s.tasks pick i (ap (λ (x : Live). picked_at (claimable_in x) pick) view ∙ sym is ∙ some) in
     let both = picked-claimable s.tasks pick i found.1 in
     record { working = found.0; is = found.1; known = both.0; can = both.1 }
 
@@ -98,12 +98,12 @@ module _ (s : Inside) (w : IsWell (live_of s)) (working : s.failing ≡ false) (
 
   -- what a settle has made of the cells, of what is out and open, and of the tasks
   module _ (cells : List (List ℕ)) (owned : Owned) (room : Option (Operation × List Use)) (names : IsRoomFor (group_next r.rest) room) (b : IsBack s.owners.owned s.cells d out.0.0 room s.counts.units owned cells)
-      (ordered : CreatesInOrder r) (regions : List Region) (tasks units : ℕ) (regions-are : regions ≡ settled (taken_by d.answer) s.counts.units d.task s.tasks) (tasks-are : tasks ≡ tasks_next r.rest)
+      (ordered : CreatesInOrder r) (regions : List Region) (tasks units : ℕ) (regions-are : regions ≡ regions_settled (taken_by d.answer) s.counts.units d.task s.tasks) (tasks-are : tasks ≡ tasks_next r.rest)
       (units-are : units_of d.assigns r.rest ≡ units) where
     groups-now : Opens (group_next r.rest) s.counts.units (all_back out.0.0 d.lent s.owners.owned.groups) owned.groups
     groups-now = opens (group_next r.rest) room s.counts.units (all_back out.0.0 d.lent s.owners.owned.groups) owned.groups names b.groups
 
-    well-now : IsWell (after s cells owned (settled (taken_by d.answer) s.counts.units d.task s.tasks) (tasks_next r.rest) (units_of d.assigns r.rest))
+    well-now : IsWell (after s cells owned (regions_settled (taken_by d.answer) s.counts.units d.task s.tasks) (tasks_next r.rest) (units_of d.assigns r.rest))
     well-now = settle-well (live_of s) w working d out b.run.made b.run.told cells owned b.worth b.lengths b.ended groups-now ordered
 
     few : (s.counts.tasks + tasks ≤ 20000) × (s.counts.units + units ≤ 20000)
@@ -112,10 +112,10 @@ module _ (s : Inside) (w : IsWell (live_of s)) (working : s.failing ≡ false) (
         let small : size (expanded_of s.spec.checked.program).body ≤ 20000 = omega (arith, s.spec.checked.program.few, s.spec.checked.program.statements_are) in
         (omega (arith, counts.0, tasks-are, small, tasks_in-≤-size (expanded_of s.spec.checked.program).body), omega (arith, counts.1, units-are, small))
 
-    now-is : after s cells owned regions tasks units ≡ after s cells owned (settled (taken_by d.answer) s.counts.units d.task s.tasks) (tasks_next r.rest) (units_of d.assigns r.rest)
+    now-is : after s cells owned regions tasks units ≡ after s cells owned (regions_settled (taken_by d.answer) s.counts.units d.task s.tasks) (tasks_next r.rest) (units_of d.assigns r.rest)
     now-is =
         ap (λ (l : List Region). after s cells owned l tasks units) regions-are
-        ∙ ap₂ (after s cells owned (settled (taken_by d.answer) s.counts.units d.task s.tasks)) tasks-are (sym units-are)
+        ∙ ap₂ (after s cells owned (regions_settled (taken_by d.answer) s.counts.units d.task s.tasks)) tasks-are (sym units-are)
 
     worker : worker_in r ≡ out.0.0
     worker = worker-is r out.0.0 (ap (option_map (λ run. run.worker)) out.0.1)

@@ -1,6 +1,6 @@
 -- What is left of a job stays the same at each step, whatever the order of the steps.
 use Rattle.std.proofs.Common.{◌≡◌, ◌≢◌, ℕ, suc, ◌+◌, ◌<◌, List, [], ◌∷◌, ◌++◌, length, Bool, true, false, cond, refl, sym, ◌∙◌, ap, subst, inl, inr, ⊎_elim, ◌⊎◌, arith, true≢false, ◌==◌}
-use Rattle.ot_job.proofs.Common.{cases_eq, cases_Bool, nat_tests, E, S, Set, Fold, If, Task, Wait, Group, Body, End, Next, append, val, cell_of, State, bump, either, serial, Reads, Use, serial-append, use_as, EachTouch, Agree, touch-weaker, left}
+use Rattle.ot_job.proofs.Common.{cases_eq, cases_Bool, nat_tests, E, S, Set, Fold, If, Task, Wait, Group, Body, End, Next, append, val, cell_of, State, bump, either, serial, Reads, Use, serial-append, use_as, EachTouch, Agree, touch-weaker, left_of_job}
 use Rattle.ot_model.proofs.SerialLemmas.{serial-bump, either-ap}
 use Rattle.ot_check.specs.Offences.{EachTouchOne, AreApart}
 use Rattle.ot_check.proofs.Cited.{read-behind, apart}
@@ -103,7 +103,7 @@ module _ (par : ℕ → ℕ) (todo todo' : ℕ → Body) (i : ℕ) (effect : Sta
         let before = Each-at _ i js h.0 here in
         ap (λ b. run_all todo' js (serial b (effect t))) (others j before.0) ∙ ap (run_all todo' js) (passes j t before.1) ∙ ahead js (serial (todo j) t) (knows j t before.1 k) h.1 here
 
-    pub left-step : (parents : List ℕ) (t : State) → Knows t → Descends par → AreParents par 1 parents → In i (order parents) → left todo' parents (effect t) ≡ left todo parents t
+    pub left-step : (parents : List ℕ) (t : State) → Knows t → Descends par → AreParents par 1 parents → In i (order parents) → left_of_job todo' parents (effect t) ≡ left_of_job todo parents t
     left-step parents t k down ps here = left-order todo' parents (effect t) ∙ ahead (order parents) t k (order-ordered par down parents ps) here ∙ sym (left-order todo parents t)
 
 -- ---- the steps
@@ -112,7 +112,7 @@ module _ (par : ℕ → ℕ) (may : ℕ → Uses) (todo todo' : ℕ → Body) (e
     (i : ℕ) (others : (j : ℕ) → j ≢ i → todo' j ≡ todo j) (parents : List ℕ) (ps : AreParents par 1 parents) (here : In i (order parents)) where
   -- a piece of sets and folds, in front of all that stands before it
   pub left-piece : (piece rest : Body) (t : State) → todo i ≡ append piece rest → todo' i ≡ rest → MayRun par may ended begun i piece
-      → left todo' parents (serial piece t) ≡ left todo parents t
+      → left_of_job todo' parents (serial piece t) ≡ left_of_job todo parents t
   left-piece piece rest t was is run =
       left-step par todo todo' i (serial piece) (λ t. Unit {0})
       (λ j t b. apart piece (todo j) t (clear par may todo ended begun s i piece run j b))
@@ -121,13 +121,13 @@ module _ (par : ℕ → ℕ) (may : ℕ → Uses) (todo todo' : ℕ → Body) (e
       others parents t tt s.down ps here
 
   -- a wait, or the entry into a group: it counts, and what it leaves is run as before
-  pub left-counts : (t : State) → ((t : State) → serial (todo' i) (bump 0 1 t) ≡ serial (todo i) t) → left todo' parents (bump 0 1 t) ≡ left todo parents t
+  pub left-counts : (t : State) → ((t : State) → serial (todo' i) (bump 0 1 t) ≡ serial (todo i) t) → left_of_job todo' parents (bump 0 1 t) ≡ left_of_job todo parents t
   left-counts t same =
       left-step par todo todo' i (bump 0 1) (λ t. Unit {0}) (λ j t b. serial-bump (todo j) 0 1 t) (λ j t b k. tt) (λ t k. same t) others parents t tt s.down ps here
 
   -- an `if`: its condition has the value here that it has in its place
   pub left-if : (e : E) (a b rest : Body) (t : State) → todo i ≡ Next (If e a b) rest → todo' i ≡ append (either (val (cell_of t.cells) e) a b) rest
-      → MayRun par may ended begun i (Next (If e End End) End) → left todo' parents (bump 0 1 t) ≡ left todo parents t
+      → MayRun par may ended begun i (Next (If e End End) End) → left_of_job todo' parents (bump 0 1 t) ≡ left_of_job todo parents t
   left-if e a b rest t was is run =
       left-step par todo todo' i (bump 0 1) (λ u. val (cell_of t.cells) e ≡ val (cell_of u.cells) e) (λ j u h. serial-bump (todo j) 0 1 u)
       (λ j u h k. k ∙ read-behind u (todo j) e (clear par may todo ended begun s i (Next (If e End End) End) run j h).0.0)
@@ -191,7 +191,7 @@ module _ (par : ℕ → ℕ) (todo todo' : ℕ → Body) (i n : ℕ) (d : List U
 
     -- a task: it counts, and its body stands right before what its parent has left
     pub left-task : (parents : List ℕ) (t : State) → n ≡ 1 + length parents → Descends par → AreParents par 1 parents → Each (λ y. y < n) (order parents) → In i (order parents)
-        → left todo' (parents ++ i ∷ []) (bump 1 1 t) ≡ left todo parents t
+        → left_of_job todo' (parents ++ i ∷ []) (bump 1 1 t) ≡ left_of_job todo parents t
     left-task parents t count down ps small here =
         left-order todo' (parents ++ i ∷ []) (bump 1 1 t)
         ∙ ap (λ os. run_all todo' os (bump 1 1 t)) (order-more i parents ∙ ap (λ m. insert_before i m (order parents)) (sym count))

@@ -1,6 +1,6 @@
 -- What is left of a job stays the same when a task makes a step, out of order.
 use Rattle.std.proofs.Common.{◌≡◌, ◌≢◌, ℕ, zero, suc, ◌+◌, ◌<◌, true, false, List, [], ◌∷◌, ◌++◌, map, length, refl, sym, ap, subst, ◌∙◌, ◌⊎◌, inl, inr, arith, Option, Some, if◌then◌else◌, ◌==◌, Bool, ⊎_elim}
-use Rattle.ot_job.proofs.Common.{cases_eq, nat_tests, map-append, E, S, If, Task, Wait, Group, Body, End, Next, append, val, cell_of, updated, length-updated, updated-updated, State, bump, either, serial, Use, Cell, Operation, serial-append, left, Open, todo, Region, with_rest, inside, with_child, new_region, at, parent_of, todo_at, ended_at, parents, left_of, may_at, IsBegun, IsSound, length-map}
+use Rattle.ot_job.proofs.Common.{cases_eq, nat_tests, map-append, E, S, If, Task, Wait, Group, Body, End, Next, append, val, cell_of, updated, length-updated, updated-updated, State, bump, either, serial, Use, Cell, Operation, serial-append, left_of_job, Open, todo, Region, with_rest, inside, with_child, new_region, at, parent_of, todo_at, ended_at, parents, left_of, may_at, IsRootOrReady, IsSoundRegions, length-map}
 use Rattle.ot_model.proofs.CellsLemmas.{map-updated}
 use Rattle.ot_model.proofs.TreeLemmas as tree
 use Rattle.ot_job.proofs.Order.{order, order_from, insert_before, Each, AreParents, Descends, Each-weaker, small-insert}
@@ -96,7 +96,7 @@ todo-changed rs i f h = ap (λ (r : Region). todo r.rest r.groups) (at-updated r
 todo-others : (rs : List Region) (i : ℕ) (f : Region → Region) (j : ℕ) → j ≢ i → todo_at (updated rs i f) j ≡ todo_at rs j
 todo-others rs i f j h = ap (λ (r : Region). todo r.rest r.groups) (at-updated-other rs i j f h)
 
-module _ (rs : List Region) (s : IsSound rs) (i : ℕ) (h : i < length rs) where
+module _ (rs : List Region) (s : IsSoundRegions rs) (i : ℕ) (h : i < length rs) where
   pub here : In i (order (parents rs))
   here = from rs h (are_parents rs s.down)
     where
@@ -111,15 +111,15 @@ module _ (rs : List Region) (s : IsSound rs) (i : ℕ) (h : i < length rs) where
   pub family_of : AreParents (parent_of rs) 1 (parents rs)
   family_of = are_parents rs s.down
 
-  left-parents : (f : Region → Region) → ((r : Region) → (f r).parent ≡ r.parent) → (t : State) → left_of (updated rs i f) t ≡ left (todo_at (updated rs i f)) (parents rs) t
-  left-parents f same t = ap (λ ps. left (todo_at (updated rs i f)) ps t) (parents-updated rs i f same)
+  left-parents : (f : Region → Region) → ((r : Region) → (f r).parent ≡ r.parent) → (t : State) → left_of (updated rs i f) t ≡ left_of_job (todo_at (updated rs i f)) (parents rs) t
+  left-parents f same t = ap (λ ps. left_of_job (todo_at (updated rs i f)) ps t) (parents-updated rs i f same)
 
   -- a piece of sets and folds
-  pub kept-piece : (piece rest : Body) (t : State) → (at rs i).rest ≡ append piece rest → MayRun (parent_of rs) (may_at rs) (ended_at rs) (IsBegun rs) i piece
+  pub kept-piece : (piece rest : Body) (t : State) → (at rs i).rest ≡ append piece rest → MayRun (parent_of rs) (may_at rs) (ended_at rs) (IsRootOrReady rs) i piece
       → left_of (updated rs i (with_rest rest)) (serial piece t) ≡ left_of rs t
   kept-piece piece rest t was run =
       left-parents (with_rest rest) (λ r. refl) (serial piece t)
-      ∙ left-piece (parent_of rs) (may_at rs) (todo_at rs) (todo_at (updated rs i (with_rest rest))) (ended_at rs) (IsBegun rs) (sound rs s) i
+      ∙ left-piece (parent_of rs) (may_at rs) (todo_at rs) (todo_at (updated rs i (with_rest rest))) (ended_at rs) (IsRootOrReady rs) (sound rs s) i
       (todo-others rs i (with_rest rest)) (parents rs) family_of here piece (todo rest (at rs i).groups) t
       (ap (λ b. todo b (at rs i).groups) was ∙ todo-append piece rest (at rs i).groups) (todo-changed rs i (with_rest rest) h) run
 
@@ -129,7 +129,7 @@ module _ (rs : List Region) (s : IsSound rs) (i : ℕ) (h : i < length rs) where
       → left_of (updated rs i f) (bump 0 1 t) ≡ left_of rs t
   counted f same t is =
       left-parents f same (bump 0 1 t)
-      ∙ left-counts (parent_of rs) (may_at rs) (todo_at rs) (todo_at (updated rs i f)) (ended_at rs) (IsBegun rs) (sound rs s) i (todo-others rs i f) (parents rs) family_of here t
+      ∙ left-counts (parent_of rs) (may_at rs) (todo_at rs) (todo_at (updated rs i f)) (ended_at rs) (IsRootOrReady rs) (sound rs s) i (todo-others rs i f) (parents rs) family_of here t
       (λ u. ap (λ b. serial b (bump 0 1 u)) (todo-changed rs i f h) ∙ is u)
 
   -- a wait
@@ -147,12 +147,12 @@ module _ (rs : List Region) (s : IsSound rs) (i : ℕ) (h : i < length rs) where
       ∙ sym (ap (λ c. serial c u) (ap (λ c. todo c (at rs i).groups) was ∙ todo-next (Group op cs b) rest (at rs i).groups)))
 
   -- an `if`, taken by the value that its condition has in the cells now
-  pub kept-if : (e : E) (a b rest : Body) (t : State) → (at rs i).rest ≡ Next (If e a b) rest → MayRun (parent_of rs) (may_at rs) (ended_at rs) (IsBegun rs) i (Next (If e End End) End)
+  pub kept-if : (e : E) (a b rest : Body) (t : State) → (at rs i).rest ≡ Next (If e a b) rest → MayRun (parent_of rs) (may_at rs) (ended_at rs) (IsRootOrReady rs) i (Next (If e End End) End)
       → left_of (updated rs i (with_rest (append (either (val (cell_of t.cells) e) a b) rest))) (bump 0 1 t) ≡ left_of rs t
   kept-if e a b rest t was run =
       let taken = either (val (cell_of t.cells) e) a b in
       left-parents (with_rest (append taken rest)) (λ r. refl) (bump 0 1 t)
-      ∙ left-if (parent_of rs) (may_at rs) (todo_at rs) (todo_at (updated rs i (with_rest (append taken rest)))) (ended_at rs) (IsBegun rs) (sound rs s) i
+      ∙ left-if (parent_of rs) (may_at rs) (todo_at rs) (todo_at (updated rs i (with_rest (append taken rest)))) (ended_at rs) (IsRootOrReady rs) (sound rs s) i
       (todo-others rs i (with_rest (append taken rest))) (parents rs) family_of here e a b (todo rest (at rs i).groups) t
       (ap (λ c. todo c (at rs i).groups) was ∙ todo-next (If e a b) rest (at rs i).groups)
       (todo-changed rs i (with_rest (append taken rest)) h ∙ todo-append taken rest (at rs i).groups) run
@@ -166,7 +166,7 @@ length-parents : (rs : List Region) → 0 < length rs → length rs ≡ 1 + leng
 length-parents [] h = absurd (omega (arith, h))
 length-parents (r ∷ rs) h = omega (arith, length-map rs (λ (x : Region). x.parent))
 
-module _ (rs : List Region) (s : IsSound rs) (i : ℕ) (h : i < length rs) where
+module _ (rs : List Region) (s : IsSoundRegions rs) (i : ℕ) (h : i < length rs) where
   -- a task is created
   pub kept-task : (d : List Use) (b rest : Body) (child : ℕ) (t : State) → (at rs i).rest ≡ Next (Task d b) rest
       → left_of (updated (updated rs i (with_rest rest)) i (with_child d) ++ new_region i child d b ∷ []) (bump 1 1 t) ≡ left_of rs t
@@ -180,7 +180,7 @@ module _ (rs : List Region) (s : IsSound rs) (i : ℕ) (h : i < length rs) where
       let now : ℕ → Body = todo_at (two ++ new ∷ []) in
       let some : 0 < length rs = omega (arith, h) in
       ap (λ (l : List Region). left_of (l ++ new ∷ []) (bump 1 1 t)) same
-      ∙ ap (λ ps. left now ps (bump 1 1 t)) (parents-more two new (omega (arith, long, some)) ∙ ap (λ ps. ps ++ i ∷ []) (parents-updated rs i f (λ r. refl)))
+      ∙ ap (λ ps. left_of_job now ps (bump 1 1 t)) (parents-more two new (omega (arith, long, some)) ∙ ap (λ ps. ps ++ i ∷ []) (parents-updated rs i f (λ r. refl)))
       ∙ left-task (parent_of rs) (todo_at rs) now i (length rs) d b (todo rest (at rs i).groups)
       (ap (λ c. todo c (at rs i).groups) was ∙ todo-next (Task d b) rest (at rs i).groups)
       (ap (λ (r : Region). todo r.rest r.groups) (at-more two new i (omega (arith, long, h)) ∙ at-updated rs i f h))

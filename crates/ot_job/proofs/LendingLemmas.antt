@@ -1,6 +1,6 @@
 -- What a job asks of its owners, where a piece is lent and where it comes back.
 use Rattle.std.proofs.Common.{◌≡◌, ℕ, suc, Bool, true, false, cond, List, [], ◌∷◌, map, refl, sym, ap, subst, ◌∙◌, inl, inr, arith, true≢false, Option, Some, None, IsSome, IsTrue, option_map, unwrap_or, Any, All, find, zero, ◌<◌, ◌++◌, get_or, length, Contains, IfSome, replicate}
-use Rattle.ot_job.proofs.Common.{All-nil, All-cons, All-head, All-tail, same_Some, option_map_id, false_from_ne_true, cell_of, conflicts, is_fold, joined, first_of, Conflict, Cell, Mode, Reads, Writes, Folds, Use, lent_from, copy_of, is_at, use_of, uses_of, AreJoined, LentCell, found-lent, All-contains, All-permutation, IsPermutation-sym, lengths, updated, End, AreInOrder, mode_in, Operation, has_cell, Lease, lease_of, Loan, Owned, IsFreeFor, Summed, IsSummed, IsSummedBy, begun_for, AreWorthSame, worths, worths-same, AreHeld, begun, group_passed, Open, Region, Run, is_claimable, Live, at, AreOpen, IsRoomFor, Opens, left_open, IsWell, IsOnCourse, loans_out, none-some}
+use Rattle.ot_job.proofs.Common.{All-nil, All-cons, All-head, All-tail, same_Some, option_map_id, false_from_ne_true, cell_of, conflicts, is_fold, joined, first_of, Conflict, Cell, Mode, Reads, Writes, Folds, Use, lent_from, copy_of, is_at, use_of, uses_of, AreJoined, LentCell, found-lent, All-contains, All-permutation, IsPermutation-sym, lengths, updated, End, AreInOrder, mode_in, Operation, has_cell, Lease, lease_of, Loan, Owned, IsFreeFor, Summed, IsSummed, IsSummedBy, begun_for, AreWorthSame, worths, worths-same, AreHeld, piece_begun, group_passed, Open, Region, Run, is_claimable, Live, at, AreOpen, IsRoomFor, Opens, left_open, IsWell, IsOnCourse, loans_out, none-some}
 use Rattle.std.proofs.lemmas.List.{append-nil}
 use Rattle.ot_job.proofs.CopiesLemmas.{HasInputs, found}
 use Rattle.ot_job.proofs.HoldsLemmas.{Among, among as is-among, contained}
@@ -136,10 +136,10 @@ module _ (j : Live) (w : IsWell j) (o : IsOnCourse j) (i : ℕ) (h : i < length 
 
   module _ (worker : ℕ) (lease : Lease) (are : AreHeld (at j.regions i) lease.uses) (ordered : AreInOrder lease.uses) where
     abbrev now : List Region
-    now = updated j.regions i (begun worker lease)
+    now = updated j.regions i (piece_begun worker lease)
 
     open-now : AreOpen now (left_open (group_passed (at j.regions i)) gs)
-    open-now = open-passed j.regions gs i (begun worker lease) h (λ r. refl) o.copies
+    open-now = open-passed j.regions gs i (piece_begun worker lease) h (λ r. refl) o.copies
 
     -- copies are kept of the cells that it folds, by its operations
     pub claim-folds : All (λ u. (op : Operation) → u.mode ≡ Folds op → IsSummedBy (left_open (group_passed (at j.regions i)) gs) op u.cell) lease.uses

@@ -1,6 +1,6 @@
 -- What pieces hold of the cells of open groups, and which group may be opened.
 use Rattle.std.proofs.Common.{◌≡◌, ◌≢◌, ℕ, ◌<◌, true, false, List, [], ◌∷◌, length, refl, sym, ap, subst, ◌∙◌, inl, inr, true≢false, ◌&&◌, Some, slice_get, ◌↔◌, ◌||◌, Contains, Option, None, not, IfSome, ⊎_elim}
-use Rattle.ot_job.proofs.Common.{cases_lt, false_from_ne_true, NamedIn, conflicts, mode_in, same_fold, Conflict, Cell, Operation, Mode, Reads, Writes, Folds, Use, Sibling, is_in, use_as, Declared, allows, folds_to, has_cell, Agree, ReductionMisuse, or_true, or_right, and_true, opened-none, Open, Region, Run, test_of, piece_touches, IsRight, opened, at, parent_of, todo_at, ended_at, may_at, grouped_in, NamedOnce, IsBegun, IsPlaced, IsSound, RunsWell, whole, wholes, list_any, cases_eq, All-permutation, IsPermutation-sym, IsPermutation-trans, Group, Body, Next, append, lengths, updated, clashes, opened_by_any, IsFine, group_free, groups_inside, Loan, IsNamed, permutation_rest, group_next, stopped, with_rest, children_of, unawaited, Live, IsRoomFor, MayOpen, IsWell, IsOnCourse, assigns_out, loan_in, loans_out, and_right}
+use Rattle.ot_job.proofs.Common.{cases_lt, false_from_ne_true, NamedIn, conflicts, mode_in, same_fold, Conflict, Cell, Operation, Mode, Reads, Writes, Folds, Use, Sibling, is_in, use_as, Declared, allows, folds_to, has_cell, Agree, ReductionMisuse, or_true, or_right, and_true, opened-none, Open, Region, Run, test_of, piece_touches, IsRight, openings_of, at, parent_of, todo_at, ended_at, may_at, grouped_in, NamedOnce, IsRootOrReady, IsSoundRegion, IsSoundRegions, RunsWell, whole_region, wholes, list_any, cases_eq, All-permutation, IsPermutation-sym, IsPermutation-trans, Group, Body, Next, append, lengths, updated, clashes, opened_by_any, IsFine, group_free, groups_inside, Loan, IsNamed, permutation_rest, group_next, region_stopped, with_rest, children_of, unfinished_unawaited, Live, IsRoomFor, MayOpen, IsWell, IsOnCourse, assigns_out, loan_in, loans_out, and_right}
 use Rattle.ot_check.proofs.Cited.{conflicts_writes}
 use Rattle.ot_job.proofs.FoldLemmas.{same-op, agrees-before, both-fold, writes-all, only-declares, only-unwritten}
 use Rattle.ot_job.proofs.HoldsLemmas.{Among}
@@ -20,12 +20,12 @@ use Rattle.ot_job.proofs.WholeLemmas.{loans-each}
 -- A task that has begun and not ended may hold a cell in this mode: its body may use it so, and what an unfinished child of
 -- it may do with it doesn't conflict.
 pub record MayHold (rs : List Region) (i : ℕ) (u : Use) : Type 0 where
-  pub begun : IsBegun (wholes rs) i
+  pub begun : IsRootOrReady (wholes rs) i
   pub alive : (at rs i).ended ≡ false
   pub may : allows (at rs i).own u ≡ true
   pub alone : (k : ℕ) (s : Sibling) → slice_get (at rs i).children k ≡ Some s → s.finished ≡ false → (m : Mode) → allows (Some s.uses) (use_as m u.cell) ≡ true → conflicts u.mode m ≡ false
 
-module _ (rs : List Region) (s : IsSound (wholes rs)) where
+module _ (rs : List Region) (s : IsSoundRegions (wholes rs)) where
   abbrev ws : List Region
   ws = wholes rs
 
@@ -37,7 +37,7 @@ module _ (rs : List Region) (s : IsSound (wholes rs)) where
   -- two tasks may hold no cell in modes that conflict
   pub holders-agree : (i j : ℕ) (u v : Use) → MayHold rs i u → MayHold rs j v → i ≢ j → Agree u v
   holders-agree i j u v one two other =
-      rights_apart (parent_of ws) (may_at ws) (todo_at ws) (ended_at ws) (IsBegun ws) (sound ws s) (MayHold rs) (λ k. (w : Use) × MayHold rs k w)
+      rights_apart (parent_of ws) (may_at ws) (todo_at ws) (ended_at ws) (IsRootOrReady ws) (sound ws s) (MayHold rs) (λ k. (w : Use) × MayHold rs k w)
       (λ k r. r.1.begun)
       (λ k r. ap (λ (x : Region). x.ended) (at-whole rs k) ∙ r.1.alive)
       (λ k r w h. ap (λ (x : Region). allows x.own w) (at-whole rs k) ∙ h.may)
@@ -54,22 +54,22 @@ module _ (rs : List Region) (s : IsSound (wholes rs)) where
         | inr past ↦ absurd (true≢false (sym (ap (λ (x : Region). x.ended) (at-past ws c past)) ∙ unended))
       ]
 
-  pub placed : (i : ℕ) → IsPlaced (whole (at rs i))
-  placed i = subst IsPlaced (at-whole rs i) (s.placed i)
+  pub placed : (i : ℕ) → IsSoundRegion (whole_region (at rs i))
+  placed i = subst IsSoundRegion (at-whole rs i) (s.placed i)
 
   -- who has an open group has begun, and has not ended
-  pub opened-begun : (i : ℕ) (op : Operation) (c : Cell) → opened (at rs i).groups op c ≡ true → IsBegun ws i
+  pub opened-begun : (i : ℕ) (op : Operation) (c : Cell) → openings_of (at rs i).groups op c ≡ true → IsRootOrReady ws i
   opened-begun i op c is = by (at rs i).groups refl
     where
-      by : (gs : List Open) → (at rs i).groups ≡ gs → IsBegun ws i
-      by [] none = absurd (true≢false (sym is ∙ ap (λ (gs : List Open). opened gs op c) none))
+      by : (gs : List Open) → (at rs i).groups ≡ gs → IsRootOrReady ws i
+      by [] none = absurd (true≢false (sym is ∙ ap (λ (gs : List Open). openings_of gs op c) none))
       by (o ∷ os) some = s.entered i o os (ap (λ (r : Region). r.groups) (at-whole rs i) ∙ some)
 
-  pub opened-alive : (i : ℕ) (op : Operation) (c : Cell) → opened (at rs i).groups op c ≡ true → (at rs i).ended ≡ false
-  opened-alive i op c is = false_from_ne_true (at rs i).ended (λ over. true≢false (sym is ∙ ap (λ (gs : List Open). opened gs op c) ((placed i).shut over)))
+  pub opened-alive : (i : ℕ) (op : Operation) (c : Cell) → openings_of (at rs i).groups op c ≡ true → (at rs i).ended ≡ false
+  opened-alive i op c is = false_from_ne_true (at rs i).ended (λ over. true≢false (sym is ∙ ap (λ (gs : List Open). openings_of gs op c) ((placed i).shut over)))
 
   -- the cells of an open group are its task's to fold by the group's operation
-  pub group-holds : (i : ℕ) (op : Operation) (c : Cell) → opened (at rs i).groups op c ≡ true → MayHold rs i (use_as (Folds op) c)
+  pub group-holds : (i : ℕ) (op : Operation) (c : Cell) → openings_of (at rs i).groups op c ≡ true → MayHold rs i (use_as (Folds op) c)
   group-holds i op c is = record {
     begun = opened-begun i op c is;
     alive = opened-alive i op c is;
@@ -81,9 +81,9 @@ module _ (rs : List Region) (s : IsSound (wholes rs)) where
   module _ (i : ℕ) (o : Open) (os : List Open) (innermost : (at rs i).groups ≡ o ∷ os)
       (none_in : (k : ℕ) (x : Sibling) → slice_get (at rs i).children k ≡ Some x → x.finished ≡ false → is_in o.group x ≡ false)
       (c : Cell) (named : has_cell o.cells c ≡ true) where
-    is_open : opened (at rs i).groups o.op c ≡ true
-    is_open = ap (λ (gs : List Open). opened gs o.op c) innermost
-        ∙ or_right (opened os o.op c) (same_fold o.op o.op && has_cell o.cells c) (and_true (same_fold o.op o.op) (has_cell o.cells c) (same-op o.op) named)
+    is_open : openings_of (at rs i).groups o.op c ≡ true
+    is_open = ap (λ (gs : List Open). openings_of gs o.op c) innermost
+        ∙ or_right (openings_of os o.op c) (same_fold o.op o.op && has_cell o.cells c) (and_true (same_fold o.op o.op) (has_cell o.cells c) (same-op o.op) named)
 
     may_write : allows (at rs i).own (use_as Writes c) ≡ true
     may_write = (placed i).writes o.op c is_open
@@ -109,11 +109,11 @@ module _ (rs : List Region) (s : IsSound (wholes rs)) where
       alone = λ k x there unfinished m may. absurd (child_free k x there unfinished m may);
     }
 
-module _ (rs : List Region) (s : IsSound (wholes rs)) (lens : List ℕ) (named : (i : ℕ) → NamedIn lens (todo_at (wholes rs) i))
+module _ (rs : List Region) (s : IsSoundRegions (wholes rs)) (lens : List ℕ) (named : (i : ℕ) → NamedIn lens (todo_at (wholes rs) i))
     (well : (i : ℕ) (run : Run) → (at rs i).running ≡ Some run → RunsWell (at rs i) run)
-    (started : (i : ℕ) (run : Run) → (at rs i).running ≡ Some run → IsBegun (wholes rs) i)
+    (started : (i : ℕ) (run : Run) → (at rs i).running ≡ Some run → IsRootOrReady (wholes rs) i)
   where
-    pub named-at : (i : ℕ) → NamedIn lens (whole (at rs i)).rest
+    pub named-at : (i : ℕ) → NamedIn lens (whole_region (at rs i)).rest
     named-at i = subst (λ (r : Region). NamedIn lens r.rest) (at-whole rs i) (named-front lens (at (wholes rs) i).rest (at (wholes rs) i).groups (named i))
 
     -- what a piece holds
@@ -136,21 +136,21 @@ module _ (rs : List Region) (s : IsSound (wholes rs)) (lens : List ℕ) (named :
     piece-folds i run op c out held = (right-of lens (at rs i) (placed rs s i) (named-at i) run out (well i run out) (use_as (Folds op) c) held).1
 
     -- of a cell that another task's open group names, a piece holds the fold by the group's operation alone
-    pub folds_alone : (i j : ℕ) (op : Operation) (c : Cell) (m : Mode) (run : Run) → (at rs i).running ≡ Some run → mode_in run.lease.uses c ≡ Some m → opened (at rs j).groups op c ≡ true → i ≢ j → m ≡ Folds op
+    pub folds_alone : (i j : ℕ) (op : Operation) (c : Cell) (m : Mode) (run : Run) → (at rs i).running ≡ Some run → mode_in run.lease.uses c ≡ Some m → openings_of (at rs j).groups op c ≡ true → i ≢ j → m ≡ Folds op
     folds_alone i j op c m run out held is other =
         agrees-before op m (holders-agree rs s i j (use_as m c) (use_as (Folds op) c) (piece-holds i run c m out held) (group-holds rs s j op c is) other refl)
 
     -- of a cell that an open group of its own task names, a piece holds nothing
-    pub own_untouched : (i : ℕ) (op : Operation) (c : Cell) (m : Mode) (run : Run) → (at rs i).running ≡ Some run → mode_in run.lease.uses c ≡ Some m → opened (at rs i).groups op c ≡ false
+    pub own_untouched : (i : ℕ) (op : Operation) (c : Cell) (m : Mode) (run : Run) → (at rs i).running ≡ Some run → mode_in run.lease.uses c ≡ Some m → openings_of (at rs i).groups op c ≡ false
     own_untouched i op c m run out held = by m (right-of lens (at rs i) (placed rs s i) (named-at i) run out (well i run out) (use_as m c) held)
       where
         Touched : Use → Type 0
         Touched u = Among u (piece_touches run.assigns (test_of (at rs i).rest))
 
-        touch : (u : Use) → Touched u → opened (at rs i).groups op u.cell ≡ false
-        touch u t = opened-none (opened (at rs i).groups) op u.cell (safe lens (at rs i) (placed rs s i) (named-at i) run out (well i run out) u t ReductionMisuse)
+        touch : (u : Use) → Touched u → openings_of (at rs i).groups op u.cell ≡ false
+        touch u t = opened-none (openings_of (at rs i).groups) op u.cell (safe lens (at rs i) (placed rs s i) (named-at i) run out (well i run out) u t ReductionMisuse)
 
-        by : (m : Mode) → IsRight (at rs i).own Touched (use_as m c) → opened (at rs i).groups op c ≡ false
+        by : (m : Mode) → IsRight (at rs i).own Touched (use_as m c) → openings_of (at rs i).groups op c ≡ false
         by Reads right = touch (use_as Reads c) right
         by Writes (inl right) = touch (use_as Writes c) right
         by Writes (inr right) = touch (use_as (Folds right.0) c) right.1
@@ -173,14 +173,14 @@ module _ (j : Live) (o : IsOnCourse j) (i : ℕ) (run : Run) (out : (at j.region
   r = at j.regions i
 
   -- its region once the piece is behind the place
-  behind : IsPlaced (with_rest r.rest (whole r))
+  behind : IsSoundRegion (with_rest r.rest (whole_region r))
   behind =
-      placed-piece (whole r) (placed j.regions o.sound i) run.assigns r.rest (ap (λ x. append (assigns_out x) r.rest) out)
+      placed-piece (whole_region r) (placed j.regions o.sound i) run.assigns r.rest (ap (λ x. append (assigns_out x) r.rest) out)
       (o.runs i run out).assigns (o.runs i run out).alive
 
-  clean : (list_any (λ c. not (allows r.own (use_as Writes c)) || opened_by_any (opened r.groups) c) cs ≡ false) × (list_any (λ c. unawaited None r.children (λ s. clashes (use_as Writes c) s.uses)) cs ≡ false)
-  clean = clean-group r op cs b (o.runs i run out).calm (subst (λ x. IsFine r.own (opened r.groups) (children_of (unawaited r.waiting r.children)) x) next
-      (fine-innermost r.own (unawaited r.waiting r.children) r.rest r.groups behind.fine)).0
+  clean : (list_any (λ c. not (allows r.own (use_as Writes c)) || opened_by_any (openings_of r.groups) c) cs ≡ false) × (list_any (λ c. unfinished_unawaited None r.children (λ s. clashes (use_as Writes c) s.uses)) cs ≡ false)
+  clean = clean-group r op cs b (o.runs i run out).calm (subst (λ x. IsFine r.own (openings_of r.groups) (children_of (unfinished_unawaited r.waiting r.children)) x) next
+      (fine-innermost r.own (unfinished_unawaited r.waiting r.children) r.rest r.groups behind.fine)).0
 
   module _ (c : Cell) (named : has_cell cs c ≡ true) where
     -- the task may write each of its cells
@@ -188,15 +188,15 @@ module _ (j : Live) (o : IsOnCourse j) (i : ℕ) (run : Run) (out : (at j.region
     entry-holds = record {
       begun = o.begun i run out;
       alive = (o.runs i run out).alive;
-      may = groups_inside r.own (opened r.groups) op cs behind.writes clean.0 op c (or_right (opened r.groups op c) (same_fold op op && has_cell cs c) (and_true (same_fold op op) (has_cell cs c) (same-op op) named));
+      may = groups_inside r.own (openings_of r.groups) op cs behind.writes clean.0 op c (or_right (openings_of r.groups op c) (same_fold op op && has_cell cs c) (and_true (same_fold op op) (has_cell cs c) (same-op op) named));
       alone = λ k s there unfinished m may. absurd (true≢false (sym may ∙ unused cs r.children k s c clean.1 there unfinished named m));
     }
 
     -- no open group names one
-    entry-unopened : (k : ℕ) (by : Operation) → opened (at j.regions k).groups by c ≡ false
+    entry-unopened : (k : ℕ) (by : Operation) → openings_of (at j.regions k).groups by c ≡ false
     entry-unopened k by = elim (cases_eq i k) [
-      | inl same ↦ ap (λ n. opened (at j.regions n).groups by c) (sym same) ∙ opened-none (opened r.groups) by c (group_free r.own (opened r.groups) cs c clean.0 named)
-      | inr other ↦ false_from_ne_true (opened (at j.regions k).groups by c) (λ is.
+      | inl same ↦ ap (λ n. openings_of (at j.regions n).groups by c) (sym same) ∙ opened-none (openings_of r.groups) by c (group_free r.own (openings_of r.groups) cs c clean.0 named)
+      | inr other ↦ false_from_ne_true (openings_of (at j.regions k).groups by c) (λ is.
           conflicts_writes (Folds by) (holders-agree j.regions o.sound i k (use_as Writes c) (use_as (Folds by) c) entry-holds (group-holds j.regions o.sound k by c is) other refl))
     ]
 
@@ -215,15 +215,15 @@ module _ (j : Live) (w : IsWell j) (o : IsOnCourse j) (i : ℕ) (run : Run) (out
     new = kept-new j.regions j.owned.groups j.counts.units o.older o.copies;
     unnamed = λ c named. not_summed j.regions j.owned.groups c o.copies (entry-unopened j o i run out op cs b rest next c (has-cell cs c ((names c).0 named)));
     unused = λ left ended.
-        All-permutation (λ (l : Loan). ¬ Conflict l.lease.uses uses) (loans_out (updated j.regions i stopped)) left
-        (permutation_rest (loan_in run) (loans_out (updated j.regions i stopped)) left
-        (IsPermutation-trans (loan_in run ∷ loans_out (updated j.regions i stopped)) (loans_out j.regions) (loan_in run ∷ left)
-        (IsPermutation-sym (loans_out j.regions) (loan_in run ∷ loans_out (updated j.regions i stopped)) (one-less j.regions i run out))
+        All-permutation (λ (l : Loan). ¬ Conflict l.lease.uses uses) (loans_out (updated j.regions i region_stopped)) left
+        (permutation_rest (loan_in run) (loans_out (updated j.regions i region_stopped)) left
+        (IsPermutation-trans (loan_in run ∷ loans_out (updated j.regions i region_stopped)) (loans_out j.regions) (loan_in run ∷ left)
+        (IsPermutation-sym (loans_out j.regions) (loan_in run ∷ loans_out (updated j.regions i region_stopped)) (one-less j.regions i run out))
         (IsPermutation-trans (loans_out j.regions) j.owned.out (loan_in run ∷ left) (IsPermutation-sym j.owned.out (loans_out j.regions) w.rights) ended)))
-        (loans-each (λ (l : Loan). ¬ Conflict l.lease.uses uses) (updated j.regions i stopped) free);
+        (loans-each (λ (l : Loan). ¬ Conflict l.lease.uses uses) (updated j.regions i region_stopped) free);
   }
     where
-      free : (k : ℕ) (x : Run) → (at (updated j.regions i stopped) k).running ≡ Some x → ¬ Conflict x.lease.uses uses
+      free : (k : ℕ) (x : Run) → (at (updated j.regions i region_stopped) k).running ≡ Some x → ¬ Conflict x.lease.uses uses
       free k x is =
           let (other, same) = stopped-others j.regions i k x is in
           let also = sym (ap (λ (r : Region). r.running) same) ∙ is in

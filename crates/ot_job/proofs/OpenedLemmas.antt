@@ -1,6 +1,6 @@
 -- What pieces hold beside open groups, at each call of a job: what a fold goes into, and which cells are free where a group begins and ends.
 use Rattle.std.proofs.Common.{◌≡◌, ℕ, zero, suc, ◌+◌, ◌<◌, Bool, true, false, ◌&&◌, List, [], ◌∷◌, length, refl, sym, ap, ◌∙◌, inl, inr, arith, true≢false, eq-zero-or-pos, Option, Some, None, All, Contains, IsSome, ⊎_elim}
-use Rattle.ot_job.proofs.Common.{cases_eq, All-weaker, End, NamedIn, AreInShape, cell_of, lengths, updated, AreInOrder, is_fold, mode_in, same_fold, Cell, Operation, Mode, Folds, Declared, folds_to, has_cell, or_true, and_left, and_right, Lease, Open, Region, Run, leading, awake, begun, AreHeld, opened, is_claimable, at, parent_of, todo_at, IsBegun, IsKin, IsSound, RunsWell, wholes, Live, IsOnCourse, none-some, false_from_ne_true}
+use Rattle.ot_job.proofs.Common.{cases_eq, All-weaker, End, NamedIn, AreInShape, cell_of, lengths, updated, AreInOrder, is_fold, mode_in, same_fold, Cell, Operation, Mode, Folds, Declared, folds_to, has_cell, or_true, and_left, and_right, Lease, Open, Region, Run, leading, awake, piece_begun, AreHeld, openings_of, is_claimable, at, parent_of, todo_at, IsRootOrReady, IsKin, IsSoundRegions, RunsWell, wholes, Live, IsOnCourse, none-some, false_from_ne_true}
 use Rattle.ot_model.specs.Names.{IsInShape}
 use Rattle.ot_model.proofs.NamesLemmas.{found_from_in}
 use Rattle.ot_job.proofs.KeptLemmas.{at-updated}
@@ -13,10 +13,10 @@ use Rattle.ot_job.proofs.WellLemmas.{claimable-idle, claimable-goes, sound-now, 
 
 -- ---- groups by their cells
 
-pub group-in : (gs : List Open) (op : Operation) (c : Cell) → opened gs op c ≡ true → (g : Open) × Contains gs g × (g.op ≡ op) × (has_cell g.cells c ≡ true)
+pub group-in : (gs : List Open) (op : Operation) (c : Cell) → openings_of gs op c ≡ true → (g : Open) × Contains gs g × (g.op ≡ op) × (has_cell g.cells c ≡ true)
 group-in [] op c is = absurd (true≢false (sym is))
 group-in (g ∷ gs) op c is =
-    elim (or_true (opened gs op c) (same_fold g.op op && has_cell g.cells c) is) [
+    elim (or_true (openings_of gs op c) (same_fold g.op op && has_cell g.cells c) is) [
       | inl outer ↦ (let h = group-in gs op c outer in (h.0, (suc h.1.0, omega (arith, h.1.1), h.1.2), h.2, h.3))
       | inr here ↦ (g, (0, omega arith, refl), one-op g.op op (and_left (same_fold g.op op) (has_cell g.cells c) here), and_right (same_fold g.op op) (has_cell g.cells c) here)
     ]
@@ -27,7 +27,7 @@ IsFolded rs op c = (k : ℕ) × (g : Open) × Contains (at rs k).groups g × (g.
 
 -- ---- who folds has a group
 
-module _ (rs : List Region) (s : IsSound (wholes rs)) where
+module _ (rs : List Region) (s : IsSoundRegions (wholes rs)) where
   abbrev ws : List Region
   ws = wholes rs
 
@@ -40,7 +40,7 @@ module _ (rs : List Region) (s : IsSound (wholes rs)) where
   folds-up i pos op c alive folds above =
       elim ((s.placed p).grouped (at ws i).child kin.entry kin.there unfinished op c declared) [
         | inl own ↦ (let mine = ap (λ (r : Region). folds_to r.own op c) (sym (at-whole rs p)) ∙ own in above (going mine (at rs p).ended refl) mine)
-        | inr summed ↦ (let g = group-in (at rs p).groups op c (ap (λ (r : Region). opened r.groups op c) (sym (at-whole rs p)) ∙ grouped-opened (at ws p).groups kin.entry op c summed) in (p, g.0, g.1, g.2, g.3))
+        | inr summed ↦ (let g = group-in (at rs p).groups op c (ap (λ (r : Region). openings_of r.groups op c) (sym (at-whole rs p)) ∙ grouped-opened (at ws p).groups kin.entry op c summed) in (p, g.0, g.1, g.2, g.3))
       ]
     where
       p : ℕ
@@ -75,14 +75,14 @@ module _ (rs : List Region) (s : IsSound (wholes rs)) where
 
 -- ---- pieces that are out
 
-module _ (rs : List Region) (s : IsSound (wholes rs)) (lens : List ℕ) (named : (i : ℕ) → NamedIn lens (todo_at (wholes rs) i))
+module _ (rs : List Region) (s : IsSoundRegions (wholes rs)) (lens : List ℕ) (named : (i : ℕ) → NamedIn lens (todo_at (wholes rs) i))
     (well : (i : ℕ) (run : Run) → (at rs i).running ≡ Some run → RunsWell (at rs i) run)
-    (started : (i : ℕ) (run : Run) → (at rs i).running ≡ Some run → IsBegun (wholes rs) i)
+    (started : (i : ℕ) (run : Run) → (at rs i).running ≡ Some run → IsRootOrReady (wholes rs) i)
   where
     -- a cell that a piece reads or writes is in no open group
-    pub held-unopened : (i : ℕ) (run : Run) → (at rs i).running ≡ Some run → (c : Cell) (m : Mode) → mode_in run.lease.uses c ≡ Some m → is_fold m ≡ false → (k : ℕ) (op : Operation) → opened (at rs k).groups op c ≡ false
-    held-unopened i run out c m held other k op = false_from_ne_true (opened (at rs k).groups op c) (λ e. elim (cases_eq i k) [
-      | inl same ↦ true≢false (sym e ∙ ap (λ n. opened (at rs n).groups op c) (sym same) ∙ own_untouched rs s lens named well started i op c m run out held)
+    pub held-unopened : (i : ℕ) (run : Run) → (at rs i).running ≡ Some run → (c : Cell) (m : Mode) → mode_in run.lease.uses c ≡ Some m → is_fold m ≡ false → (k : ℕ) (op : Operation) → openings_of (at rs k).groups op c ≡ false
+    held-unopened i run out c m held other k op = false_from_ne_true (openings_of (at rs k).groups op c) (λ e. elim (cases_eq i k) [
+      | inl same ↦ true≢false (sym e ∙ ap (λ n. openings_of (at rs n).groups op c) (sym same) ∙ own_untouched rs s lens named well started i op c m run out held)
       | inr differs ↦ true≢false (sym (ap is_fold (folds_alone rs s lens named well started i k op c m run out held e differs)) ∙ other)
     ])
 
@@ -108,15 +108,15 @@ module _ (rs : List Region) (s : IsSound (wholes rs)) (lens : List ℕ) (named :
 module _ (j : Live) (o : IsOnCourse j) (i : ℕ) (h : i < length j.regions) (can : is_claimable j.regions i ≡ true) (worker : ℕ) (lease : Lease)
     (are : AreHeld (at j.regions i) lease.uses) (ordered : AreInOrder lease.uses) where
   abbrev now : List Region
-  now = updated j.regions i (begun worker lease)
+  now = updated j.regions i (piece_begun worker lease)
 
   abbrev run : Run
   run = record { worker = worker; assigns = leading (awake (at j.regions i)).rest; lease = lease }
 
   out : (at now i).running ≡ Some run
-  out = ap (λ (r : Region). r.running) (at-updated j.regions i (begun worker lease) h)
+  out = ap (λ (r : Region). r.running) (at-updated j.regions i (piece_begun worker lease) h)
 
-  pub claim-unopened : (c : Cell) (m : Mode) → mode_in lease.uses c ≡ Some m → is_fold m ≡ false → (k : ℕ) (op : Operation) → opened (at now k).groups op c ≡ false
+  pub claim-unopened : (c : Cell) (m : Mode) → mode_in lease.uses c ≡ Some m → is_fold m ≡ false → (k : ℕ) (op : Operation) → openings_of (at now k).groups op c ≡ false
   claim-unopened =
       held-unopened now (sound-now (lengths j.cells) j.regions o.sound o.named o.runs o.begun i h can worker lease are ordered) (lengths j.cells)
       (named-now (lengths j.cells) j.regions o.sound o.named o.runs o.begun i h can worker lease are ordered)

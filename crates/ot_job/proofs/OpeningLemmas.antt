@@ -1,6 +1,6 @@
 -- Copies are kept of the cells of the open groups and of no others, as tasks go on and as pieces come back.
 use Rattle.std.proofs.Common.{◌≡◌, ◌≢◌, ◌<◌, ◌↔◌, ◌⊎◌, ℕ, zero, suc, Bool, true, false, ◌&&◌, true≢false, List, [], ◌∷◌, ◌++◌, map, length, get_or, refl, sym, ap, subst, ◌∙◌, inl, inr, arith, Contains, IsPermutation, Option, Some, None, IsSome, is_some, option_map, unwrap_or, replicate, nat_lt, if◌then◌else◌, ◌==◌, All, Any, ⊎_elim}
-use Rattle.ot_job.proofs.Common.{cases_eq, eqb-true, eq-eqb, option_map_id, map-append, get_or_default, All-contains, Any-from_list_any, list_any-from_Any, Contains-permutation, IsPermutation-refl, IsPermutation-sym, IsPermutation-trans, IsPermutation-cons, same_Some, none-some, cell_of, same_cell, updated, Group, Body, End, Next, Conflict, is_fold, mode_in, first_of, same_fold, Cell, Operation, Mode, Reads, Folds, Use, has_cell, true_or, or_right, and_true, all_back, copy_of, lent_from, Loan, Owned, IsFreeFor, Summed, IsNamed, IsSummed, IsSummedBy, begun_for, worth_over, worth, worths, LentCell, permutation_rest, cell_of-worths, passed, awake, group_passed, Open, Region, group_next, with_child, new_region, stepped, stepped_from, children_at, over, stopped, opened, at, parent_of, AreOpen, IsFor, left_open, Opens, told_parent, moved_on, settled}
+use Rattle.ot_job.proofs.Common.{cases_eq, eqb-true, eq-eqb, option_map_id, map-append, get_or_default, All-contains, Any-from_list_any, list_any-from_Any, Contains-permutation, IsPermutation-refl, IsPermutation-sym, IsPermutation-trans, IsPermutation-cons, same_Some, none-some, cell_of, same_cell, updated, Group, Body, End, Next, Conflict, is_fold, mode_in, first_of, same_fold, Cell, Operation, Mode, Reads, Folds, Use, has_cell, true_or, or_right, and_true, all_back, copy_of, lent_from, Loan, Owned, IsFreeFor, Summed, IsNamed, IsSummed, IsSummedBy, begun_for, worth_over, worth, worths, LentCell, permutation_rest, cell_of-worths, groups_passed, awake, group_passed, Open, Region, group_next, with_child, new_region, region_stepped, stepped_from, children_at, over, region_stopped, openings_of, at, parent_of, AreOpen, IsFor, left_open, Opens, told_parent, moved_on, regions_settled}
 use Rattle.ot_depend.proofs.ReadyLemmas.{same_answer}
 use Rattle.std.proofs.lemmas.List.Elements.{Contains-get_or, Contains-append_left, Contains-append_right, Contains-append_cases, Contains-push_cases}
 use Rattle.std.proofs.lemmas.List.Quantifiers.{position-Some}
@@ -12,7 +12,7 @@ use Rattle.ot_owner.proofs.NameLemmas.{place-named as place-of}
 use Rattle.ot_owner.proofs.ShareLemmas.{bares, bares-back, bares-begun}
 use Rattle.ot_owner.proofs.OpenLemmas.{same_worth, worth-unsummed as over-unsummed}
 use Rattle.ot_job_task.specs.Pieces.{ended_group}
-use Rattle.ot_job.specs.Opened.{numbers_in}
+use Rattle.ot_job.specs.Opened.{open_group_numbers}
 use Rattle.ot_job.proofs.FoldLemmas.{same-op}
 use Rattle.ot_job.proofs.KeptLemmas.{at-updated, at-updated-other}
 use Rattle.ot_job.proofs.StepLemmas.{tell-field}
@@ -73,14 +73,14 @@ of-cells cells c has =
     let (k, d, within, is, same) = Any-from_list_any (λ (d : Cell). same_cell d c) cells has in
     subst (Contains cells) ((cell-decides d c).0 same) (k, within, is)
 
-pub one-opened : (os : List Open) (o : Open) (c : Cell) → Contains os o → has_cell o.cells c ≡ true → opened os o.op c ≡ true
+pub one-opened : (os : List Open) (o : Open) (c : Cell) → Contains os o → has_cell o.cells c ≡ true → openings_of os o.op c ≡ true
 one-opened [] o c (k, within, is) has = absurd (omega (arith, within))
 one-opened (p ∷ os) o c there has = by (one_of p o os there) (λ outer. one-opened os o c outer has)
   where
-    by : (p ≡ o) ⊎ Contains os o → (Contains os o → opened os o.op c ≡ true) → opened (p ∷ os) o.op c ≡ true
-    by (inl is) rest = or_right (opened os o.op c) (same_fold p.op o.op && has_cell p.cells c)
+    by : (p ≡ o) ⊎ Contains os o → (Contains os o → openings_of os o.op c ≡ true) → openings_of (p ∷ os) o.op c ≡ true
+    by (inl is) rest = or_right (openings_of os o.op c) (same_fold p.op o.op && has_cell p.cells c)
         (ap (λ (q : Open). same_fold q.op o.op && has_cell q.cells c) is ∙ and_true (same_fold o.op o.op) (has_cell o.cells c) (same-op o.op) has)
-    by (inr outer) rest = true_or (opened os o.op c) (same_fold p.op o.op && has_cell p.cells c) (rest outer)
+    by (inr outer) rest = true_or (openings_of os o.op c) (same_fold p.op o.op && has_cell p.cells c) (rest outer)
 
 -- a use tells the mode of its cell, or an earlier one does
 mode-there : (uses : List Use) (u : Use) → Contains uses u → (m : Mode) × (mode_in uses u.cell ≡ Some m)
@@ -113,37 +113,37 @@ groups_of gs = map (λ g. g.group) gs
 abbrev HasOpen : List Region → ℕ → Type 0
 HasOpen rs n = (i : ℕ) × (o : Open) × Contains (at rs i).groups o × (o.group ≡ n)
 
-open-number : (rs : List Region) (n : ℕ) → Contains (numbers_in rs) n → HasOpen rs n
+open-number : (rs : List Region) (n : ℕ) → Contains (open_group_numbers rs) n → HasOpen rs n
 open-number [] n (k, within, is) = absurd (omega (arith, within))
-open-number (r ∷ rs) n there = by (Contains-append_cases (numbers_of r.groups) (numbers_in rs) n there) (λ rest. open-number rs n rest)
+open-number (r ∷ rs) n there = by (Contains-append_cases (numbers_of r.groups) (open_group_numbers rs) n there) (λ rest. open-number rs n rest)
   where
-    by : Contains (numbers_of r.groups) n ⊎ Contains (numbers_in rs) n → (Contains (numbers_in rs) n → HasOpen rs n) → HasOpen (r ∷ rs) n
+    by : Contains (numbers_of r.groups) n ⊎ Contains (open_group_numbers rs) n → (Contains (open_group_numbers rs) n → HasOpen rs n) → HasOpen (r ∷ rs) n
     by (inl own) deeper = let (o, among, same) = mapped-of (λ (o : Open). o.group) r.groups n own in (0, o, among, same)
     by (inr rest) deeper = let (i, o, among, same) = deeper rest in (suc i, o, among, same)
 
-number-open : (rs : List Region) (i : ℕ) (o : Open) → Contains (at rs i).groups o → Contains (numbers_in rs) o.group
+number-open : (rs : List Region) (i : ℕ) (o : Open) → Contains (at rs i).groups o → Contains (open_group_numbers rs) o.group
 number-open [] i o (k, within, is) = absurd (omega (arith, within))
-number-open (r ∷ rs) zero o among = Contains-append_left (numbers_of r.groups) (numbers_in rs) o.group (mapped (λ (o : Open). o.group) r.groups o among)
-number-open (r ∷ rs) (suc i) o among = Contains-append_right (numbers_of r.groups) (numbers_in rs) o.group (number-open rs i o among)
+number-open (r ∷ rs) zero o among = Contains-append_left (numbers_of r.groups) (open_group_numbers rs) o.group (mapped (λ (o : Open). o.group) r.groups o among)
+number-open (r ∷ rs) (suc i) o among = Contains-append_right (numbers_of r.groups) (open_group_numbers rs) o.group (number-open rs i o among)
 
 -- of each group that copies are kept for there is an open group, and the other way round
 open-kept : (rs : List Region) (gs : List Summed) (g : Summed) → AreOpen rs gs → Contains gs g → HasOpen rs g.group
 open-kept rs gs g are among =
-    open-number rs g.group (Contains-permutation (groups_of gs) (numbers_in rs) g.group are.numbers (mapped (λ (g : Summed). g.group) gs g among))
+    open-number rs g.group (Contains-permutation (groups_of gs) (open_group_numbers rs) g.group are.numbers (mapped (λ (g : Summed). g.group) gs g among))
 
 kept-open : (rs : List Region) (gs : List Summed) (i : ℕ) (o : Open) → AreOpen rs gs → Contains (at rs i).groups o → IsOf (λ (g : Summed). g.group) gs o.group
 kept-open rs gs i o are among =
     mapped-of (λ (g : Summed). g.group) gs o.group
-    (Contains-permutation (numbers_in rs) (groups_of gs) o.group (IsPermutation-sym (groups_of gs) (numbers_in rs) are.numbers) (number-open rs i o among))
+    (Contains-permutation (open_group_numbers rs) (groups_of gs) o.group (IsPermutation-sym (groups_of gs) (open_group_numbers rs) are.numbers) (number-open rs i o among))
 
 -- ---- which cells copies are kept of
 
 -- a group of which copies are kept is open, and names each of its cells by its operation
-kept-opened : (rs : List Region) (gs : List Summed) (g : Summed) (c : Cell) → AreOpen rs gs → Contains gs g → names c g ≡ true → (i : ℕ) × (opened (at rs i).groups g.op c ≡ true)
+kept-opened : (rs : List Region) (gs : List Summed) (g : Summed) (c : Cell) → AreOpen rs gs → Contains gs g → names c g ≡ true → (i : ℕ) × (openings_of (at rs i).groups g.op c ≡ true)
 kept-opened rs gs g c are there named =
     let (i, o, among, same) = open-kept rs gs g are there in
     let opens = one-opened (at rs i).groups o c among (sym ((are.same i o g among there (sym same)).1 c) ∙ named) in
-    (i, ap (λ p. opened (at rs i).groups p c) (are.same i o g among there (sym same)).0 ∙ opens)
+    (i, ap (λ p. openings_of (at rs i).groups p c) (are.same i o g among there (sym same)).0 ∙ opens)
 
 -- copies are kept of each cell that an open group names, by its operation
 pub open-summed : (rs : List Region) (gs : List Summed) (i : ℕ) (o : Open) (c : Cell) → AreOpen rs gs → Contains (at rs i).groups o → has_cell o.cells c ≡ true → IsSummedBy gs o.op c
@@ -153,7 +153,7 @@ open-summed rs gs i o c are among has =
     any-of (λ g. (names c g ≡ true) × (g.op ≡ o.op)) gs g there (cells c ∙ has, op)
 
 -- and of none that no open group names
-pub not_summed : (rs : List Region) (gs : List Summed) (c : Cell) → AreOpen rs gs → ((i : ℕ) (op : Operation) → opened (at rs i).groups op c ≡ false) → ¬ IsSummed gs c
+pub not_summed : (rs : List Region) (gs : List Summed) (c : Cell) → AreOpen rs gs → ((i : ℕ) (op : Operation) → openings_of (at rs i).groups op c ≡ false) → ¬ IsSummed gs c
 not_summed rs gs c are none (k, g, within, is, named) =
     let (i, opens) = kept-opened rs gs g c are (k, within, is) named in true≢false (sym opens ∙ none i g.op)
 
@@ -173,18 +173,18 @@ kept-new rs gs number below are = all-of (λ g. g.group ≢ number) gs each
 
 -- ---- where the open groups are the same
 
-no-numbers : (rs : List Region) → ((k : ℕ) → (at rs k).groups ≡ []) → numbers_in rs ≡ []
+no-numbers : (rs : List Region) → ((k : ℕ) → (at rs k).groups ≡ []) → open_group_numbers rs ≡ []
 no-numbers [] none = refl
-no-numbers (r ∷ rs) none = ap (λ os. numbers_of os ++ numbers_in rs) (none 0) ∙ no-numbers rs (λ k. none (suc k))
+no-numbers (r ∷ rs) none = ap (λ os. numbers_of os ++ open_group_numbers rs) (none 0) ∙ no-numbers rs (λ k. none (suc k))
 
-numbers-same : (rs new : List Region) → ((k : ℕ) → (at new k).groups ≡ (at rs k).groups) → numbers_in new ≡ numbers_in rs
+numbers-same : (rs new : List Region) → ((k : ℕ) → (at new k).groups ≡ (at rs k).groups) → open_group_numbers new ≡ open_group_numbers rs
 numbers-same [] new same = no-numbers new same
 numbers-same (r ∷ rs) [] same = sym (no-numbers (r ∷ rs) (λ k. sym (same k)))
 numbers-same (r ∷ rs) (n ∷ new) same =
-    ap (λ os. numbers_of os ++ numbers_in new) (same 0) ∙ ap (λ ns. numbers_of r.groups ++ ns) (numbers-same rs new (λ k. same (suc k)))
+    ap (λ os. numbers_of os ++ open_group_numbers new) (same 0) ∙ ap (λ ns. numbers_of r.groups ++ ns) (numbers-same rs new (λ k. same (suc k)))
 
 -- where no group is open that wasn't, and copies are kept for no group for which none were
-open-fewer : (rs now : List Region) (gs new : List Summed) → IsPermutation (groups_of new) (numbers_in now) → ((k : ℕ) (o : Open) → Contains (at now k).groups o → Contains (at rs k).groups o)
+open-fewer : (rs now : List Region) (gs new : List Summed) → IsPermutation (groups_of new) (open_group_numbers now) → ((k : ℕ) (o : Open) → Contains (at now k).groups o → Contains (at rs k).groups o)
     → ((g : Summed) → Contains new g → Contains gs g) → AreOpen rs gs → AreOpen now new
 open-fewer rs now gs new numbers fewer less are = record {
   numbers = numbers;
@@ -199,16 +199,16 @@ open-same rs now gs same are =
 -- ---- a group's end is passed
 
 numbers-left : (rs : List Region) (i : ℕ) (f : Region → Region) (o : Open) (os : List Open) → i < length rs → (at rs i).groups ≡ o ∷ os → (f (at rs i)).groups ≡ os
-    → IsPermutation (numbers_in rs) (o.group ∷ numbers_in (updated rs i f))
+    → IsPermutation (open_group_numbers rs) (o.group ∷ open_group_numbers (updated rs i f))
 numbers-left [] i f o os within was now = absurd (omega (arith, within))
 numbers-left (r ∷ rs) zero f o os within was now =
-    let is : numbers_in (r ∷ rs) ≡ o.group ∷ (numbers_of (f r).groups ++ numbers_in rs) = ap (λ ps. numbers_of ps ++ numbers_in rs) (was ∙ ap (λ ps. o ∷ ps) (sym now)) in
-    subst (IsPermutation (numbers_in (r ∷ rs))) is (IsPermutation-refl (numbers_in (r ∷ rs)))
+    let is : open_group_numbers (r ∷ rs) ≡ o.group ∷ (numbers_of (f r).groups ++ open_group_numbers rs) = ap (λ ps. numbers_of ps ++ open_group_numbers rs) (was ∙ ap (λ ps. o ∷ ps) (sym now)) in
+    subst (IsPermutation (open_group_numbers (r ∷ rs))) is (IsPermutation-refl (open_group_numbers (r ∷ rs)))
 numbers-left (r ∷ rs) (suc i) f o os within was now =
     let mine = numbers_of r.groups in
-    let rest = numbers_in (updated rs i f) in
-    IsPermutation-trans (numbers_in (r ∷ rs)) (mine ++ o.group ∷ rest) (o.group ∷ (mine ++ rest))
-    (IsPermutation-append_right mine (numbers_in rs) (o.group ∷ rest) (numbers-left rs i f o os (omega (arith, within)) was now)) (IsPermutation-middle mine o.group rest)
+    let rest = open_group_numbers (updated rs i f) in
+    IsPermutation-trans (open_group_numbers (r ∷ rs)) (mine ++ o.group ∷ rest) (o.group ∷ (mine ++ rest))
+    (IsPermutation-append_right mine (open_group_numbers rs) (o.group ∷ rest) (numbers-left rs i f o os (omega (arith, within)) was now)) (IsPermutation-middle mine o.group rest)
 
 one-without : (n : ℕ) (gs : List Summed) → Contains (groups_of gs) n → IsPermutation (groups_of gs) (n ∷ groups_of (without_group n gs))
 one-without n [] (k, within, is) = absurd (omega (arith, within))
@@ -243,14 +243,14 @@ open-left rs gs i f o os within was now are =
     left = groups_of (without_group o.group gs)
 
     among : Contains (groups_of gs) o.group
-    among = Contains-permutation (numbers_in rs) (groups_of gs) o.group (IsPermutation-sym (groups_of gs) (numbers_in rs) are.numbers)
+    among = Contains-permutation (open_group_numbers rs) (groups_of gs) o.group (IsPermutation-sym (groups_of gs) (open_group_numbers rs) are.numbers)
         (number-open rs i o (subst (λ ps. Contains ps o) (sym was) (here o os)))
 
-    numbers : IsPermutation left (numbers_in (updated rs i f))
-    numbers = permutation_rest o.group left (numbers_in (updated rs i f))
-        (IsPermutation-trans (o.group ∷ left) (groups_of gs) (o.group ∷ numbers_in (updated rs i f))
+    numbers : IsPermutation left (open_group_numbers (updated rs i f))
+    numbers = permutation_rest o.group left (open_group_numbers (updated rs i f))
+        (IsPermutation-trans (o.group ∷ left) (groups_of gs) (o.group ∷ open_group_numbers (updated rs i f))
         (IsPermutation-sym (groups_of gs) (o.group ∷ left) (one-without o.group gs among))
-        (IsPermutation-trans (groups_of gs) (numbers_in rs) (o.group ∷ numbers_in (updated rs i f)) are.numbers (numbers-left rs i f o os within was now)))
+        (IsPermutation-trans (groups_of gs) (open_group_numbers rs) (o.group ∷ open_group_numbers (updated rs i f)) are.numbers (numbers-left rs i f o os within was now)))
 
     fewer : (k : ℕ) (p : Open) → Contains (at (updated rs i f) k).groups p → Contains (at rs k).groups p
     fewer k p there = elim (cases_eq k i) [
@@ -264,7 +264,7 @@ pub open-passed : (rs : List Region) (gs : List Summed) (i : ℕ) (f : Region �
     → AreOpen rs gs → AreOpen (updated rs i f) (left_open (group_passed (at rs i)) gs)
 open-passed rs gs i f within goes are = by (at rs i).rest (at rs i).groups refl (goes (at rs i))
   where
-    by : (b : Body) (os : List Open) → (at rs i).groups ≡ os → (f (at rs i)).groups ≡ (passed b os).groups → AreOpen (updated rs i f) (left_open (ended_group b os) gs)
+    by : (b : Body) (os : List Open) → (at rs i).groups ≡ os → (f (at rs i)).groups ≡ (groups_passed b os).groups → AreOpen (updated rs i f) (left_open (ended_group b os) gs)
     by End [] was now = open-same rs (updated rs i f) gs (field-at (λ r. r.groups) f rs i (now ∙ sym was)) are
     by End (o ∷ os) was now = open-left rs gs i f o os within was now are
     by (Next x rest) os was now = open-same rs (updated rs i f) gs (field-at (λ r. r.groups) f rs i (now ∙ sym was)) are
@@ -281,7 +281,7 @@ groups-bares (g ∷ gs) = ap (λ ns. g.group ∷ ns) (groups-bares gs)
 -- where the groups are the same but for their rows
 pub open-alike : (rs : List Region) (gs new : List Summed) → bares gs ≡ bares new → AreOpen rs gs → AreOpen rs new
 open-alike rs gs new alike are = record {
-  numbers = subst (λ ns. IsPermutation ns (numbers_in rs)) (groups-bares gs ∙ ap groups_of alike ∙ sym (groups-bares new)) are.numbers;
+  numbers = subst (λ ns. IsPermutation ns (open_group_numbers rs)) (groups-bares gs ∙ ap groups_of alike ∙ sym (groups-bares new)) are.numbers;
   same = λ i o g among there number.
       let (before, old, is) = mapped-of bare gs (bare g) (subst (λ bs. Contains bs (bare g)) (sym alike) (mapped bare new g there)) in
       subst (IsFor o) is (are.same i o before among old (ap (λ (b : Summed). b.group) is ∙ number));
@@ -300,24 +300,24 @@ abbrev pub summed_new : ℕ → Operation → List Use → Summed
 summed_new number op uses = record { group = number; op = op; uses = uses; rows = replicate 17 None }
 
 numbers-entered : (rs : List Region) (i : ℕ) (f : Region → Region) (o : Open) → i < length rs → (f (at rs i)).groups ≡ o ∷ (at rs i).groups
-    → IsPermutation (o.group ∷ numbers_in rs) (numbers_in (updated rs i f))
+    → IsPermutation (o.group ∷ open_group_numbers rs) (open_group_numbers (updated rs i f))
 numbers-entered [] i f o within now = absurd (omega (arith, within))
 numbers-entered (r ∷ rs) zero f o within now =
-    subst (IsPermutation (o.group ∷ numbers_in (r ∷ rs))) (ap (λ ps. numbers_of ps ++ numbers_in rs) (sym now)) (IsPermutation-refl (o.group ∷ numbers_in (r ∷ rs)))
+    subst (IsPermutation (o.group ∷ open_group_numbers (r ∷ rs))) (ap (λ ps. numbers_of ps ++ open_group_numbers rs) (sym now)) (IsPermutation-refl (o.group ∷ open_group_numbers (r ∷ rs)))
 numbers-entered (r ∷ rs) (suc i) f o within now =
     let mine = numbers_of r.groups in
-    IsPermutation-trans (o.group ∷ (mine ++ numbers_in rs)) (mine ++ o.group ∷ numbers_in rs) (mine ++ numbers_in (updated rs i f))
-    (IsPermutation-sym (mine ++ o.group ∷ numbers_in rs) (o.group ∷ (mine ++ numbers_in rs)) (IsPermutation-middle mine o.group (numbers_in rs)))
-    (IsPermutation-append_right mine (o.group ∷ numbers_in rs) (numbers_in (updated rs i f)) (numbers-entered rs i f o (omega (arith, within)) now))
+    IsPermutation-trans (o.group ∷ (mine ++ open_group_numbers rs)) (mine ++ o.group ∷ open_group_numbers rs) (mine ++ open_group_numbers (updated rs i f))
+    (IsPermutation-sym (mine ++ o.group ∷ open_group_numbers rs) (o.group ∷ (mine ++ open_group_numbers rs)) (IsPermutation-middle mine o.group (open_group_numbers rs)))
+    (IsPermutation-append_right mine (o.group ∷ open_group_numbers rs) (open_group_numbers (updated rs i f)) (numbers-entered rs i f o (omega (arith, within)) now))
 
 module _ (rs : List Region) (gs : List Summed) (i : ℕ) (f : Region → Region) (o : Open) (uses : List Use) (within : i < length rs)
     (now : (f (at rs i)).groups ≡ o ∷ (at rs i).groups) (below : AreBelow rs o.group) (named : (c : Cell) → IsNamed uses c ↔ Contains o.cells c) (are : AreOpen rs gs) where
-  numbers-opened : IsPermutation (groups_of (gs ++ summed_new o.group o.op uses ∷ [])) (numbers_in (updated rs i f))
+  numbers-opened : IsPermutation (groups_of (gs ++ summed_new o.group o.op uses ∷ [])) (open_group_numbers (updated rs i f))
   numbers-opened =
-      let all = numbers_in (updated rs i f) in
+      let all = open_group_numbers (updated rs i f) in
       subst (λ ns. IsPermutation ns all) (sym (map-append (λ (g : Summed). g.group) gs (summed_new o.group o.op uses ∷ [])))
       (IsPermutation-trans (groups_of gs ++ o.group ∷ []) (o.group ∷ groups_of gs) all (IsPermutation-to_front (groups_of gs) o.group)
-      (IsPermutation-trans (o.group ∷ groups_of gs) (o.group ∷ numbers_in rs) all (IsPermutation-cons o.group (groups_of gs) (numbers_in rs) are.numbers) (numbers-entered rs i f o within now)))
+      (IsPermutation-trans (o.group ∷ groups_of gs) (o.group ∷ open_group_numbers rs) all (IsPermutation-cons o.group (groups_of gs) (open_group_numbers rs) are.numbers) (numbers-entered rs i f o within now)))
 
   open-now : (k : ℕ) (p : Open) → Contains (at (updated rs i f) k).groups p → Contains (at rs k).groups p ⊎ (o ≡ p)
   open-now k p there = pick (cases_eq k i)
@@ -357,28 +357,28 @@ module _ (rs : List Region) (gs : List Summed) (i : ℕ) (f : Region → Region)
 -- ---- a piece comes back
 
 module _ (taken : Bool) (number i : ℕ) (rs : List Region) (gs new : List Summed) (within : i < length rs) (below : AreBelow rs number) (are : AreOpen rs gs) where
-  same-stepped : (b : Body) → (at rs i).rest ≡ b → (stepped_from taken number b (at rs i)).groups ≡ (at rs i).groups → new ≡ gs → AreOpen (updated rs i (stepped taken number)) new
+  same-stepped : (b : Body) → (at rs i).rest ≡ b → (stepped_from taken number b (at rs i)).groups ≡ (at rs i).groups → new ≡ gs → AreOpen (updated rs i (region_stepped taken number)) new
   same-stepped b was same is =
-      subst (AreOpen (updated rs i (stepped taken number))) (sym is)
-      (open-same rs (updated rs i (stepped taken number)) gs (field-at (λ r. r.groups) (stepped taken number) rs i (ap (λ b. (stepped_from taken number b (at rs i)).groups) was ∙ same)) are)
+      subst (AreOpen (updated rs i (region_stepped taken number))) (sym is)
+      (open-same rs (updated rs i (region_stepped taken number)) gs (field-at (λ r. r.groups) (region_stepped taken number) rs i (ap (λ b. (stepped_from taken number b (at rs i)).groups) was ∙ same)) are)
 
-  open-stepped : (b : Body) → (at rs i).rest ≡ b → Opens (group_next b) number gs new → AreOpen (updated rs i (stepped taken number)) new
+  open-stepped : (b : Body) → (at rs i).rest ≡ b → Opens (group_next b) number gs new → AreOpen (updated rs i (region_stepped taken number)) new
   open-stepped (Next (Group op cs b) rest) was (uses, named, is) =
-      subst (AreOpen (updated rs i (stepped taken number))) (sym is)
-      (open-entered rs gs i (stepped taken number) (record { group = number; op = op; cells = cs; behind = rest }) uses within (ap (λ b. (stepped_from taken number b (at rs i)).groups) was) below named are)
+      subst (AreOpen (updated rs i (region_stepped taken number))) (sym is)
+      (open-entered rs gs i (region_stepped taken number) (record { group = number; op = op; cells = cs; behind = rest }) uses within (ap (λ b. (stepped_from taken number b (at rs i)).groups) was) below named are)
   open-stepped b was opens = same-stepped b was refl opens
 
-  groups-moved : (k : ℕ) → (at (moved_on taken number i rs) k).groups ≡ (at (updated rs i (stepped taken number)) k).groups
-  groups-moved = moved-by taken number i rs (λ l. (k : ℕ) → (at l k).groups ≡ (at (updated rs i (stepped taken number)) k).groups)
+  groups-moved : (k : ℕ) → (at (moved_on taken number i rs) k).groups ≡ (at (updated rs i (region_stepped taken number)) k).groups
+  groups-moved = moved-by taken number i rs (λ l. (k : ℕ) → (at l k).groups ≡ (at (updated rs i (region_stepped taken number)) k).groups)
       (λ was k. field-at (λ r. r.groups) over (told_parent i rs) i refl k ∙ tell-field (λ r. r.groups) (λ c r. refl) (nat_lt 0 i) (parent_of rs i) (at rs i).child rs k
-      ∙ sym (field-at (λ r. r.groups) (stepped taken number) rs i (ap (λ b. (stepped_from taken number b (at rs i)).groups) was) k))
+      ∙ sym (field-at (λ r. r.groups) (region_stepped taken number) rs i (ap (λ b. (stepped_from taken number b (at rs i)).groups) was) k))
       (λ k. refl)
       (λ l child same k. field-more (λ r. r.groups) (updated l i (with_child child.0)) (new_region i (children_at l i) child.0 child.1) refl k ∙ field-at (λ r. r.groups) (with_child child.0) l i refl k ∙ same k)
 
   -- what becomes of the open groups as a piece comes back
-  pub open-settled : Opens (group_next (at rs i).rest) number gs new → AreOpen (settled taken number i rs) new
+  pub open-settled : Opens (group_next (at rs i).rest) number gs new → AreOpen (regions_settled taken number i rs) new
   open-settled opens =
-      open-same (updated rs i (stepped taken number)) (settled taken number i rs) new (λ k. field-at (λ r. r.groups) stopped (moved_on taken number i rs) i refl k ∙ groups-moved k)
+      open-same (updated rs i (region_stepped taken number)) (regions_settled taken number i rs) new (λ k. field-at (λ r. r.groups) region_stopped (moved_on taken number i rs) i refl k ∙ groups-moved k)
       (open-stepped (at rs i).rest refl opens)
 
 -- ---- where no group is open

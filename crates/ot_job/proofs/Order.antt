@@ -1,6 +1,6 @@
 -- The tasks in their serial order.
 use Rattle.std.proofs.Common.{if◌then◌else◌, ◌≡◌, ◌≢◌, ℕ, ◌+◌, ◌<◌, ◌≤◌, List, [], ◌∷◌, Bool, true, false, cond, eqb, ◌==◌, refl, sym, ◌∙◌, ap, subst, inl, inr, ◌⊎◌, arith}
-use Rattle.ot_job.proofs.Common.{cases_eq, nat_tests, Body, State, serial, children_left, left}
+use Rattle.ot_job.proofs.Common.{cases_eq, nat_tests, Body, State, serial, children_left, left_of_job}
 
 -- k goes before q
 abbrev pub insert_before : ℕ → ℕ → List ℕ → List ℕ
@@ -40,7 +40,7 @@ run-order_from todo k [] os s = sym (whole-none todo k os s)
 run-order_from todo k (q ∷ qs) os s = run-order_from todo (k + 1) qs (insert_before q k os) s ∙ whole-insert todo k q qs os s
 
 -- what is left of the job is what is left of each task, in the serial order
-pub left-order : (todo : ℕ → Body) (parents : List ℕ) (s : State) → left todo parents s ≡ run_all todo (order parents) s
+pub left-order : (todo : ℕ → Body) (parents : List ℕ) (s : State) → left_of_job todo parents s ≡ run_all todo (order parents) s
 left-order todo parents s = sym (run-order_from todo 1 parents (0 ∷ []) s)
 
 -- ancestors, the task itself among them

@@ -1,6 +1,6 @@
 -- How what is left stays fine, step by step, where a group is entered and passed too.
 use Rattle.std.proofs.Common.{◌≡◌, ℕ, Bool, true, false, not, ◌&&◌, ◌||◌, List, [], ◌∷◌, Option, refl, sym, subst, ◌∙◌, true≢false, zero, suc, ap, inl, inr, ⊎_elim, None, Some, slice_get, if◌then◌else◌}
-use Rattle.ot_job.proofs.Common.{E, Set, Fold, If, Task, Wait, Group, Body, End, Next, append, Cell, Operation, Use, Sibling, is_in, Declared, awaits, behind_one, IsFine, true_or, or_right, and_left, and_right, and_true, Open, opened, Kids, children_of, kids_behind, IsFineAt, false_from_ne_true, list_any, S, same_fold, Mode, Writes, is_unfinished, use_as, EachTouch, EachTask, allows, clashes, has_cell, opened_by_any, same_cell, ReductionMisuse, ConflictsWithChild, or_true, or_false_left, or_false_right, group_free, groups_inside, opened-none, same_is, clash_free, IsClean, todo, AwaitsAll, unawaited, Region, with_rest, inside, LetsAll, NamedOnce, IsPlaced, grouped_in}
+use Rattle.ot_job.proofs.Common.{E, Set, Fold, If, Task, Wait, Group, Body, End, Next, append, Cell, Operation, Use, Sibling, is_in, Declared, awaits, behind_one, IsFine, true_or, or_right, and_left, and_right, and_true, Open, openings_of, Kids, children_of, kids_behind, IsFineAt, false_from_ne_true, list_any, S, same_fold, Mode, Writes, is_unfinished, use_as, EachTouch, EachTask, allows, clashes, has_cell, opened_by_any, same_cell, ReductionMisuse, ConflictsWithChild, or_true, or_false_left, or_false_right, group_free, groups_inside, opened-none, same_is, clash_free, IsClean, todo, AwaitsAll, unfinished_unawaited, Region, with_rest, inside, LetsAll, NamedOnce, IsSoundRegion, grouped_in}
 use Rattle.ot_check.specs.Discipline.{nothing_open, behind, through, AreFewer}
 use Rattle.ot_check.proofs.Cited.{any-more, fine-fewer, fine-append, through-append, is_offence-Group, conflicts_writes}
 use Rattle.ot_job.proofs.KeptLemmas.{todo-next}
@@ -22,13 +22,13 @@ behind-fewer fewer kids rest g le T k = le (λ s. through s.uses rest && (not (i
 pub at-fewer : (own : Declared) (fewer kids : Kids) (rest : Body) (os : List Open) → FewerKids fewer kids → IsFineAt own kids rest os → IsFineAt own fewer rest os
 at-fewer own fewer kids rest [] le h = fine-fewer own nothing_open (children_of fewer) (children_of kids) (λ T. le (λ s. T s.uses)) rest h
 at-fewer own fewer kids rest (o ∷ os) le h = (
-  fine-fewer own (opened (o ∷ os)) (children_of fewer) (children_of kids) (λ T. le (λ s. T s.uses)) rest h.0,
+  fine-fewer own (openings_of (o ∷ os)) (children_of fewer) (children_of kids) (λ T. le (λ s. T s.uses)) rest h.0,
   at-fewer own (kids_behind fewer rest o.group) (kids_behind kids rest o.group) o.behind os (behind-fewer fewer kids rest o.group le) h.1,
 )
 
 -- the innermost body moves on, and behind the end of its group there are fewer children
 pub at-step : (own : Declared) (before now : Kids) (rest next : Body) (os : List Open)
-    → (IsFine own (opened os) (children_of before) rest → IsFine own (opened os) (children_of now) next)
+    → (IsFine own (openings_of os) (children_of before) rest → IsFine own (openings_of os) (children_of now) next)
     → ((g : ℕ) (o : Open) (more : List Open) → os ≡ o ∷ more → FewerKids (kids_behind now next o.group) (kids_behind before rest o.group))
     → IsFineAt own before rest os → IsFineAt own now next os
 at-step own before now rest next [] moves le h = moves h
@@ -69,8 +69,8 @@ pub at-branch : (own : Declared) (kids : Kids) → Monotone kids → (taken : Bo
 at-branch own kids mono taken e a b rest os h =
     let chosen : Body = if taken then a else b in
     at-step own kids kids (Next (If e a b) rest) (append chosen rest) os
-    (λ f. fine-append own (opened os) (children_of kids) chosen rest (taken-of (IsFine own (opened os) (children_of kids)) taken a b f.1.0 f.1.1)
-    (fine-fewer own (opened os) (behind (children_of kids) chosen) (behind_one (children_of kids) (If e a b)) (λ T. taken-or (λ c. behind (children_of kids) c T) taken a b) rest f.2))
+    (λ f. fine-append own (openings_of os) (children_of kids) chosen rest (taken-of (IsFine own (openings_of os) (children_of kids)) taken a b f.1.0 f.1.1)
+    (fine-fewer own (openings_of os) (behind (children_of kids) chosen) (behind_one (children_of kids) (If e a b)) (λ T. taken-or (λ c. behind (children_of kids) c T) taken a b) rest f.2))
     (λ g o more is. behind-branch kids mono taken e a b rest o.group) h
 
 -- each child of the one is among the other, and isn't awaited by the wait
@@ -92,7 +92,7 @@ pub at-wait : (own : Declared) (before now : Kids) → Monotone before → (w : 
     → IsFineAt own before (Next (Wait w) rest) os → IsFineAt own now rest os
 at-wait own before now mono w rest os le h =
     at-step own before now (Next (Wait w) rest) rest os
-    (λ f. fine-fewer own (opened os) (children_of now) (behind_one (children_of before) (Wait w)) (λ T. le (λ s. T s.uses)) rest f.2)
+    (λ f. fine-fewer own (openings_of os) (children_of now) (behind_one (children_of before) (Wait w)) (λ T. le (λ s. T s.uses)) rest f.2)
     (λ g o more is. behind-wait before now mono w rest o.group le) h
 
 -- a child is created in each group that is open: behind their ends it is none that may be unawaited
@@ -110,7 +110,7 @@ pub at-task : (own : Declared) (kids : Kids) (d : List Use) (b rest : Body) (os 
     → IsFineAt own kids (Next (Task d b) rest) os → IsFineAt own (λ test. kids test || test new) rest os
 at-task own kids d b rest os new is inside h =
     at-step own kids (λ test. kids test || test new) (Next (Task d b) rest) rest os
-    (λ f. fine-fewer own (opened os) (children_of (λ test. kids test || test new)) (behind_one (children_of kids) (Task d b))
+    (λ f. fine-fewer own (openings_of os) (children_of (λ test. kids test || test new)) (behind_one (children_of kids) (Task d b))
     (λ T k. subst (λ u. (kids (λ s. T s.uses) || T u) ≡ true) is k) rest f.2)
     (λ g o more e. behind-task kids rest o.group new (inside o more e)) h
 
@@ -138,7 +138,7 @@ at-enter own kids op cs b rest g [] mono h =
 at-enter own kids op cs b rest g (o ∷ os) mono h = (
   h.0.1,
   at-step own kids (kids_behind kids b g) (Next (Group op cs b) rest) rest (o ∷ os)
-      (λ f. fine-fewer own (opened (o ∷ os)) (children_of (kids_behind kids b g)) (behind_one (children_of kids) (Group op cs b)) (enter-fewer kids mono op cs b rest g) rest f.2)
+      (λ f. fine-fewer own (openings_of (o ∷ os)) (children_of (kids_behind kids b g)) (behind_one (children_of kids) (Group op cs b)) (enter-fewer kids mono op cs b rest g) rest f.2)
       (λ n p more e. behind-enter kids mono op cs b rest g p.group) h,
 )
 
@@ -168,31 +168,31 @@ kid-none (x ∷ kids) test zero s free there alive =
 kid-none (x ∷ kids) test (suc k) s free there alive = kid-none kids test k s (or_false_right (is_unfinished x && test x) (list_any (λ s. is_unfinished s && test s) kids) free) there alive
 
 -- a group names no cell that an unfinished child may use
-pub unused : (cs : List Cell) (kids : List Sibling) (k : ℕ) (s : Sibling) (c : Cell) → list_any (λ c. unawaited None kids (λ s. clashes (use_as Writes c) s.uses)) cs ≡ false
+pub unused : (cs : List Cell) (kids : List Sibling) (k : ℕ) (s : Sibling) (c : Cell) → list_any (λ c. unfinished_unawaited None kids (λ s. clashes (use_as Writes c) s.uses)) cs ≡ false
     → slice_get kids k ≡ Some s → s.finished ≡ false → has_cell cs c ≡ true
     → (m : Mode) → allows (Some s.uses) (use_as m c) ≡ false
 unused cs kids k s c free there alive named m =
-    let taken = λ (d : Cell). unawaited None kids (λ s. clashes (use_as Writes d) s.uses) in
+    let taken = λ (d : Cell). unfinished_unawaited None kids (λ s. clashes (use_as Writes d) s.uses) in
     let here : taken c ≡ false = false_from_ne_true (taken c) (λ yes.
     true≢false (sym (any-more (λ d. same_cell d c) taken cs (λ d e. subst (λ x. taken x ≡ true) (sym (same_is d c e)) yes) named) ∙ free)) in
     false_from_ne_true (allows (Some s.uses) (use_as m c)) (λ may.
     conflicts_writes m (clash_free (use_as Writes c) (use_as m c) s.uses (kid-none kids (λ s. clashes (use_as Writes c) s.uses) k s here there alive) may refl))
 
 -- a group that is no offence names cells that the body may write, that no open group names, and that no child clashes with
-pub clean-group : (r : Region) (op : Operation) (cs : List Cell) (b : Body) → r.waiting ≡ None → IsClean r.own (opened r.groups) (children_of (unawaited r.waiting r.children)) (Group op cs b)
-    → (list_any (λ c. not (allows r.own (use_as Writes c)) || opened_by_any (opened r.groups) c) cs ≡ false) × (list_any (λ c. unawaited None r.children (λ s. clashes (use_as Writes c) s.uses)) cs ≡ false)
+pub clean-group : (r : Region) (op : Operation) (cs : List Cell) (b : Body) → r.waiting ≡ None → IsClean r.own (openings_of r.groups) (children_of (unfinished_unawaited r.waiting r.children)) (Group op cs b)
+    → (list_any (λ c. not (allows r.own (use_as Writes c)) || opened_by_any (openings_of r.groups) c) cs ≡ false) × (list_any (λ c. unfinished_unawaited None r.children (λ s. clashes (use_as Writes c) s.uses)) cs ≡ false)
 clean-group r op cs b calm clean = (
-  sym (is_offence-Group r.own (opened r.groups) (children_of (unawaited r.waiting r.children)) op cs b ReductionMisuse) ∙ clean ReductionMisuse,
-  ap (λ w. list_any (λ c. unawaited w r.children (λ s. clashes (use_as Writes c) s.uses)) cs) (sym calm)
-      ∙ sym (is_offence-Group r.own (opened r.groups) (children_of (unawaited r.waiting r.children)) op cs b ConflictsWithChild) ∙ clean ConflictsWithChild,
+  sym (is_offence-Group r.own (openings_of r.groups) (children_of (unfinished_unawaited r.waiting r.children)) op cs b ReductionMisuse) ∙ clean ReductionMisuse,
+  ap (λ w. list_any (λ c. unfinished_unawaited w r.children (λ s. clashes (use_as Writes c) s.uses)) cs) (sym calm)
+      ∙ sym (is_offence-Group r.own (openings_of r.groups) (children_of (unfinished_unawaited r.waiting r.children)) op cs b ConflictsWithChild) ∙ clean ConflictsWithChild,
 )
 
-module _ (r : Region) (p : IsPlaced r) where
+module _ (r : Region) (p : IsSoundRegion r) where
   pub placed-enter : (g : ℕ) (op : Operation) (cs : List Cell) (b rest : Body) → r.rest ≡ Next (Group op cs b) rest → r.waiting ≡ None
-      → IsClean r.own (opened r.groups) (children_of (unawaited r.waiting r.children)) (Group op cs b)
-      → IsFineAt r.own (unawaited r.waiting r.children) b (record { group = g; op = op; cells = cs; behind = rest } ∷ r.groups)
-      → ((uses : List Use) → r.own ≡ Some uses → AwaitsAll (unawaited r.waiting r.children) b (record { group = g; op = op; cells = cs; behind = rest } ∷ r.groups))
-      → IsPlaced (inside g op cs b (with_rest rest r))
+      → IsClean r.own (openings_of r.groups) (children_of (unfinished_unawaited r.waiting r.children)) (Group op cs b)
+      → IsFineAt r.own (unfinished_unawaited r.waiting r.children) b (record { group = g; op = op; cells = cs; behind = rest } ∷ r.groups)
+      → ((uses : List Use) → r.own ≡ Some uses → AwaitsAll (unfinished_unawaited r.waiting r.children) b (record { group = g; op = op; cells = cs; behind = rest } ∷ r.groups))
+      → IsSoundRegion (inside g op cs b (with_rest rest r))
   placed-enter g op cs b rest was calm clean fine awaits = record {
     fine = fine;
     inside = let t = subst (EachTouch (λ u. allows r.own u ≡ true)) (ap (λ x. todo x r.groups) was ∙ todo-next (Group op cs b) rest r.groups) p.inside in
@@ -204,28 +204,28 @@ module _ (r : Region) (p : IsPlaced r) where
     apart = p.apart;
     over = λ e. absurd (never (sym (sym (ap (λ x. todo x r.groups) was ∙ todo-next (Group op cs b) rest r.groups) ∙ p.over e)));
     shut = λ e. absurd (never (sym (sym (ap (λ x. todo x r.groups) was ∙ todo-next (Group op cs b) rest r.groups) ∙ p.over e)));
-    once = ((λ o c named. opened-none (opened r.groups) o c (group_free r.own (opened r.groups) cs c fits named)), p.once);
-    writes = groups_inside r.own (opened r.groups) op cs p.writes fits;
+    once = ((λ o c named. opened-none (openings_of r.groups) o c (group_free r.own (openings_of r.groups) cs c fits named)), p.once);
+    writes = groups_inside r.own (openings_of r.groups) op cs p.writes fits;
     grouped = λ k s there alive o c folds. ⊎_elim (λ e. inl e) (λ e. inr (or_right ((same_fold op o && has_cell cs c) && is_in g s) (grouped_in r.groups s o c) e)) (p.grouped k s there alive o c folds);
     reduced = λ k s there alive o c here. ⊎_elim (λ e. p.reduced k s there alive o c e)
         (λ e m may. absurd (true≢false (sym may ∙ unused cs r.children k s c awaited there alive (and_right (same_fold op o) (has_cell cs c) e) m)))
-        (or_true (opened r.groups o c) (same_fold op o && has_cell cs c) here);
+        (or_true (openings_of r.groups o c) (same_fold op o && has_cell cs c) here);
     exclusive = p.exclusive;
   }
     where
       never : {x : S} {y : Body} → End ≡ Next x y → ⊥
       never e = cc
 
-      fits : list_any (λ c. not (allows r.own (use_as Writes c)) || opened_by_any (opened r.groups) c) cs ≡ false
+      fits : list_any (λ c. not (allows r.own (use_as Writes c)) || opened_by_any (openings_of r.groups) c) cs ≡ false
       fits = (clean-group r op cs b calm clean).0
 
-      awaited : list_any (λ c. unawaited None r.children (λ s. clashes (use_as Writes c) s.uses)) cs ≡ false
+      awaited : list_any (λ c. unfinished_unawaited None r.children (λ s. clashes (use_as Writes c) s.uses)) cs ≡ false
       awaited = (clean-group r op cs b calm clean).1
 
   pub placed-leave : (o : Open) (os : List Open) → r.rest ≡ End → r.groups ≡ o ∷ os
       → ((k : ℕ) (s : Sibling) → slice_get r.children k ≡ Some s → s.finished ≡ false → is_in o.group s ≡ false)
-      → IsFineAt r.own (unawaited r.waiting r.children) o.behind os
-      → ((uses : List Use) → r.own ≡ Some uses → AwaitsAll (unawaited r.waiting r.children) o.behind os) → IsPlaced (record r { rest = o.behind; groups = os })
+      → IsFineAt r.own (unfinished_unawaited r.waiting r.children) o.behind os
+      → ((uses : List Use) → r.own ≡ Some uses → AwaitsAll (unfinished_unawaited r.waiting r.children) o.behind os) → IsSoundRegion (record r { rest = o.behind; groups = os })
   placed-leave o os was here none fine awaits = record {
     fine = fine;
     inside = subst (EachTouch (λ u. allows r.own u ≡ true)) same p.inside;
@@ -236,10 +236,10 @@ module _ (r : Region) (p : IsPlaced r) where
     over = λ e. sym same ∙ p.over e;
     shut = λ e. let none : o ∷ os ≡ [] = sym here ∙ p.shut e in cc;
     once = (subst NamedOnce here p.once).1;
-    writes = λ by c h. p.writes by c (ap (λ gs. opened gs by c) here ∙ true_or (opened os by c) (same_fold o.op by && has_cell o.cells c) h);
+    writes = λ by c h. p.writes by c (ap (λ gs. openings_of gs by c) here ∙ true_or (openings_of os by c) (same_fold o.op by && has_cell o.cells c) h);
     grouped = λ k s there alive by c folds. ⊎_elim (λ e. inl e)
         (λ e. inr (outer (same_fold o.op by && has_cell o.cells c) (is_in o.group s) (grouped_in os s by c) (none k s there alive) (sym (ap (λ gs. grouped_in gs s by c) here) ∙ e))) (p.grouped k s there alive by c folds);
-    reduced = λ k s there alive by c h. p.reduced k s there alive by c (ap (λ gs. opened gs by c) here ∙ true_or (opened os by c) (same_fold o.op by && has_cell o.cells c) h);
+    reduced = λ k s there alive by c h. p.reduced k s there alive by c (ap (λ gs. openings_of gs by c) here ∙ true_or (openings_of os by c) (same_fold o.op by && has_cell o.cells c) h);
     exclusive = p.exclusive;
   }
     where

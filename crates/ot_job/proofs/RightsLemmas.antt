@@ -1,6 +1,6 @@
 -- Two pieces that are out hold nothing that conflicts.
 use Rattle.std.proofs.Common.{◌≡◌, ℕ, ◌<◌, Bool, true, false, refl, sym, ap, subst, ◌∙◌, ◌⊎◌, inl, inr, ⊎_elim, List, [], ◌∷◌, ◌&&◌, true≢false, arith, Some, ◌≢◌, suc, length, None, slice_get, if◌then◌else◌, IsTrue, Any}
-use Rattle.ot_job.proofs.Common.{Body, conflicts, Cell, Operation, Mode, Reads, Writes, Folds, Use, use_as, Declared, Openings, allows, covers, folds_by, folds_to, clashes, Children, IsHarmless, same_cell, Agree, ReductionMisuse, ConflictsWithChild, opened-none, clash_free, IsRight, NotDeclared, Set, Fold, If, End, Next, append, NamedIn, Precedes, AreInOrder, Conflict, mode_in, Sibling, IsFine, AreAssigns, not_false, harmless, harmless_if, same_is, Open, todo, opened, children_of, IsFineAt, unawaited, Kids, same_self, Region, Run, at, parent_of, parents, IsPlaced, IsSound, test_of, piece_touches, assign_touches, test_touches, RunsWell, assigns_out, whole, wholes}
+use Rattle.ot_job.proofs.Common.{Body, conflicts, Cell, Operation, Mode, Reads, Writes, Folds, Use, use_as, Declared, Openings, allows, covers, folds_by, folds_to, clashes, Children, IsHarmless, same_cell, Agree, ReductionMisuse, ConflictsWithChild, opened-none, clash_free, IsRight, NotDeclared, Set, Fold, If, End, Next, append, NamedIn, Precedes, AreInOrder, Conflict, mode_in, Sibling, IsFine, AreAssigns, not_false, harmless, harmless_if, same_is, Open, todo, openings_of, children_of, IsFineAt, unfinished_unawaited, Kids, same_self, Region, Run, at, parent_of, parents, IsSoundRegion, IsSoundRegions, test_of, piece_touches, assign_touches, test_touches, RunsWell, assigns_out, whole_region, wholes}
 use Rattle.ot_check.proofs.Cited.{conflicts_folds}
 use Rattle.ot_model.proofs.OrderLemmas.{precedes_trans}
 use Rattle.ot_job.proofs.FoldLemmas.{turned, held-alike, any-but}
@@ -29,10 +29,10 @@ folds_or_clashes o c uses may free =
 
 -- A piece without an offence, and a child that hasn't ended, each of whose folds is one of the body's own or of a group that
 -- is open in it: what the piece holds and what the child may do don't conflict.
-module _ (own : Declared) (opened : Openings) (children : Children) (Touched : Use → Type 0)
-    (safe : (u : Use) → Touched u → IsHarmless own opened children u)
+module _ (own : Declared) (openings_of : Openings) (children : Children) (Touched : Use → Type 0)
+    (safe : (u : Use) → Touched u → IsHarmless own openings_of children u)
     (child : List Use) (there : (test : List Use → Bool) → children test ≡ false → test child ≡ false)
-    (grouped : (o : Operation) (c : Cell) → folds_to (Some child) o c ≡ true → (folds_to own o c ≡ true) ⊎ (opened o c ≡ true))
+    (grouped : (o : Operation) (c : Cell) → folds_to (Some child) o c ≡ true → (folds_to own o c ≡ true) ⊎ (openings_of o c ≡ true))
   where
     pub right_apart : (c : Cell) (m : Mode) (v : Use) → IsRight own Touched (use_as m c) → Allowed (Some child) v → Agree (use_as m c) v
     right_apart c Reads v held may = clash_free (use_as Reads c) v child (there (clashes (use_as Reads c)) (safe (use_as Reads c) held ConflictsWithChild)) may
@@ -43,7 +43,7 @@ module _ (own : Declared) (opened : Openings) (children : Children) (Touched : U
         let free = there (clashes (use_as (Folds o) c)) (safe (use_as (Folds o) c) held.1 ConflictsWithChild) in
         let folds : v.mode ≡ Folds o = conflicts_folds o v.mode (clash_free (use_as (Folds o) c) v child free may same) in
         let declared : folds_to (Some child) o c ≡ true = folds_or_clashes o c child (subst (λ (u : Use). Allowed (Some child) u) (use_is o v c (sym same) folds) may) free in
-        absurd (⊎_elim (λ e. true≢false (sym e ∙ held.2)) (λ e. true≢false (sym e ∙ opened-none opened o c (safe (use_as (Folds o) c) held.1 ReductionMisuse))) (grouped o c declared))
+        absurd (⊎_elim (λ e. true≢false (sym e ∙ held.2)) (λ e. true≢false (sym e ∙ opened-none openings_of o c (safe (use_as (Folds o) c) held.1 ReductionMisuse))) (grouped o c declared))
       where
         use_is : (o : Operation) (v : Use) (c : Cell) → v.cell ≡ c → v.mode ≡ Folds o → v ≡ use_as (Folds o) c
         use_is o v c p q = ap (λ (x : Cell). use_as v.mode x) p ∙ ap (λ (m : Mode). use_as m c) q
@@ -90,7 +90,7 @@ pair-ordered R (x ∷ xs) i j o (inl a) (inr b) n = inl (subst (λ k. R k j) (sy
 pair-ordered R (x ∷ xs) i j o (inr a) (inl b) n = inr (subst (λ k. R k i) (sym b) (Each-at (R x) i xs o.0 a))
 pair-ordered R (x ∷ xs) i j o (inr a) (inr b) n = pair-ordered R xs i j o.1 a b n
 
-pub total : (ws : List Region) (s : IsSound ws) (i j : ℕ) → i < length ws → j < length ws → i ≢ j → IsBefore (parent_of ws) j i ⊎ IsBefore (parent_of ws) i j
+pub total : (ws : List Region) (s : IsSoundRegions ws) (i j : ℕ) → i < length ws → j < length ws → i ≢ j → IsBefore (parent_of ws) j i ⊎ IsBefore (parent_of ws) i j
 total ws s i j hi hj n =
     ⊎_elim (λ r. inr r.1) (λ r. inl r.1)
     (pair-ordered (λ x y. (x ≢ y) × IsBefore (parent_of ws) x y) (order (parents ws)) i j (order-ordered (parent_of ws) s.down (parents ws) (family_of ws s i hi)) (here ws s i hi) (here ws s j hj) n)
@@ -169,11 +169,11 @@ module _ (lens : List ℕ) (own : Declared) (groups : Openings) (ch : Children) 
       (test-safe rest (named-back lens piece rest n) (fine-behind piece rest only f) u)
       (among-split u (assign_touches piece) (test_touches (test_of rest)) k)
 
-pub fine-innermost : (own : Declared) (kids : Kids) (rest : Body) (gs : List Open) → IsFineAt own kids rest gs → IsFine own (opened gs) (children_of kids) rest
+pub fine-innermost : (own : Declared) (kids : Kids) (rest : Body) (gs : List Open) → IsFineAt own kids rest gs → IsFine own (openings_of gs) (children_of kids) rest
 fine-innermost own kids rest [] f = f
 fine-innermost own kids rest (o ∷ os) f = f.0
 
-pub at-whole : (rs : List Region) (i : ℕ) → at (wholes rs) i ≡ whole (at rs i)
+pub at-whole : (rs : List Region) (i : ℕ) → at (wholes rs) i ≡ whole_region (at rs i)
 at-whole (r ∷ rs) (suc i) = at-whole rs i
 at-whole rs i = refl
 
@@ -183,17 +183,17 @@ named-front lens rest (o ∷ os) n = named-half lens rest (todo o.behind os) n
 
 -- ---- one piece, and the children of its task
 
-module _ (lens : List ℕ) (r : Region) (p : IsPlaced (whole r)) (named : NamedIn lens (whole r).rest) (run : Run) (is : r.running ≡ Some run) (w : RunsWell r run) where
+module _ (lens : List ℕ) (r : Region) (p : IsSoundRegion (whole_region r)) (named : NamedIn lens (whole_region r).rest) (run : Run) (is : r.running ≡ Some run) (w : RunsWell r run) where
   abbrev Touched : Use → Type 0
   Touched u = Among u (piece_touches run.assigns (test_of r.rest))
 
-  rest-is : (whole r).rest ≡ append run.assigns r.rest
+  rest-is : (whole_region r).rest ≡ append run.assigns r.rest
   rest-is = ap (λ o. append (assigns_out o) r.rest) is
 
-  pub safe : (u : Use) → Touched u → IsHarmless r.own (opened r.groups) (children_of (unawaited r.waiting r.children)) u
-  safe = piece-safe lens r.own (opened r.groups) (children_of (unawaited r.waiting r.children)) run.assigns r.rest w.assigns
+  pub safe : (u : Use) → Touched u → IsHarmless r.own (openings_of r.groups) (children_of (unfinished_unawaited r.waiting r.children)) u
+  safe = piece-safe lens r.own (openings_of r.groups) (children_of (unfinished_unawaited r.waiting r.children)) run.assigns r.rest w.assigns
       (subst (NamedIn lens) rest-is named)
-      (subst (IsFine r.own (opened r.groups) (children_of (unawaited r.waiting r.children))) rest-is (fine-innermost r.own (unawaited r.waiting r.children) (whole r).rest r.groups p.fine))
+      (subst (IsFine r.own (openings_of r.groups) (children_of (unfinished_unawaited r.waiting r.children))) rest-is (fine-innermost r.own (unfinished_unawaited r.waiting r.children) (whole_region r).rest r.groups p.fine))
 
   pub touch-may : (u : Use) → Touched u → allows r.own u ≡ true
   touch-may u t = not_false (allows r.own u) (safe u t NotDeclared)
@@ -207,7 +207,7 @@ module _ (lens : List ℕ) (r : Region) (p : IsPlaced (whole r)) (named : NamedI
 
   pub piece-meets : (k : ℕ) (s : Sibling) → slice_get r.children k ≡ Some s → s.finished ≡ false → (u v : Use) → mode_in run.lease.uses u.cell ≡ Some u.mode → allows (Some s.uses) v ≡ true → Agree u v
   piece-meets k s there alive u v h may =
-      right_apart r.own (opened r.groups) (children_of (unawaited r.waiting r.children)) Touched safe s.uses
-      (λ test none. kid-none r.children (λ x. test x.uses) k s (subst (λ b. unawaited b r.children (λ x. test x.uses) ≡ false) w.calm none) there alive)
+      right_apart r.own (openings_of r.groups) (children_of (unfinished_unawaited r.waiting r.children)) Touched safe s.uses
+      (λ test none. kid-none r.children (λ x. test x.uses) k s (subst (λ b. unfinished_unawaited b r.children (λ x. test x.uses) ≡ false) w.calm none) there alive)
       (λ o c folds. ⊎_elim inl (λ e. inr (grouped-opened r.groups s o c e)) (p.grouped k s there alive o c folds))
       u.cell u.mode v (right-of u h) may

@@ -1,6 +1,6 @@
 -- A piece that is claimed may be run on its copies.
 use Rattle.std.proofs.Common.{◌≡◌, ℕ, Bool, true, false, cond, List, [], ◌∷◌, map, refl, sym, ap, subst, ◌∙◌, inl, Option, Some, None, option_map, if◌then◌else◌, find, IfSome, IsSome}
-use Rattle.ot_job.proofs.Common.{E, Set, Fold, If, Body, End, Next, append, NamedIn, ValueNamedIn, cells_named, same_cell, mode_in, Cell, Operation, Mode, Reads, Writes, Folds, Use, use_as, touches, Declared, Openings, allows, folds_to, EachRead, EachTouch, Children, IsFine, AreAssigns, NotDeclared, is_at, uses_of, LentCell, IsRight, OnlyFolds, test_of, assign_touches, test_touches, piece_touches, held, held_as, mode_held, not_false, HasAll, lengths, lent_from, first_at, value_at, CanAssign, CanRun, Region, at, leading, behind, awake, AreHeld, Live, IsOnCourse, Lease, lease_of, use_of, Look, assigned}
+use Rattle.ot_job.proofs.Common.{E, Set, Fold, If, Body, End, Next, append, NamedIn, ValueNamedIn, cells_named, same_cell, mode_in, Cell, Operation, Mode, Reads, Writes, Folds, Use, use_as, touches, Declared, Openings, allows, folds_to, EachRead, EachTouch, Children, IsFine, AreAssigns, NotDeclared, is_at, uses_of, LentCell, IsRight, OnlyFolds, test_of, assign_touches, test_touches, piece_touches, held_mode, held_as, mode_held, not_false, HasAll, lengths, lent_from, first_at, value_at, CanAssign, CanRun, Region, at, leading, after_parts, awake, AreHeld, Live, IsOnCourse, Lease, lease_of, use_of, Look, copies_assigned}
 use Rattle.ot_check.proofs.Cited.{one_op}
 use Rattle.ot_job_task.proofs.AssignLemmas.{all-kept, assigned-same}
 use Rattle.ot_job.proofs.CopiesLemmas.{Lets, LetsMode, mode_at}
@@ -50,7 +50,7 @@ mode-lent (l ∷ lent) c = by (same_cell c l.cell) refl (mode-lent lent c)
 
 module _ (lens : List ℕ) (own : Declared) (opened : Openings) (children : Children) (piece rest : Body) (only : AreAssigns piece) (named : NamedIn lens (append piece rest))
     (fine : IsFine own opened children (append piece rest)) (exclusive : (o : Operation) (c : Cell) → folds_to own o c ≡ true → OnlyFolds o own c)
-    (lent : List LentCell) (modes : (c : Cell) → mode_in (uses_of lent) c ≡ held own (piece_touches piece (test_of rest)) c) where
+    (lent : List LentCell) (modes : (c : Cell) → mode_in (uses_of lent) c ≡ held_mode own (piece_touches piece (test_of rest)) c) where
   abbrev all : List Use
   all = piece_touches piece (test_of rest)
 
@@ -60,7 +60,7 @@ module _ (lens : List ℕ) (own : Declared) (opened : Openings) (children : Chil
   lets : (u : Use) → Among u all → Lets (mode_at lent) u
   lets u k =
       subst (LetsMode u.mode) (sym (mode-lent lent u.cell ∙ modes u.cell))
-      (by u.mode refl (held own all u.cell) (covered own all None u k) (held-right own u.cell (held-alike own u.cell (λ o. exclusive o u.cell)) all))
+      (by u.mode refl (held_mode own all u.cell) (covered own all None u k) (held-right own u.cell (held-alike own u.cell (λ o. exclusive o u.cell)) all))
     where
       reads : u.mode ≡ Reads → allows own (use_as Reads u.cell) ≡ true
       reads e = subst (λ m. allows own (use_as m u.cell) ≡ true) e (may u k)
@@ -114,20 +114,20 @@ module _ (j : Live) (o : IsOnCourse j) (i : ℕ) (lent : List LentCell) (are : A
   abbrev ahead : Body
   ahead = (awake r).rest
 
-  named : NamedIn (lengths j.cells) (append (leading ahead) (behind ahead))
+  named : NamedIn (lengths j.cells) (append (leading ahead) (after_parts ahead))
   named = subst (NamedIn (lengths j.cells)) (sym (whole-again ahead)) (named-awake j o i)
 
-  readable : (b : Body) → NamedIn (lengths j.cells) b → ((c : Cell) → mode_in (uses_of lent) c ≡ held r.own (piece_touches (leading ahead) (test_of b)) c)
+  readable : (b : Body) → NamedIn (lengths j.cells) b → ((c : Cell) → mode_in (uses_of lent) c ≡ held_mode r.own (piece_touches (leading ahead) (test_of b)) c)
       → IfSome (test_of b) (λ e. HasAll (value_at (lent_from cells (uses_of lent))) e)
   readable (Next (If e a b) rest) n modes = piece-reads (lengths j.cells) r.own cells (uses_of lent) (leading ahead) e n.0.0 modes
   readable b n modes = tt
 
-  pub claim-can : CanRun (leading ahead) (test_of (behind ahead)) lent
+  pub claim-can : CanRun (leading ahead) (test_of (after_parts ahead)) lent
   claim-can = record {
     assignable = subst (CanAssign (leading ahead)) (sym inputs)
-        (piece-can (lengths j.cells) r.own cells (uses_of lent) (leading ahead) (test_touches (test_of (behind ahead))) (leading-assigns ahead) (named-half (lengths j.cells) (leading ahead) (behind ahead) named) are);
-    readable = subst (λ (l : List LentCell). IfSome (test_of (behind ahead)) (λ e. HasAll (value_at l) e)) (sym inputs)
-        (readable (behind ahead) (named-back (lengths j.cells) (leading ahead) (behind ahead) named) are);
+        (piece-can (lengths j.cells) r.own cells (uses_of lent) (leading ahead) (test_touches (test_of (after_parts ahead))) (leading-assigns ahead) (named-half (lengths j.cells) (leading ahead) (after_parts ahead) named) are);
+    readable = subst (λ (l : List LentCell). IfSome (test_of (after_parts ahead)) (λ e. HasAll (value_at l) e)) (sym inputs)
+        (readable (after_parts ahead) (named-back (lengths j.cells) (leading ahead) (after_parts ahead) named) are);
     fresh = λ c. subst (λ (l : List LentCell). value_at l c ≡ first_at l c) (sym inputs) (lent-fresh cells (uses_of lent) c);
   }
 
@@ -162,7 +162,7 @@ firsts-kept (x ∷ now) (y ∷ lent) c uses firsts =
 
 -- what the assigns make of the inputs
 pub made-of : (b : Body) (lent now : List LentCell) → lease_of now ≡ lease_of lent → ((c : Cell) → value_at lent c ≡ first_at lent c)
-    → ((c : Cell) → value_at now c ≡ assigned b (value_at lent) c) → (c : Cell) → value_at now c ≡ assigned b (first_at now) c
+    → ((c : Cell) → value_at now c ≡ copies_assigned b (value_at lent) c) → (c : Cell) → value_at now c ≡ copies_assigned b (first_at now) c
 made-of b lent now same fresh made c =
     made c ∙ assigned-same b (value_at lent) (first_at now)
     (λ d. fresh d ∙ sym (firsts-kept now lent d (ap (λ (l : Lease). l.uses) same) (ap (λ (l : Lease). l.firsts) same))) c

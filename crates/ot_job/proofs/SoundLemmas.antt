@@ -1,11 +1,11 @@
 -- A job's regions make it sound.
 use Rattle.std.proofs.Common.{◌≡◌, ℕ, zero, suc, ◌<◌, ◌≤◌, true, false, List, [], ◌∷◌, length, refl, sym, ap, subst, ◌∙◌, ◌⊎◌, inl, inr, arith, ◌&&◌, true≢false, Some, slice_get, ⊎_elim}
-use Rattle.ot_job.proofs.Common.{cases_lt, same_Some, Any-from_list_any, list_any-from_Any, and_left, and_right, and_true, same_is, same_self, conflicts, Cell, Operation, Mode, Reads, Writes, Folds, Use, Sibling, use_as, Declared, allows, covers, folds_by, same_cell, Agree, Region, at, gone, parent_of, todo_at, ended_at, may_at, IsBegun, DontMix, IsSound}
+use Rattle.ot_job.proofs.Common.{cases_lt, same_Some, Any-from_list_any, list_any-from_Any, and_left, and_right, and_true, same_is, same_self, conflicts, Cell, Operation, Mode, Reads, Writes, Folds, Use, Sibling, use_as, Declared, allows, covers, folds_by, same_cell, Agree, Region, at, empty_region, parent_of, todo_at, ended_at, may_at, IsRootOrReady, DontMix, IsSoundRegions}
 use Rattle.ot_model.specs.Cells.{DependsOn, one_writes}
 use Rattle.ot_job.proofs.FoldLemmas.{same-op, both-fold, covered-fold}
 use Rattle.ot_job.proofs.Kept.{Sound}
 
-pub at-past : (rs : List Region) (i : ℕ) → length rs ≤ i → at rs i ≡ gone
+pub at-past : (rs : List Region) (i : ℕ) → length rs ≤ i → at rs i ≡ empty_region
 at-past [] i h = refl
 at-past (r ∷ rs) zero h = absurd (omega (arith, h))
 at-past (r ∷ rs) (suc i) h = at-past rs i (omega (arith, h))
@@ -37,7 +37,7 @@ agree-siblings us vs free one two u v mu mv same =
     modes Writes Reads m n p q f g h = absurd (f refl)
     modes d e m n p q f g h = absurd (f refl)
 
-module _ (rs : List Region) (s : IsSound rs) where
+module _ (rs : List Region) (s : IsSoundRegions rs) where
   inside_or : (i : ℕ) → (i < length rs) ⊎ (length rs ≤ i)
   inside_or i = cases_lt i (length rs)
 
@@ -68,7 +68,7 @@ module _ (rs : List Region) (s : IsSound rs) where
           from (inr below) h = let kin = s.kin i below h in sym kin.finished ∙ s.done (parent_of rs i) pos over (at rs i).child kin.entry kin.there
       at_place (inr h) = absurd (omega (arith, pos, past_parent i h))
 
-  ready : (a b : ℕ) → parent_of rs b ≡ parent_of rs a → 0 < b → b < a → IsBegun rs a → ended_at rs a ≡ false → ended_at rs b ≡ false
+  ready : (a b : ℕ) → parent_of rs b ≡ parent_of rs a → 0 < b → b < a → IsRootOrReady rs a → ended_at rs a ≡ false → ended_at rs b ≡ false
       → (u v : Use) → may_at rs a u → may_at rs b v → Agree u v
   ready a b same pos lt begun alive_a alive_b u v mu mv =
       let r = begun (omega (arith, pos, lt)) in
@@ -86,10 +86,10 @@ module _ (rs : List Region) (s : IsSound rs) where
       (p.apart (at rs b).child (at rs a).child kb.entry ka.entry there ka.there fb fa) u v
       (ap (λ (o : Declared). allows o u) (sym ka.uses) ∙ mu) (ap (λ (o : Declared). allows o v) (sym kb.uses) ∙ mv)
 
-  begun_up : (i : ℕ) → 0 < i → IsBegun rs (parent_of rs i)
+  begun_up : (i : ℕ) → 0 < i → IsRootOrReady rs (parent_of rs i)
   begun_up i pos up = ⊎_elim (λ h. s.begun i pos h up) (λ h. absurd (omega (arith, up, past_parent i h))) (inside_or i)
 
-  pub sound : Sound (parent_of rs) (may_at rs) (todo_at rs) (ended_at rs) (IsBegun rs)
+  pub sound : Sound (parent_of rs) (may_at rs) (todo_at rs) (ended_at rs) (IsRootOrReady rs)
   sound = record {
     down = s.down;
     inside = λ i. (s.placed i).inside;

@@ -1,6 +1,6 @@
 -- A job begins well, and where it has ended its cells and counts are the serial meaning of its program.
 use Rattle.std.proofs.Common.{◌≡◌, ℕ, zero, suc, ◌+◌, ◌*◌, ◌<◌, ◌≤◌, Bool, true, false, List, [], ◌∷◌, length, refl, sym, ap, subst, ◌∙◌, arith, true≢false, ◌==◌, Option, option_map, is_some, ◌||◌, Some, None, slice_get, if◌then◌else◌, IsPermutation, Contains, All}
-use Rattle.ot_job.proofs.Common.{All-nil, IsPermutation-refl, IsPermutation-sym, IsPermutation-trans, Contains-permutation, false_from_ne_true, Body, End, Next, size, weight_of, cell_of, lengths, updated, NamedIn, AreInShape, Expanded, State, serial, serial_run, state_of, length-updated, Sibling, allows, and_left, and_right, Owned, loan_of, lease_of, lent_from, worths, worth_over, worths-same, permutation_rest, Holds, touches_out, left, children_left, Open, Region, Run, root_region, stopped, at, gone, todo_at, parents, left_of, IsPlaced, IsSound, wholes, loans_out, AreOpen, Live, IsWell, all_ended, any_out, state_in, Working, Failing, Ended, Failed, Came, IsOut, IsBegun, none-some, todo}
+use Rattle.ot_job.proofs.Common.{All-nil, IsPermutation-refl, IsPermutation-sym, IsPermutation-trans, Contains-permutation, false_from_ne_true, Body, End, Next, size, weight_of, cell_of, lengths, updated, NamedIn, AreInShape, Expanded, State, serial, serial_run, state_of, length-updated, Sibling, allows, and_left, and_right, Owned, loan_of, lease_of, lent_from, worths, worth_over, worths-same, permutation_rest, Holds, touches_out, left_of_job, children_left, Open, Region, Run, root_region, region_stopped, at, empty_region, todo_at, parents, left_of, IsSoundRegion, IsSoundRegions, wholes, loans_out, AreOpen, Live, IsWell, all_ended, any_out, state_in, Working, Failing, Ended, Failed, Came, IsOut, IsRootOrReady, none-some, todo}
 use Rattle.ot_job.proofs.WeighingLemmas.{weight-few, weight-stopped}
 use Rattle.ot_check.specs.Discipline.{IsDisciplined}
 use Rattle.ot_check.proofs.Cited.{disciplined-fine, inside}
@@ -16,10 +16,10 @@ use Rattle.ot_job.specs.Sound.{HasTask}
 
 -- ---- the root alone
 
-placed-gone : IsPlaced gone
+placed-gone : IsSoundRegion empty_region
 placed-gone = placed-bare 0 0 None End true tt tt tt (λ uses is. cc) (λ e. refl) (λ o c h. absurd (true≢false (sym h)))
 
-root-each : (P : Region → Type 0) (body : Body) → P (root_region body) → P gone → (i : ℕ) → P (at (root_region body ∷ []) i)
+root-each : (P : Region → Type 0) (body : Body) → P (root_region body) → P empty_region → (i : ℕ) → P (at (root_region body ∷ []) i)
 root-each P body here past zero = here
 root-each P body here past (suc i) = past
 
@@ -27,11 +27,11 @@ module _ (program : Expanded) (disciplined : IsDisciplined program) (lens : List
   abbrev root : List Region
   root = root_region program.body ∷ []
 
-  placed-root : IsPlaced (root_region program.body)
+  placed-root : IsSoundRegion (root_region program.body)
   placed-root = placed-bare 0 0 None program.body false (disciplined-fine program.body disciplined) (touch-all (λ u. allows None u ≡ true) (λ u. refl) program.body)
       (inside lens program.body named disciplined) (λ uses is. cc) (λ e. absurd (true≢false (sym e))) (λ o c h. absurd (true≢false (sym h)))
 
-  pub sound-root : IsSound root
+  pub sound-root : IsSoundRegions root
   sound-root = record {
     root = refl;
     top = refl;
@@ -40,8 +40,8 @@ module _ (program : Expanded) (disciplined : IsDisciplined program) (lens : List
     entries = λ p. root-each (λ r. (k : ℕ) (s : Sibling) → slice_get r.children k ≡ Some s → HasTask root p k) program.body (λ k s there. cc) (λ k s there. cc) p;
     older = λ a b pos lt below same. absurd (omega (arith, pos, lt, below));
     begun = λ i pos below. absurd (omega (arith, pos, below));
-    entered = λ i. root-each (λ r. (o : Open) (os : List Open) → r.groups ≡ o ∷ os → IsBegun root i) program.body (λ o os is. cc) (λ o os is. cc) i;
-    placed = root-each IsPlaced program.body placed-root placed-gone;
+    entered = λ i. root-each (λ r. (o : Open) (os : List Open) → r.groups ≡ o ∷ os → IsRootOrReady root i) program.body (λ o os is. cc) (λ o os is. cc) i;
+    placed = root-each IsSoundRegion program.body placed-root placed-gone;
     done = λ i pos over. root-each (λ r. (k : ℕ) (s : Sibling) → slice_get r.children k ≡ Some s → s.finished ≡ true) program.body (λ k s there. cc) (λ k s there. cc) i;
   }
 
@@ -63,7 +63,7 @@ starts-well j disciplined named out groups regions cells tasks units = record {
   apart = λ i k one two other is also. absurd (idle i one is);
   course = λ working. record {
     some = subst (λ rs. 0 < length rs) (sym regions) (omega arith);
-    sound = subst (λ rs. IsSound (wholes rs)) (sym regions) (sound-root j.program disciplined (lengths j.cells) named);
+    sound = subst (λ rs. IsSoundRegions (wholes rs)) (sym regions) (sound-root j.program disciplined (lengths j.cells) named);
     named = subst (λ rs. (i : ℕ) → NamedIn (lengths j.cells) (todo_at (wholes rs) i)) (sym regions) (root-each (λ r. NamedIn (lengths j.cells) (todo r.rest r.groups)) j.program.body named tt);
     runs = λ i run is. absurd (idle i run is);
     begun = λ i run is. absurd (idle i run is);
@@ -113,7 +113,7 @@ ended-meaning j w working ended =
     let closed : (i : ℕ) → (at j.regions i).groups ≡ [] = λ i. ap (λ (r : Region). r.groups) (sym (at-whole j.regions i)) ∙ (o.sound.placed i).shut (ap (λ (r : Region). r.ended) (at-whole j.regions i) ∙ each-ended j.regions ended i) in
     let over : (i : ℕ) → todo_at (wholes j.regions) i ≡ End = λ i. (o.sound.placed i).over (ap (λ (r : Region). r.ended) (at-whole j.regions i) ∙ each-ended j.regions ended i) in
     ap (λ c. state_of c j.counts) (sym (worths-combined j.owned j.cells (none-combined j.owned (none-open j.regions j.owned.groups closed o.copies))))
-    ∙ sym (ap (λ (f : ℕ → Body). left f (parents (wholes j.regions)) s) (λ z i. over i z) ∙ nothing-left 0 1 (parents (wholes j.regions)) s)
+    ∙ sym (ap (λ (f : ℕ → Body). left_of_job f (parents (wholes j.regions)) s) (λ z i. over i z) ∙ nothing-left 0 1 (parents (wholes j.regions)) s)
     ∙ o.kept
 
 -- ---- a piece comes back without results
@@ -124,16 +124,16 @@ fails-out j d w out =
     (out-contained j.regions d.task (run_of out.0.0 d) out.0.1)
 
 pub fails-well : (j : Live) (d : Came) (owned : Owned) → IsWell j → (out : IsOut j.regions d) → IsPermutation j.owned.out (loan_of out.0.0 d.lent ∷ owned.out) → owned.groups ≡ j.owned.groups
-    → IsWell (record j { regions = updated j.regions d.task stopped; owned = owned; failing = true })
+    → IsWell (record j { regions = updated j.regions d.task region_stopped; owned = owned; failing = true })
 fails-well j d owned w out ended groups = record {
   rights =
-      permutation_rest (loan_of out.0.0 d.lent) owned.out (loans_out (updated j.regions d.task stopped))
-      (IsPermutation-trans (loan_of out.0.0 d.lent ∷ owned.out) j.owned.out (loan_of out.0.0 d.lent ∷ loans_out (updated j.regions d.task stopped)) (IsPermutation-sym j.owned.out (loan_of out.0.0 d.lent ∷ owned.out) ended)
-      (IsPermutation-trans j.owned.out (loans_out j.regions) (loan_of out.0.0 d.lent ∷ loans_out (updated j.regions d.task stopped)) w.rights
+      permutation_rest (loan_of out.0.0 d.lent) owned.out (loans_out (updated j.regions d.task region_stopped))
+      (IsPermutation-trans (loan_of out.0.0 d.lent ∷ owned.out) j.owned.out (loan_of out.0.0 d.lent ∷ loans_out (updated j.regions d.task region_stopped)) (IsPermutation-sym j.owned.out (loan_of out.0.0 d.lent ∷ owned.out) ended)
+      (IsPermutation-trans j.owned.out (loans_out j.regions) (loan_of out.0.0 d.lent ∷ loans_out (updated j.regions d.task region_stopped)) w.rights
       (one-less j.regions d.task (run_of out.0.0 d) out.0.1)));
   few = w.few;
   lengths = w.lengths;
-  created = length-updated j.regions d.task stopped ∙ w.created;
+  created = length-updated j.regions d.task region_stopped ∙ w.created;
   light = omega (arith, w.light, weight-stopped j.regions d.task known);
   holds = λ k run is. let r = still k run is in subst (λ x. Holds x.own (touches_out x run) run.lease.uses) (sym r) (w.holds k run (was k run is));
   present = λ k run is. subst (λ cells. run.lease ≡ lease_of (lent_from cells run.lease.uses)) (sym worths-now) (w.present k run (was k run is));
@@ -148,10 +148,10 @@ fails-well j d owned w out ended groups = record {
     known = runs-within j.regions d.task (run_of out.0.0 d) out.0.1
 
     -- who has a piece out still has it, and nothing else of it changed
-    still : (k : ℕ) (run : Run) → (at (updated j.regions d.task stopped) k).running ≡ Some run → at (updated j.regions d.task stopped) k ≡ at j.regions k
+    still : (k : ℕ) (run : Run) → (at (updated j.regions d.task region_stopped) k).running ≡ Some run → at (updated j.regions d.task region_stopped) k ≡ at j.regions k
     still k run is = (stopped-others j.regions d.task k run is).1
 
-    was : (k : ℕ) (run : Run) → (at (updated j.regions d.task stopped) k).running ≡ Some run → (at j.regions k).running ≡ Some run
+    was : (k : ℕ) (run : Run) → (at (updated j.regions d.task region_stopped) k).running ≡ Some run → (at j.regions k).running ≡ Some run
     was k run is = sym (ap (λ (r : Region). r.running) (still k run is)) ∙ is
 
 -- where a job stands, by what is known of it

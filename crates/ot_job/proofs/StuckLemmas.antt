@@ -1,6 +1,6 @@
 -- A job that hasn't ended, and of which no piece is out, has a task that may be claimed.
 use Rattle.std.proofs.Common.{◌≡◌, ℕ, zero, suc, ◌+◌, ◌<◌, ◌≤◌, true, false, List, [], ◌∷◌, length, refl, sym, ap, subst, ◌∙◌, ◌⊎◌, inl, inr, arith, true≢false, Some, slice_get, Bool, not, ◌&&◌, ◌||◌, get_or, ◌==◌, None, is_some, count_by, IsTrue, if◌then◌else◌, All}
-use Rattle.ot_job.proofs.Common.{cases_Bool, Sibling, IsReady, Region, at, parent_of, ended_at, IsBegun, IsKin, IsSound, nat_tests, length-map, Body, End, Next, is_ready, is_unfinished, is_unfinished_in, and_true, or_false_left, or_false_right, Open, whole, wholes, is_claimable, claimable_of, is_held, is_let_go, end_lets_go, Live, IsWell, any_out, all_ended, state_in, Working, Failing, Ended, Failed, or_right, same_Some}
+use Rattle.ot_job.proofs.Common.{cases_Bool, Sibling, IsReady, Region, at, parent_of, ended_at, IsRootOrReady, IsKin, IsSoundRegions, nat_tests, length-map, Body, End, Next, is_ready, is_unfinished, is_unfinished_in, and_true, or_false_left, or_false_right, Open, whole_region, wholes, is_claimable, claimable_of, is_held, is_let_go, end_lets_go, Live, IsWell, any_out, all_ended, state_in, Working, Failing, Ended, Failed, or_right, same_Some}
 use Rattle.ot_depend.proofs.CountLemmas.{none_unfinished, none_unfinished_in}
 use Rattle.ot_depend.proofs.ReadyLemmas.{is_ready-told}
 use Rattle.ot_job_roster.proofs.ListedLemmas.{passing-some}
@@ -45,12 +45,12 @@ ready-least kids k l = record { itself = l.entry; known = l.there; awaited = λ 
 pub record Free (rs : List Region) (i : ℕ) : Type 0 where
   pub within : i < length rs
   pub alive : ended_at rs i ≡ false
-  pub begun : IsBegun rs i
+  pub begun : IsRootOrReady rs i
   pub awaits_none : AllFinished (at rs i).children
 
-module _ (rs : List Region) (s : IsSound rs) where
+module _ (rs : List Region) (s : IsSoundRegions rs) where
   -- the first unfinished child of a task
-  child_of : (p k : ℕ) → p < length rs → Least (at rs p).children k → (i : ℕ) × (p < i) × (i < length rs) × (ended_at rs i ≡ false) × IsBegun rs i
+  child_of : (p k : ℕ) → p < length rs → Least (at rs p).children k → (i : ℕ) × (p < i) × (i < length rs) × (ended_at rs i ≡ false) × IsRootOrReady rs i
   child_of p k within l =
       let o = s.entries p k l.entry l.there in
       let kin = s.kin o.task o.below o.known in
@@ -63,11 +63,11 @@ module _ (rs : List Region) (s : IsSound rs) where
         λ pos. (o.known, subst (λ n. IsReady (at rs n).children (at rs o.task).child) (sym o.of) (subst (IsReady (at rs p).children) (sym o.is) (ready-least (at rs p).children k l))),
       )
 
-  go : (fuel i : ℕ) → length rs ≤ i + fuel → i < length rs → ended_at rs i ≡ false → IsBegun rs i → (j : ℕ) × Free rs j
+  go : (fuel i : ℕ) → length rs ≤ i + fuel → i < length rs → ended_at rs i ≡ false → IsRootOrReady rs i → (j : ℕ) × Free rs j
   go zero i enough within alive begun = absurd (omega (arith, enough, within))
   go (suc fuel) i enough within alive begun = pick (λ j lt w a b. go fuel j (omega (arith, enough, lt)) w a b) (least (at rs i).children)
     where
-      pick : ((j : ℕ) → i < j → j < length rs → ended_at rs j ≡ false → IsBegun rs j → (n : ℕ) × Free rs n)
+      pick : ((j : ℕ) → i < j → j < length rs → ended_at rs j ≡ false → IsRootOrReady rs j → (n : ℕ) × Free rs n)
           → AllFinished (at rs i).children ⊎ ((k : ℕ) × Least (at rs i).children k) → (j : ℕ) × Free rs j
       pick next (inl all) = (i, record { within = within; alive = alive; begun = begun; awaits_none = all })
       pick next (inr (k, l)) = let c = child_of i k within l in next c.0 c.1 c.2 c.3 c.4
@@ -131,7 +131,7 @@ module _ (rs : List Region) (out : any_out rs ≡ false) (i : ℕ) (f : Free (wh
   r : Region
   r = at rs i
 
-  whole-at : at (wholes rs) i ≡ whole (at rs i)
+  whole-at : at (wholes rs) i ≡ whole_region (at rs i)
   whole-at = at-whole rs i
 
   free-claimable : is_claimable rs i ≡ true
@@ -158,8 +158,8 @@ pub has-claimable : (j : Live) → IsWell j → j.failing ≡ false → all_ende
 has-claimable j w working left out =
     let o = w.course working in
     let one = one-left j.regions left in
-    let f = never_stuck (wholes j.regions) o.sound one.0 (omega (arith, one.1, length-map j.regions whole)) (ap (λ (x : Region). x.ended) (at-whole j.regions one.0) ∙ one.2) in
-    passing-some (is_claimable j.regions) (length j.regions) f.0 (omega (arith, f.1.within, length-map j.regions whole)) (free-claimable j.regions out f.0 f.1)
+    let f = never_stuck (wholes j.regions) o.sound one.0 (omega (arith, one.1, length-map j.regions whole_region)) (ap (λ (x : Region). x.ended) (at-whole j.regions one.0) ∙ one.2) in
+    passing-some (is_claimable j.regions) (length j.regions) f.0 (omega (arith, f.1.within, length-map j.regions whole_region)) (free-claimable j.regions out f.0 f.1)
 
 pub state-working : (j : Live) → state_in j ≡ Working → (j.failing ≡ false) × (all_ended j.regions ≡ false)
 state-working j h = by j.failing (any_out j.regions) (all_ended j.regions) h

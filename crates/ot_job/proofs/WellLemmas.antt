@@ -1,6 +1,6 @@
 -- A claim is free to be made, and leaves a job well.
 use Rattle.std.proofs.Common.{◌≡◌, ◌≢◌, ℕ, zero, suc, ◌<◌, true, false, not, ◌&&◌, ◌||◌, List, [], ◌∷◌, length, refl, sym, ap, subst, ◌∙◌, ⊎_elim, arith, true≢false, Option, Some, None, is_some, slice_get, ◌==◌, All, Contains, IsSome, IsPermutation}
-use Rattle.ot_job.proofs.Common.{cases_eq, nat_tests, same_Some, length-map, Contains-permutation, All-permutation, IsPermutation-sym, IsPermutation-trans, IsPermutation-cons, Set, Fold, If, Body, End, Next, append, NamedIn, AreInShape, updated, lengths, cell_of, AreInOrder, Conflict, Use, State, IsReady, IsUnfinished, is_ready, and_left, and_right, or_true, not_true, Lease, lease_of, lent_from, Owned, IsFreeFor, begun_for, left, Open, todo, AreAssigns, Region, Run, at, parent_of, todo_at, parents, left_of, IsBegun, IsSound, length-updated, leading, behind, test_of, passed, awake, begun, group_passed, assigns_out, whole, wholes, loan_in, with_loan, loans_out, AreOpen, left_open, RunsWell, IsWell, IsOnCourse, MaySettle, worths, AreWorthSame, worths-same, state_of, Live, AreHeld, piece_touches, assign_touches, test_touches, is_claimable, Holds, touches_out, is_let_go}
+use Rattle.ot_job.proofs.Common.{cases_eq, nat_tests, same_Some, length-map, Contains-permutation, All-permutation, IsPermutation-sym, IsPermutation-trans, IsPermutation-cons, Set, Fold, If, Body, End, Next, append, NamedIn, AreInShape, updated, lengths, cell_of, AreInOrder, Conflict, Use, State, IsReady, IsUnfinished, is_ready, and_left, and_right, or_true, not_true, Lease, lease_of, lent_from, Owned, IsFreeFor, begun_for, left_of_job, Open, todo, AreAssigns, Region, Run, at, parent_of, todo_at, parents, left_of, IsRootOrReady, IsSoundRegions, length-updated, leading, after_parts, test_of, groups_passed, awake, piece_begun, group_passed, assigns_out, whole_region, wholes, loan_in, with_loan, loans_out, AreOpen, left_open, RunsWell, IsWell, IsOnCourse, MaySettle, worths, AreWorthSame, worths-same, state_of, Live, AreHeld, piece_touches, assign_touches, test_touches, is_claimable, Holds, touches_out, is_let_go}
 use Rattle.ot_parts.proofs.LeadingLemmas.{leading-behind}
 use Rattle.ot_model.specs.declared.fold.Fold.TheVariants.{Plus}
 use Rattle.ot_job.proofs.WeighingLemmas.{weight-begun}
@@ -22,11 +22,11 @@ leading-assigns (Next (Fold op c e) rest) = leading-assigns rest
 leading-assigns b = tt
 
 -- passing a group's end leaves what is left
-todo-passed : (rest : Body) (gs : List Open) → todo (passed rest gs).rest (passed rest gs).groups ≡ todo rest gs
+todo-passed : (rest : Body) (gs : List Open) → todo (groups_passed rest gs).rest (groups_passed rest gs).groups ≡ todo rest gs
 todo-passed End [] = refl
 todo-passed b gs = refl
 
-idle-whole : (r : Region) → r.running ≡ None → whole r ≡ record r { running = None }
+idle-whole : (r : Region) → r.running ≡ None → whole_region r ≡ record r { running = None }
 idle-whole r idle = ap (λ o. record r { rest = append (assigns_out o) r.rest; running = None }) idle
 
 pub none-running : (o : Option Run) → is_some o ≡ false → o ≡ None
@@ -49,15 +49,15 @@ claimable-goes rs i can =
 
 -- ---- one claim
 
-module _ (lens : List ℕ) (rs : List Region) (s : IsSound (wholes rs)) (named : (i : ℕ) → NamedIn lens (todo_at (wholes rs) i))
+module _ (lens : List ℕ) (rs : List Region) (s : IsSoundRegions (wholes rs)) (named : (i : ℕ) → NamedIn lens (todo_at (wholes rs) i))
     (runs : (i : ℕ) (run : Run) → (at rs i).running ≡ Some run → RunsWell (at rs i) run)
-    (started : (i : ℕ) (run : Run) → (at rs i).running ≡ Some run → IsBegun (wholes rs) i)
+    (started : (i : ℕ) (run : Run) → (at rs i).running ≡ Some run → IsRootOrReady (wholes rs) i)
     (i : ℕ) (h : i < length rs) (can : is_claimable rs i ≡ true) (worker : ℕ) (lease : Lease) (are : AreHeld (at rs i) lease.uses) (ordered : AreInOrder lease.uses) where
   abbrev r : Region
   r = at rs i
 
   abbrev rs' : List Region
-  rs' = updated rs i (begun worker lease)
+  rs' = updated rs i (piece_begun worker lease)
 
   first-half : (not r.ended && not (is_some r.running)) ≡ true
   first-half = and_left (not r.ended && not (is_some r.running)) (((i == 0) || is_ready (at rs r.parent).children r.child) && is_let_go r) can
@@ -72,7 +72,7 @@ module _ (lens : List ℕ) (rs : List Region) (s : IsSound (wholes rs)) (named :
   awake-alive = not_true r.ended (and_left (not r.ended) (not (is_some r.running)) first-half)
 
   hw : i < length (wholes rs)
-  hw = omega (arith, h, length-map rs whole)
+  hw = omega (arith, h, length-map rs whole_region)
 
   let-go : is_let_go (at (wholes rs) i) ≡ true
   let-go = ap is_let_go (at-whole rs i ∙ idle-whole r idle) ∙ and_right ((i == 0) || is_ready (at rs r.parent).children r.child) (is_let_go r) second-half
@@ -80,8 +80,8 @@ module _ (lens : List ℕ) (rs : List Region) (s : IsSound (wholes rs)) (named :
   wholes-now : wholes rs' ≡ updated (wholes rs) i awake
   wholes-now = wholes-begun worker lease rs i idle
 
-  pub sound-now : IsSound (wholes rs')
-  sound-now = subst IsSound (sym wholes-now) (sound-awake (wholes rs) i hw s let-go)
+  pub sound-now : IsSoundRegions (wholes rs')
+  sound-now = subst IsSoundRegions (sym wholes-now) (sound-awake (wholes rs) i hw s let-go)
 
   todo-now : (k : ℕ) → todo_at (wholes rs') k ≡ todo_at (wholes rs) k
   todo-now k =
@@ -92,14 +92,14 @@ module _ (lens : List ℕ) (rs : List Region) (s : IsSound (wholes rs)) (named :
   named-now k = subst (NamedIn lens) (sym (todo-now k)) (named k)
 
   pub well-now : (k : ℕ) (run : Run) → (at rs' k).running ≡ Some run → RunsWell (at rs' k) run
-  well-now = at-each (λ x. (run : Run) → x.running ≡ Some run → RunsWell x run) rs i (begun worker lease) runs at-i
+  well-now = at-each (λ x. (run : Run) → x.running ≡ Some run → RunsWell x run) rs i (piece_begun worker lease) runs at-i
     where
-      at-i : (run : Run) → (begun worker lease r).running ≡ Some run → RunsWell (begun worker lease r) run
+      at-i : (run : Run) → (piece_begun worker lease r).running ≡ Some run → RunsWell (piece_begun worker lease r) run
       at-i run e =
-          subst (RunsWell (begun worker lease r)) (same_Some (record { worker = worker; assigns = leading (awake r).rest; lease = lease }) run e)
+          subst (RunsWell (piece_begun worker lease r)) (same_Some (record { worker = worker; assigns = leading (awake r).rest; lease = lease }) run e)
           (record { modes = are; ordered = ordered; assigns = leading-assigns (awake r).rest; stops = leading-behind (awake r).rest; calm = refl; alive = awake-alive })
 
-  begun-here : IsBegun (wholes rs) i
+  begun-here : IsRootOrReady (wholes rs) i
   begun-here pos =
       let ready : is_ready (at rs r.parent).children r.child ≡ true = ⊎_elim (λ z. absurd (let n : i ≡ 0 = (grind (arith, nat_tests)) in omega (arith, n, pos))) (λ e. e)
       (or_true (i == 0) (is_ready (at rs r.parent).children r.child) (and_left ((i == 0) || is_ready (at rs r.parent).children r.child) (is_let_go r) second-half)) in
@@ -108,28 +108,28 @@ module _ (lens : List ℕ) (rs : List Region) (s : IsSound (wholes rs)) (named :
       let table : (at (wholes rs) (parent_of (wholes rs) i)).children ≡ (at rs r.parent).children = ap (λ n. (at (wholes rs) n).children) one ∙ ap (λ (x : Region). x.children) (at-whole rs r.parent) in
       (hw, subst (λ c. IsReady (at (wholes rs) (parent_of (wholes rs) i)).children c) (sym two) (subst (λ t. IsReady t r.child) (sym table) (ready-from (at rs r.parent).children r.child ready)))
 
-  kept-begun : (k : ℕ) → IsBegun (wholes rs) k → IsBegun (wholes rs') k
-  kept-begun k b = subst (λ l. IsBegun l k) (sym wholes-now) (begun-changed (wholes rs) i awake hw (record { parent = λ r. refl; child = λ r. refl; own = λ r. refl; children = λ r. refl; ended = λ r. refl }) k b)
+  kept-begun : (k : ℕ) → IsRootOrReady (wholes rs) k → IsRootOrReady (wholes rs') k
+  kept-begun k b = subst (λ l. IsRootOrReady l k) (sym wholes-now) (begun-changed (wholes rs) i awake hw (record { parent = λ r. refl; child = λ r. refl; own = λ r. refl; children = λ r. refl; ended = λ r. refl }) k b)
 
-  pub started-now : (k : ℕ) (run : Run) → (at rs' k).running ≡ Some run → IsBegun (wholes rs') k
+  pub started-now : (k : ℕ) (run : Run) → (at rs' k).running ≡ Some run → IsRootOrReady (wholes rs') k
   started-now k run is =
-      ⊎_elim (λ e. kept-begun k (subst (IsBegun (wholes rs)) (sym e) begun-here))
-      (λ e. kept-begun k (started k run (sym (ap (λ (x : Region). x.running) (at-updated-other rs i k (begun worker lease) e)) ∙ is))) (cases_eq k i)
+      ⊎_elim (λ e. kept-begun k (subst (IsRootOrReady (wholes rs)) (sym e) begun-here))
+      (λ e. kept-begun k (started k run (sym (ap (λ (x : Region). x.running) (at-updated-other rs i k (piece_begun worker lease) e)) ∙ is))) (cases_eq k i)
 
   -- what is left of the job stays
   pub kept-now : (t : State) → left_of (wholes rs') t ≡ left_of (wholes rs) t
   kept-now t =
-      ap (λ (l : List Region). left (todo_at (wholes rs')) (parents l) t) wholes-now
-      ∙ ap (λ ps. left (todo_at (wholes rs')) ps t) (parents-updated (wholes rs) i awake (λ x. refl))
-      ∙ ap (λ (f : ℕ → Body). left f (parents (wholes rs)) t) (λ z k. todo-now k z)
+      ap (λ (l : List Region). left_of_job (todo_at (wholes rs')) (parents l) t) wholes-now
+      ∙ ap (λ ps. left_of_job (todo_at (wholes rs')) ps t) (parents-updated (wholes rs) i awake (λ x. refl))
+      ∙ ap (λ (f : ℕ → Body). left_of_job f (parents (wholes rs)) t) (λ z k. todo-now k z)
 
   -- what is out doesn't conflict with it
   apart-from : (k : ℕ) (run : Run) → (at rs k).running ≡ Some run → Conflict run.lease.uses lease.uses → ⊥
   apart-from k run is =
       let differs : k ≢ i = λ e. (let none : None ≡ Some run = sym idle ∙ ap (λ n. (at rs n).running) (sym e) ∙ is in cc) in
       pieces_apart rs' sound-now lens named-now well-now started-now k i run (record { worker = worker; assigns = leading (awake r).rest; lease = lease })
-      (ap (λ (x : Region). x.running) (at-updated-other rs i k (begun worker lease) differs) ∙ is)
-      (ap (λ (x : Region). x.running) (at-updated rs i (begun worker lease) h)) differs
+      (ap (λ (x : Region). x.running) (at-updated-other rs i k (piece_begun worker lease) differs) ∙ is)
+      (ap (λ (x : Region). x.running) (at-updated rs i (piece_begun worker lease) h)) differs
 
   pub free-now : IsFreeFor (loans_out rs) lease.uses
   free-now = loans-each (λ l. Conflict l.lease.uses lease.uses → ⊥) rs apart-from
@@ -142,8 +142,8 @@ named-awake j w i =
     let lens = lengths j.cells in
     let r = at j.regions i in
     let all = subst (λ (x : Region). NamedIn lens (todo x.rest x.groups)) (at-whole j.regions i) (w.named i) in
-    let left = named-back lens (assigns_out r.running) (todo r.rest r.groups) (subst (NamedIn lens) (todo-append (assigns_out r.running) r.rest r.groups) all) in
-    named-front lens (awake r).rest (awake r).groups (subst (NamedIn lens) (sym (todo-passed r.rest r.groups)) left)
+    let left_of_job = named-back lens (assigns_out r.running) (todo r.rest r.groups) (subst (NamedIn lens) (todo-append (assigns_out r.running) r.rest r.groups) all) in
+    named-front lens (awake r).rest (awake r).groups (subst (NamedIn lens) (sym (todo-passed r.rest r.groups)) left_of_job)
 
 -- what its piece holds is free
 pub claim-free : (j : Live) → IsWell j → IsOnCourse j → (i : ℕ) → i < length j.regions → is_claimable j.regions i ≡ true → (d : List Use) → AreHeld (at j.regions i) d → AreInOrder d → IsFreeFor j.owned.out d
@@ -154,10 +154,10 @@ claim-free j w o i h can d are ordered =
 -- the inputs of all pieces, where one begins
 inputs-begun : (before after : List (List ℕ)) (rs : List Region) (i worker : ℕ) (lease : Lease) → i < length rs → after ≡ before → lease ≡ lease_of (lent_from before lease.uses)
     → ((k : ℕ) (run : Run) → (at rs k).running ≡ Some run → run.lease ≡ lease_of (lent_from before run.lease.uses))
-    → (k : ℕ) (run : Run) → (at (updated rs i (begun worker lease)) k).running ≡ Some run → run.lease ≡ lease_of (lent_from after run.lease.uses)
+    → (k : ℕ) (run : Run) → (at (updated rs i (piece_begun worker lease)) k).running ≡ Some run → run.lease ≡ lease_of (lent_from after run.lease.uses)
 inputs-begun before after rs i worker lease h same fresh old k run is =
     subst (λ cells. run.lease ≡ lease_of (lent_from cells run.lease.uses)) (sym same)
-    (at-each (λ x. (run : Run) → x.running ≡ Some run → run.lease ≡ lease_of (lent_from before run.lease.uses)) rs i (begun worker lease) old
+    (at-each (λ x. (run : Run) → x.running ≡ Some run → run.lease ≡ lease_of (lent_from before run.lease.uses)) rs i (piece_begun worker lease) old
     (λ run is. subst (λ (r : Run). r.lease ≡ lease_of (lent_from before r.lease.uses)) (same_Some (record { worker = worker; assigns = leading (awake (at rs i)).rest; lease = lease }) run is) fresh) k run is)
 
 module _ (j : Live) (w : IsWell j) (working : j.failing ≡ false) (i : ℕ) (h : i < length j.regions) (can : is_claimable j.regions i ≡ true) (worker : ℕ) (lease : Lease)
@@ -166,7 +166,7 @@ module _ (j : Live) (w : IsWell j) (working : j.failing ≡ false) (i : ℕ) (h 
     (out : IsPermutation (loan worker lease ∷ j.owned.out) owned.out)
     (groups : owned.groups ≡ begun_for worker lease.uses (left_open (group_passed (at j.regions i)) j.owned.groups)) where
   abbrev pub claimed : Live
-  claimed = record j { regions = updated j.regions i (begun worker lease); cells = cells; owned = owned }
+  claimed = record j { regions = updated j.regions i (piece_begun worker lease); cells = cells; owned = owned }
 
   o : IsOnCourse j
   o = w.course working
@@ -176,12 +176,12 @@ module _ (j : Live) (w : IsWell j) (working : j.failing ≡ false) (i : ℕ) (h 
 
   claim-course : IsOnCourse claimed
   claim-course = record {
-    some = omega (arith, o.some, length-updated j.regions i (begun worker lease));
+    some = omega (arith, o.some, length-updated j.regions i (piece_begun worker lease));
     sound = sound-now (lengths j.cells) j.regions o.sound o.named o.runs o.begun i h can worker lease are ordered;
     named = λ k. subst (λ lens. NamedIn lens (todo_at (wholes claimed.regions) k)) (sym long) (named-now (lengths j.cells) j.regions o.sound o.named o.runs o.begun i h can worker lease are ordered k);
     runs = well-now (lengths j.cells) j.regions o.sound o.named o.runs o.begun i h can worker lease are ordered;
     begun = started-now (lengths j.cells) j.regions o.sound o.named o.runs o.begun i h can worker lease are ordered;
-    copies = subst (AreOpen claimed.regions) (sym groups) (open-grown claimed.regions (left_open (group_passed (at j.regions i)) j.owned.groups) worker lease.uses (open-passed j.regions j.owned.groups i (begun worker lease) h (λ r. refl) o.copies));
+    copies = subst (AreOpen claimed.regions) (sym groups) (open-grown claimed.regions (left_open (group_passed (at j.regions i)) j.owned.groups) worker lease.uses (open-passed j.regions j.owned.groups i (piece_begun worker lease) h (λ r. refl) o.copies));
     older = each-begun (λ g. g.group < j.counts.units) worker lease j.regions i o.older;
     there = λ k. subst (λ lens. All (λ g. AreInShape lens g.cells) (at claimed.regions k).groups) (sym long) (each-begun (λ g. AreInShape (lengths j.cells) g.cells) worker lease j.regions i o.there k);
     kept =
@@ -190,9 +190,9 @@ module _ (j : Live) (w : IsWell j) (working : j.failing ≡ false) (i : ℕ) (h 
   }
 
   -- what was taken is held as its touches ask
-  pub claim-holds : Holds (at j.regions i).own (piece_touches (leading (awake (at j.regions i)).rest) (test_of (behind (awake (at j.regions i)).rest))) lease.uses
+  pub claim-holds : Holds (at j.regions i).own (piece_touches (leading (awake (at j.regions i)).rest) (test_of (after_parts (awake (at j.regions i)).rest))) lease.uses
   claim-holds =
-      let here : at claimed.regions i ≡ begun worker lease (at j.regions i) = at-updated j.regions i (begun worker lease) h in
+      let here : at claimed.regions i ≡ piece_begun worker lease (at j.regions i) = at-updated j.regions i (piece_begun worker lease) h in
       let run : Run = record { worker = worker; assigns = leading (awake (at j.regions i)).rest; lease = lease } in
       subst (λ (r : Region). Holds r.own (touches_out r run) lease.uses) here (course-holds claimed claim-course i run (ap (λ (r : Region). r.running) here))
 
@@ -206,7 +206,7 @@ module _ (j : Live) (w : IsWell j) (working : j.failing ≡ false) (i : ℕ) (h 
         (one-more worker lease j.regions i h (idle (lengths j.cells) j.regions o.sound o.named o.runs o.begun i h can worker lease are ordered))));
     few = w.few;
     lengths = long ∙ w.lengths;
-    created = length-updated j.regions i (begun worker lease) ∙ w.created;
+    created = length-updated j.regions i (piece_begun worker lease) ∙ w.created;
     light = omega (arith, w.light, weight-begun worker lease j.regions i h (idle (lengths j.cells) j.regions o.sound o.named o.runs o.begun i h can worker lease are ordered));
     holds = course-holds claimed claim-course;
     present = inputs-begun (worths j.owned j.cells) (worths owned cells) j.regions i worker lease h worths-now fresh w.present;
@@ -256,13 +256,13 @@ settle-may j v w = record { out = out; kin = kin }
         × IsUnfinished (at j.regions (parent_of j.regions i)).children (at j.regions i).child
     kin i run is pos =
         let rs = j.regions in
-        let begun = w.begun i run is pos in
+        let piece_begun = w.begun i run is pos in
         let one : parent_of (wholes rs) i ≡ parent_of rs i = ap (λ (x : Region). x.parent) (at-whole rs i) in
         let two : (at (wholes rs) i).child ≡ (at rs i).child = ap (λ (x : Region). x.child) (at-whole rs i) in
         let table : (at (wholes rs) (parent_of (wholes rs) i)).children ≡ (at rs (parent_of rs i)).children = ap (λ n. (at (wholes rs) n).children) one ∙ ap (λ (x : Region). x.children) (at-whole rs (parent_of rs i)) in
-        let k = w.sound.kin i pos begun.0 in (
-          omega (arith, one, w.sound.down i pos, begun.0, length-map rs whole),
-          subst (λ t. IsReady t (at rs i).child) table (subst (λ c. IsReady (at (wholes rs) (parent_of (wholes rs) i)).children c) two begun.1),
+        let k = w.sound.kin i pos piece_begun.0 in (
+          omega (arith, one, w.sound.down i pos, piece_begun.0, length-map rs whole_region),
+          subst (λ t. IsReady t (at rs i).child) table (subst (λ c. IsReady (at (wholes rs) (parent_of (wholes rs) i)).children c) two piece_begun.1),
           record {
             itself = k.entry;
             known = sym (ap (λ t. slice_get t (at rs i).child) table) ∙ ap (slice_get (at (wholes rs) (parent_of (wholes rs) i)).children) (sym two) ∙ k.there;

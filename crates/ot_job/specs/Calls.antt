@@ -29,7 +29,7 @@ pub record MayLend (owners : Keeping) (cells : List (List ℕ)) (passed : Option
   pub summed : All (λ u. (op : Operation) → u.mode ≡ Folds op → IsSummedBy (left_open passed owners.owned.groups) op u.cell) slip.uses
 
 -- it is lent: the group that is passed is closed, its copies in the stored numbers of its cells, and every cell is worth the same
-pub record IsLent (before : Owned) (was : List (List ℕ)) (passed : Option ℕ) (slip : Prepared) (copies : List LentCell) (after : Owned) (now : List (List ℕ)) : Type 0 where
+pub record IsLentBy (before : Owned) (was : List (List ℕ)) (passed : Option ℕ) (slip : Prepared) (copies : List LentCell) (after : Owned) (now : List (List ℕ)) : Type 0 where
   pub lent : copies ≡ lent_from now slip.uses
   pub out : IsPermutation (loan_of slip.worker copies ∷ before.out) after.out
   pub groups : after.groups ≡ begun_for slip.worker slip.uses (left_open passed before.groups)

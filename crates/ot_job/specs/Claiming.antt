@@ -14,6 +14,6 @@ abbrev pub claimable_of : List Region → List ℕ
 claimable_of rs = filter (is_claimable rs) (range_with_len 0 (length rs))
 
 -- the one at this place modulo their count
-abbrev pub picked : List ℕ → ℕ → Option ℕ
-picked [] pick = None
-picked (x ∷ xs) pick = slice_get (x ∷ xs) (pick % length (x ∷ xs))
+abbrev pub picked_at : List ℕ → ℕ → Option ℕ
+picked_at [] pick = None
+picked_at (x ∷ xs) pick = slice_get (x ∷ xs) (pick % length (x ∷ xs))

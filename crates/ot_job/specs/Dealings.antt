@@ -4,7 +4,7 @@ use Rattle.ot_model.specs.Tree.{E, Body}
 use Rattle.ot_model.specs.Programs.{expanded_of, Expanded}
 use Rattle.ot_check.specs.Jobs.{Spec}
 use Rattle.ot_owner.specs.Lending.{Lease, lease_of}
-use Rattle.ot_job_task.specs.Regions.{Region, Run, weight_of as weight_in, root_region, stopped}
+use Rattle.ot_job_task.specs.Regions.{Region, Run, weight_of as weight_in, root_region, region_stopped}
 use Rattle.ot_job.specs.Numbered.{at}
 use Rattle.ot_job_task.specs.Pieces.{test_of}
 use Rattle.ot_job.specs.Taken.{Taken, Came, IsOut, worker_in}
@@ -60,8 +60,8 @@ state_in j =
 abbrev pub claimable_in : Live → List ℕ
 claimable_in j = if j.failing then [] else claimable_of j.regions
 
-abbrev pub aborted : Live → Live
-aborted j = record j { failing = true }
+abbrev pub job_aborted : Live → Live
+job_aborted j = record j { failing = true }
 
 -- a piece comes back without results: its rights end, no copy changes, and the job fails
 pub record FailsBy (old : Live) (d : Came) (new : Live) : Type 0 where
@@ -69,7 +69,7 @@ pub record FailsBy (old : Live) (d : Came) (new : Live) : Type 0 where
   pub ended : IsPermutation old.owned.out (loan_of (worker_in (at old.regions d.task)) d.lent ∷ new.owned.out)
   pub groups : new.owned.groups ≡ old.owned.groups
   pub going : ((state_in old ≡ Working) × (out_in old.regions ≤ weight_in old.regions)) ⊎ (state_in old ≡ Failing)
-  pub now : new ≡ record old { regions = updated old.regions d.task stopped; owned = new.owned; failing = true }
+  pub now : new ≡ record old { regions = updated old.regions d.task region_stopped; owned = new.owned; failing = true }
 
 -- a piece that isn't out changes nothing
 abbrev pub Fails : Live → Came → Live → Type 0
@@ -86,8 +86,8 @@ pub record Work : Type 0 where
 abbrev pub work_of : Taken → Work
 work_of p = record { assigns = p.assigns; test = p.test; lease = lease_of p.lent }
 
-abbrev pub brought : Came → Work
-brought d = record { assigns = d.assigns; test = d.test; lease = lease_of d.lent }
+abbrev pub work_brought : Came → Work
+work_brought d = record { assigns = d.assigns; test = d.test; lease = lease_of d.lent }
 
 abbrev pub run_with : Option E → Run → Work
 run_with test run = record { assigns = run.assigns; test = test; lease = run.lease }
@@ -107,12 +107,12 @@ NoneOut j = (k : ℕ) → work_at j k ≡ None
 abbrev pub out_of : Live → ℕ
 out_of j = out_in j.regions
 
-abbrev pub state_of : Live → State
-state_of j = state_in j
+abbrev pub live_state : Live → State
+live_state j = state_in j
 
 -- how many settles it may still take
-abbrev pub weight_of : Live → ℕ
-weight_of j = weight_in j.regions
+abbrev pub settles_left : Live → ℕ
+settles_left j = weight_in j.regions
 
 -- the units that were settled
 abbrev pub settled_units : Live → ℕ
@@ -140,10 +140,10 @@ pub record IsOf (spec : Spec) (j : Live) : Type 0 where
 -- a job that was started
 pub record IsFresh (spec : Spec) (j : Live) : Type 0 where
   pub of : IsOf spec j
-  pub working : state_of j ≡ Working
+  pub working : live_state j ≡ Working
   pub none : NoneOut j
   pub out : out_of j ≡ 0
-  pub weight : weight_of j ≤ 61025
+  pub weight : settles_left j ≤ 61025
   pub units : settled_units j ≡ 0
 
 -- the task has this piece out, and no other task's piece changes
@@ -152,10 +152,10 @@ pub record Takes (old : Live) (task : ℕ) (work : Work) (new : Live) : Type 0 w
   pub taken : work_at new task ≡ Some work
   pub others : (k : ℕ) → k ≢ task → work_at new k ≡ work_at old k
   pub out : out_of new ≡ out_of old + 1
-  pub weight : weight_of new ≡ weight_of old
+  pub weight : settles_left new ≡ settles_left old
   pub units : settled_units new ≡ settled_units old
-  pub working : state_of old ≡ Working
-  pub state : state_of new ≡ state_of old
+  pub working : live_state old ≡ Working
+  pub state : live_state new ≡ live_state old
   pub same : SameSpec old new
 
 -- the task has its piece no longer out
@@ -173,22 +173,22 @@ Gives old (Some p) new = (0 < length (claimable_in old)) × Takes old p.task (wo
 
 -- a settle of so many units
 pub record Pays (old : Live) (d : Came) (n : ℕ) (new : Live) : Type 0 where
-  pub returns : Returns old d.task (brought d) new
-  pub working : state_of old ≡ Working
-  pub after : (state_of new ≡ Working) ⊎ (state_of new ≡ Ended)
-  pub weight : weight_of new < weight_of old
+  pub returns : Returns old d.task (work_brought d) new
+  pub working : live_state old ≡ Working
+  pub after : (live_state new ≡ Working) ⊎ (live_state new ≡ Ended)
+  pub weight : settles_left new < settles_left old
   pub units : settled_units new ≡ settled_units old + n
   pub few : settled_units new ≤ 20000
 
 -- a piece that is out fails its job
 pub record Breaks (old : Live) (d : Came) (new : Live) : Type 0 where
-  pub returns : Returns old d.task (brought d) new
-  pub state : state_of new ≡ after_failure (out_of new)
-  pub going : ((state_of old ≡ Working) × (out_of old ≤ weight_of old)) ⊎ (state_of old ≡ Failing)
+  pub returns : Returns old d.task (work_brought d) new
+  pub state : live_state new ≡ after_failure (out_of new)
+  pub going : ((live_state old ≡ Working) × (out_of old ≤ settles_left old)) ⊎ (live_state old ≡ Failing)
   pub units : settled_units new ≡ settled_units old
 
 pub record Aborts (old new : Live) : Type 0 where
-  pub state : state_of new ≡ after_failure (out_of new)
+  pub state : live_state new ≡ after_failure (out_of new)
   pub works : (k : ℕ) → work_at new k ≡ work_at old k
   pub out : out_of new ≡ out_of old
   pub units : settled_units new ≡ settled_units old

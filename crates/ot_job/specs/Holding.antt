@@ -47,6 +47,6 @@ abbrev pub HavePresent : Live → Type 0
 HavePresent j = (i : ℕ) (run : Run) → (at j.regions i).running ≡ Some run → run.lease ≡ lease_of (lent_from (worths j.owned j.cells) run.lease.uses)
 
 -- no two pieces that are out hold what conflicts
-abbrev pub AreApart : Live → Type 0
-AreApart j =
+abbrev pub ArePiecesApart : Live → Type 0
+ArePiecesApart j =
     (i k : ℕ) (one two : Run) → i ≢ k → (at j.regions i).running ≡ Some one → (at j.regions k).running ≡ Some two → ¬ Conflict one.lease.uses two.lease.uses

@@ -9,11 +9,11 @@ use Rattle.ot_job.specs.declared.state.State.{State}
 use Rattle.ot_job.specs.declared.state.State.TheVariants.{Working, Ended}
 
 -- what is left of the job, run serially from what its cells are worth, gives the serial meaning of its program
-abbrev pub IsKept : Live → Type 0
-IsKept j = left_of (wholes j.regions) (state_of (worths j.owned j.cells) j.counts) ≡ serial_run j.program.body j.before
+abbrev pub KeepsMeaning : Live → Type 0
+KeepsMeaning j = left_of (wholes j.regions) (state_of (worths j.owned j.cells) j.counts) ≡ serial_run j.program.body j.before
 
 -- a job that is going well, or has ended
 abbrev pub IsKeptIn : State → Live → Type 0
-IsKeptIn Working j = IsKept j
-IsKeptIn Ended j = IsKept j
+IsKeptIn Working j = KeepsMeaning j
+IsKeptIn Ended j = KeepsMeaning j
 IsKeptIn state j = Unit {0}

@@ -12,8 +12,8 @@ children_left todo p k (q ∷ qs) s =
     children_left todo p (k + 1) qs (if q == p then serial (todo k) (children_left todo k (k + 1) qs s) else s)
 
 -- what is left of the job: of the root's children, and then of the root
-abbrev pub left : (ℕ → Body) → List ℕ → State → State
-left todo parents s = serial (todo 0) (children_left todo 0 1 parents s)
+abbrev pub left_of_job : (ℕ → Body) → List ℕ → State → State
+left_of_job todo parents s = serial (todo 0) (children_left todo 0 1 parents s)
 
 -- How many pieces of a job are out.
 

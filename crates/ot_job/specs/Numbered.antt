@@ -2,15 +2,15 @@
 use Rattle.std.specs.Prelude.{ℕ, zero, suc, Bool, true, List, [], ◌∷◌, map, None}
 use Rattle.ot_model.specs.Tree.{Body, End}
 use Rattle.ot_model.specs.Serial.{State}
-use Rattle.ot_job.specs.Left.{left}
+use Rattle.ot_job.specs.Left.{left_of_job}
 use Rattle.ot_job_task.specs.Regions.{todo, Region}
 
 -- no region
-abbrev pub gone : Region
-gone = record { parent = 0; child = 0; own = None; rest = End; groups = []; children = []; waiting = None; ended = true; running = None }
+abbrev pub empty_region : Region
+empty_region = record { parent = 0; child = 0; own = None; rest = End; groups = []; children = []; waiting = None; ended = true; running = None }
 
 abbrev pub at : List Region → ℕ → Region
-at [] i = gone
+at [] i = empty_region
 at (r ∷ rs) zero = r
 at (r ∷ rs) (suc i) = at rs i
 
@@ -30,4 +30,4 @@ parents (r ∷ rs) = map (λ x. x.parent) rs
 
 -- what is left of the job, run serially
 abbrev pub left_of : List Region → State → State
-left_of rs s = left (todo_at rs) (parents rs) s
+left_of rs s = left_of_job (todo_at rs) (parents rs) s

@@ -9,9 +9,9 @@ use Rattle.ot_job_task.specs.Regions.{Open, Region}
 use Rattle.ot_job.specs.Numbered.{at}
 
 -- the numbers of all open groups
-abbrev pub numbers_in : List Region → List ℕ
-numbers_in [] = []
-numbers_in (r ∷ rs) = map (λ o. o.group) r.groups ++ numbers_in rs
+abbrev pub open_group_numbers : List Region → List ℕ
+open_group_numbers [] = []
+open_group_numbers (r ∷ rs) = map (λ o. o.group) r.groups ++ open_group_numbers rs
 
 -- copies are kept by the operation of the open group, and of the cells that it names
 abbrev pub IsFor : Open → Summed → Type 0
@@ -19,7 +19,7 @@ IsFor o g = (g.op ≡ o.op) × ((c : Cell) → names c g ≡ has_cell o.cells c)
 
 -- copies are kept for each open group of a task and for no other
 pub record AreOpen (rs : List Region) (gs : List Summed) : Type 0 where
-  pub numbers : IsPermutation (map (λ g. g.group) gs) (numbers_in rs)
+  pub numbers : IsPermutation (map (λ g. g.group) gs) (open_group_numbers rs)
   pub same : (i : ℕ) (o : Open) (g : Summed) → Contains (at rs i).groups o → Contains gs g → g.group ≡ o.group → IsFor o g
 
 -- the room is for the operation of the group that comes next, and names its cells; there is one where one comes next

@@ -11,14 +11,14 @@ use Rattle.ot_depend.specs.Siblings.{Sibling, IsReady, is_in}
 use Rattle.ot_check.specs.Offences.{use_as, Declared, Openings, allows, folds_to, has_cell, EachTouch, EachTask}
 use Rattle.ot_job.specs.Numbered.{at, parent_of, ended_at}
 use Rattle.ot_job_task.specs.Regions.{Open, todo, Region}
-use Rattle.ot_job.specs.Awaiting.{opened, IsFineAt, AwaitsAll, unawaited}
+use Rattle.ot_job.specs.Awaiting.{openings_of, IsFineAt, AwaitsAll, unfinished_unawaited}
 
 abbrev pub may_at : List Region → ℕ → Use → Type 0
 may_at rs i u = allows (at rs i).own u ≡ true
 
 -- the task is the root, or ready by its parent's table
-abbrev pub IsBegun : List Region → ℕ → Type 0
-IsBegun rs i = 0 < i → (i < length rs) × IsReady (at rs (parent_of rs i)).children (at rs i).child
+abbrev pub IsRootOrReady : List Region → ℕ → Type 0
+IsRootOrReady rs i = 0 < i → (i < length rs) × IsReady (at rs (parent_of rs i)).children (at rs i).child
 
 -- a task's entry in its parent's table
 pub record IsKin (rs : List Region) (i : ℕ) : Type 0 where
@@ -43,26 +43,26 @@ grouped_in (g ∷ gs) s o c = ((same_fold g.op o && has_cell g.cells c) && is_in
 -- no cell is named by two of the groups
 abbrev pub NamedOnce : List Open → Type 0
 NamedOnce [] = Unit {0}
-NamedOnce (g ∷ gs) = ((o : Operation) (c : Cell) → has_cell g.cells c ≡ true → opened gs o c ≡ false) × NamedOnce gs
+NamedOnce (g ∷ gs) = ((o : Operation) (c : Cell) → has_cell g.cells c ≡ true → openings_of gs o c ≡ false) × NamedOnce gs
 
 -- the declaration lets the body make each of its touches
 abbrev pub LetsAll : List Use → Body → Type 0
 LetsAll uses body = EachTouch (λ u. allows (Some uses) u ≡ true) body
 
 -- what holds of one region
-pub record IsPlaced (r : Region) : Type 0 where
-  pub fine : IsFineAt r.own (unawaited r.waiting r.children) r.rest r.groups
+pub record IsSoundRegion (r : Region) : Type 0 where
+  pub fine : IsFineAt r.own (unfinished_unawaited r.waiting r.children) r.rest r.groups
   pub inside : EachTouch (λ u. allows r.own u ≡ true) (todo r.rest r.groups)
   pub tasks : EachTask LetsAll (todo r.rest r.groups)
-  pub awaits : (uses : List Use) → r.own ≡ Some uses → AwaitsAll (unawaited r.waiting r.children) r.rest r.groups
+  pub awaits : (uses : List Use) → r.own ≡ Some uses → AwaitsAll (unfinished_unawaited r.waiting r.children) r.rest r.groups
   pub within : (k : ℕ) (s : Sibling) → slice_get r.children k ≡ Some s → (u : Use) → allows (Some s.uses) u ≡ true → allows r.own u ≡ true
   pub apart : (k l : ℕ) (s t : Sibling) → slice_get r.children k ≡ Some s → slice_get r.children l ≡ Some t → s.finished ≡ false → t.finished ≡ false → DontMix s.uses t.uses
   pub over : r.ended ≡ true → todo r.rest r.groups ≡ End
   pub shut : r.ended ≡ true → r.groups ≡ []
   pub once : NamedOnce r.groups
-  pub writes : (o : Operation) (c : Cell) → opened r.groups o c ≡ true → allows r.own (use_as Writes c) ≡ true
+  pub writes : (o : Operation) (c : Cell) → openings_of r.groups o c ≡ true → allows r.own (use_as Writes c) ≡ true
   pub grouped : (k : ℕ) (s : Sibling) → slice_get r.children k ≡ Some s → s.finished ≡ false → (o : Operation) (c : Cell) → folds_to (Some s.uses) o c ≡ true → (folds_to r.own o c ≡ true) ⊎ (grouped_in r.groups s o c ≡ true)
-  pub reduced : (k : ℕ) (s : Sibling) → slice_get r.children k ≡ Some s → s.finished ≡ false → (o : Operation) (c : Cell) → opened r.groups o c ≡ true → OnlyFolds o (Some s.uses) c
+  pub reduced : (k : ℕ) (s : Sibling) → slice_get r.children k ≡ Some s → s.finished ≡ false → (o : Operation) (c : Cell) → openings_of r.groups o c ≡ true → OnlyFolds o (Some s.uses) c
   pub exclusive : (o : Operation) (c : Cell) → folds_to r.own o c ≡ true → OnlyFolds o r.own c
 
 -- the task of an entry in a table
@@ -73,14 +73,14 @@ pub record HasTask (rs : List Region) (parent child : ℕ) : Type 0 where
   pub of : parent_of rs task ≡ parent
   pub is : (at rs task).child ≡ child
 
-pub record IsSound (rs : List Region) : Type 0 where
+pub record IsSoundRegions (rs : List Region) : Type 0 where
   pub root : (at rs 0).own ≡ None
   pub top : parent_of rs 0 ≡ 0
   pub down : (i : ℕ) → 0 < i → parent_of rs i < i
   pub kin : (i : ℕ) → 0 < i → i < length rs → IsKin rs i
   pub entries : (p k : ℕ) (s : Sibling) → slice_get (at rs p).children k ≡ Some s → HasTask rs p k
   pub older : (a b : ℕ) → 0 < b → b < a → a < length rs → parent_of rs b ≡ parent_of rs a → (at rs b).child < (at rs a).child
-  pub begun : (i : ℕ) → 0 < i → i < length rs → IsBegun rs (parent_of rs i)
-  pub entered : (i : ℕ) (o : Open) (os : List Open) → (at rs i).groups ≡ o ∷ os → IsBegun rs i
-  pub placed : (i : ℕ) → IsPlaced (at rs i)
+  pub begun : (i : ℕ) → 0 < i → i < length rs → IsRootOrReady rs (parent_of rs i)
+  pub entered : (i : ℕ) (o : Open) (os : List Open) → (at rs i).groups ≡ o ∷ os → IsRootOrReady rs i
+  pub placed : (i : ℕ) → IsSoundRegion (at rs i)
   pub done : (i : ℕ) → 0 < i → ended_at rs i ≡ true → (k : ℕ) (s : Sibling) → slice_get (at rs i).children k ≡ Some s → s.finished ≡ true

@@ -4,7 +4,7 @@ use Rattle.ot_model.specs.Tree.{E, Body, val}
 use Rattle.ot_model.specs.declared.expr.Cell.{Cell}
 use Rattle.ot_owner.specs.Lending.{first_at, value_at}
 use Rattle.ot_owner.specs.declared.lent.LentCell.{LentCell}
-use Rattle.ot_job_task.specs.Copies.{assigned}
+use Rattle.ot_job_task.specs.Copies.{copies_assigned}
 use Rattle.ot_job_task.specs.Pieces.{Runs, leading_len}
 use Rattle.ot_job_task.specs.Regions.{Region}
 use Rattle.ot_job.specs.Numbered.{at}
@@ -30,7 +30,7 @@ is_short p = nat_lt (leading_len p.assigns) 64
 
 -- it was run: its copies have what its assigns make of the inputs, and the answer is its condition's value on them
 pub record IsRun (d : Came) : Type 0 where
-  pub made : (cell : Cell) → value_at d.lent cell ≡ assigned d.assigns (first_at d.lent) cell
+  pub made : (cell : Cell) → value_at d.lent cell ≡ copies_assigned d.assigns (first_at d.lent) cell
   pub told : d.answer ≡ option_map (λ e. val (value_at d.lent) e) d.test
 
 -- the worker that has a region's piece

@@ -8,11 +8,11 @@ abbrev pub assigns_out : Option Run → Body
 assigns_out None = End
 assigns_out (Some run) = run.assigns
 
-abbrev pub whole : Region → Region
-whole r = record r { rest = append (assigns_out r.running) r.rest; running = None }
+abbrev pub whole_region : Region → Region
+whole_region r = record r { rest = append (assigns_out r.running) r.rest; running = None }
 
 abbrev pub wholes : List Region → List Region
-wholes rs = map whole rs
+wholes rs = map whole_region rs
 
 -- what a piece holds, as it is out to its worker
 abbrev pub loan_in : Run → Loan

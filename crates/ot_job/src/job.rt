@@ -52,12 +52,12 @@ impl Job {
     ghost use Rattle.ot_owner.specs.Owning.{NoTwoShare};
     ghost use Rattle.ot_owner.specs.Worth.{worth};
     ghost use Rattle.ot_job.specs.Moves.{Settles, Refuses, Claimed};
-    ghost use Rattle.ot_job.specs.Claiming.{picked};
-    ghost use Rattle.ot_job.specs.Dealings.{Starts, Fails, state_in, claimable_in, aborted, state_of, IsOver, NoneOut, IsOf};
+    ghost use Rattle.ot_job.specs.Claiming.{picked_at};
+    ghost use Rattle.ot_job.specs.Dealings.{Starts, Fails, state_in, claimable_in, job_aborted, live_state, IsOver, NoneOut, IsOf};
     ghost use Rattle.ot_job.specs.declared.state.State.TheVariants.{Working, Failing, Ended, Failed};
     ghost use Rattle.ot_check.specs.Jobs.{Spec, IsMeaning};
     ghost use Rattle.ot_job.specs.Kept.{IsKeptIn};
-    ghost use Rattle.ot_job.specs.Holding.{AllHold, HavePresent, AreApart};
+    ghost use Rattle.ot_job.specs.Holding.{AllHold, HavePresent, ArePiecesApart};
 
     /// A job that begins. It has the whole program left. Where memory is refused, the spec comes back.
     pub fn start(alloc: Global, spec: JobSpec) -> Result<Job, (JobSpec, AllocError)>
@@ -80,13 +80,13 @@ impl Job {
     /// Where it stands, and what holds of it there: its arrays are as long as those that were handed in. It
     /// takes no memory.
     pub fn state(&self) -> State
-        ensures is { result ≡ state_of self.now }
+        ensures is { result ≡ live_state self.now }
         ensures calm { IsOver result → NoneOut self.now }
         ensures going { result ≡ Failing → NoneOut self.now → ⊥ }
         ensures kept { IsKeptIn result self.now }
         ensures holds { AllHold self.now }
         ensures present { HavePresent self.now }
-        ensures apart { AreApart self.now }
+        ensures apart { ArePiecesApart self.now }
         ensures lengths { lengths self.now.cells ≡ lengths self.now.before }
     {
         if self.failing {
@@ -106,7 +106,7 @@ impl Job {
     /// no memory.
     pub fn claimable(&self) -> usize
         ensures count { result ≡ length (claimable_in self.now) }
-        ensures never_stuck { state_of self.now ≡ Working → NoneOut self.now → 0 < result }
+        ensures never_stuck { live_state self.now ≡ Working → NoneOut self.now → 0 < result }
         ensures few { result ≤ 20001 }
     {
         if self.failing {
@@ -132,7 +132,7 @@ impl Job {
 
     /// The claimable task at `pick` modulo their count. A job that fails has none.
     fn pick(&self, pick: usize) -> Option<usize>
-        ensures { result ≡ picked (claimable_in self.now) pick }
+        ensures { result ≡ picked_at (claimable_in self.now) pick }
     {
         if self.failing {
             return None;
@@ -152,7 +152,7 @@ impl Job {
     ) -> Result<Option<Piece>, AllocError>
         requires { (1 ≤ worker) × (worker ≤ 16) }
         ensures claimed { IfOk result (λ p. Claimed self.old pick worker p self.new) }
-        ensures working { OnErr result (state_of self.old ≡ Working) }
+        ensures working { OnErr result (live_state self.old ≡ Working) }
         ensures some { OnErr result (0 < length (claimable_in self.old)) }
         ensures refused { OnErr result (self.new ≡ self.old) }
     {
@@ -261,7 +261,7 @@ impl Job {
     /// Makes a working job fail. It takes no memory.
     pub fn abort(&mut self)
         requires { state_in self.old ≡ Working }
-        ensures { self.new ≡ aborted self.old }
+        ensures { self.new ≡ job_aborted self.old }
     {
         self.failing = true;
     }

@@ -1,7 +1,7 @@
 //! What a job does with its owners: it lends behind a group's end, and takes back before a group is opened.
 ghost use Rattle.std.specs.Prelude.{◌≡◌, IfOk, IfSome, option_map};
 ghost use Rattle.ot_owner.specs.Keeping.{IsOpenable};
-ghost use Rattle.ot_job.specs.Calls.{IsBack, IsLent, MayLend, MayTakeBack};
+ghost use Rattle.ot_job.specs.Calls.{IsBack, IsLentBy, MayLend, MayTakeBack};
 ghost use Rattle.ot_job.specs.Opened.{IsRoomFor};
 
 use crate::piece::Done;
@@ -13,7 +13,7 @@ use std::alloc::{AllocError, Global};
 /// what was folded among its inputs. It takes no memory.
 pub(crate) fn lend(owners: &mut Owners, cells: &mut Cells, passed: Option<u32>, slip: Slip) -> Lent
     requires { MayLend owners.old cells.old passed slip }
-    ensures { IsLent owners.old.owned cells.old passed slip result owners.new.owned cells.new }
+    ensures { IsLentBy owners.old.owned cells.old passed slip result owners.new.owned cells.new }
 {
     let Some(group) = passed else {
         return owners.lease(cells, slip);

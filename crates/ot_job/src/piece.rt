@@ -66,7 +66,7 @@ impl Model for Done {
 
 impl Piece {
     ghost use Rattle.ot_job_task.specs.Assigns.{CanRun};
-    ghost use Rattle.ot_job.specs.Dealings.{brought, work_of};
+    ghost use Rattle.ot_job.specs.Dealings.{work_brought, work_of};
     ghost use Rattle.ot_job.specs.Taken.{is_short};
 
     /// A piece that may be run on these copies.
@@ -99,7 +99,7 @@ impl Piece {
     /// Makes the assignments on the copies, and evaluates the condition. It takes no memory.
     pub fn run(self) -> Done
         ensures task { result.task ≡ self.task }
-        ensures ran { brought result ≡ work_of self }
+        ensures ran { work_brought result ≡ work_of self }
         ensures made { IsRun result }
     {
         let Piece {

@@ -1,7 +1,7 @@
-ghost use Rattle.ot_job_task.specs.Regions.{executed, over, stopped, tasks_next, without, root_region, weight_of};
+ghost use Rattle.ot_job_task.specs.Regions.{control_executed, over, region_stopped, tasks_next, without, root_region, weight_of};
 ghost use Rattle.std.specs.Prelude.{◌≡◌, ◌<◌, ◌≤◌, length, vec_len, OnOk, OnErr, ◌^◌, [], ◌∷◌, None, false, slice_index_or, IfOk};
 ghost use Rattle.ot_job.specs.Numbered.{at, parent_of};
-ghost use Rattle.ot_job.specs.Moves.{CreatesInOrder, closed, moved_on, settled};
+ghost use Rattle.ot_job.specs.Moves.{CreatesInOrder, region_ended_at, moved_on, regions_settled};
 
 use crate::pick::{is_claimable, refresh_children};
 use ot_job_roster::Roster;
@@ -40,8 +40,8 @@ impl Tasks {
     ghost use Rattle.std.specs.Arc.{arc_value};
     ghost use Rattle.ot_model.specs.Cells.{updated};
     ghost use Rattle.ot_parts.specs.Parts.{parts_of};
-    ghost use Rattle.ot_job_task.specs.Pieces.{leading, awake, begun};
-    ghost use Rattle.ot_job.specs.Claiming.{claimable_of, picked};
+    ghost use Rattle.ot_job_task.specs.Pieces.{leading, awake, piece_begun};
+    ghost use Rattle.ot_job.specs.Claiming.{claimable_of, picked_at};
     ghost use Rattle.ot_job.specs.Dealings.{any_out, all_ended};
     ghost use Rattle.ot_job.specs.Calls.{HasPiece, MayEnd, MayFinish};
 
@@ -93,7 +93,7 @@ impl Tasks {
 
     /// The claimable task at `pick` modulo their count.
     pub fn pick(&self, pick: usize) -> Option<usize>
-        ensures { result ≡ picked (claimable_of self.now) pick }
+        ensures { result ≡ picked_at (claimable_of self.now) pick }
     {
         let count = self.roster.count();
         if count == 0 {
@@ -107,7 +107,7 @@ impl Tasks {
         requires known { i < length self.old }
         requires idle { (at self.old i).running ≡ None }
         requires assigns { running.assigns ≡ leading (awake (at self.old i)).rest }
-        ensures { self.new ≡ updated self.old i (begun running.worker running.lease) }
+        ensures { self.new ≡ updated self.old i (piece_begun running.worker running.lease) }
     {
         self.tasks[i].begin(running);
         self.roster.begin(i);
@@ -116,7 +116,7 @@ impl Tasks {
     /// The piece of a task is not out any more. It takes no memory.
     pub fn stop(&mut self, i: usize)
         requires { HasPiece self.old i }
-        ensures { self.new ≡ updated self.old i stopped }
+        ensures { self.new ≡ updated self.old i region_stopped }
     {
         self.tasks[i].stop();
         self.roster.stop(i, is_claimable(&self.tasks, i));
@@ -133,7 +133,7 @@ impl Tasks {
     ) -> Result<(), AllocError>
         requires { MayEnd self.old i }
         ensures ordered { OnOk result (CreatesInOrder (at self.old i)) }
-        ensures settled { OnOk result (self.new ≡ settled taken group i self.old) }
+        ensures settled { OnOk result (self.new ≡ regions_settled taken group i self.old) }
         ensures refused { OnErr result (self.new ≡ self.old) }
     {
         self.move_on(alloc, i, taken, group)?;
@@ -168,7 +168,7 @@ impl Tasks {
     /// A task ends its body. It takes no memory.
     fn close(&mut self, i: usize)
         requires { MayEnd self.old i }
-        ensures { self.new ≡ closed i self.old }
+        ensures { self.new ≡ region_ended_at i self.old }
     {
         if i > 0 {
             self.tell_parent(i);
@@ -210,7 +210,7 @@ impl Tasks {
         requires piece { HasPiece self.old i }
         requires none { tasks_next (at self.old i).rest ≡ 0 }
         ensures ordered { OnOk result (CreatesInOrder (at self.old i)) }
-        ensures executed { OnOk result (self.new ≡ executed taken group i self.old) }
+        ensures executed { OnOk result (self.new ≡ control_executed taken group i self.old) }
         ensures refused { OnErr result (self.new ≡ self.old) }
     {
         execute(&mut self.tasks, alloc, i, taken, group)
@@ -221,7 +221,7 @@ impl Tasks {
         requires piece { HasPiece self.old i }
         requires some { tasks_next (at self.old i).rest ≡ 0 → ⊥ }
         ensures ordered { OnOk result (CreatesInOrder (at self.old i)) }
-        ensures executed { OnOk result (self.new ≡ executed taken group i self.old) }
+        ensures executed { OnOk result (self.new ≡ control_executed taken group i self.old) }
         ensures refused { OnErr result (self.new ≡ self.old) }
     {
         let number = self.tasks.len();
@@ -243,7 +243,7 @@ pub fn execute(
     group: u32,
 ) -> Result<(), AllocError>
     requires known { i < vec_len tasks.old }
-    ensures executed { OnOk result (tasks.new.items ≡ executed taken group i tasks.old.items) }
+    ensures executed { OnOk result (tasks.new.items ≡ control_executed taken group i tasks.old.items) }
     ensures ordered { OnOk result (CreatesInOrder (at tasks.old.items i)) }
     ensures refused { OnErr result (tasks.new.items ≡ tasks.old.items) }
     ensures long { length tasks.old.items ≤ length tasks.new.items }

@@ -7,21 +7,21 @@ use Rattle.std.proofs.lemmas.List.FromFn.{length-range_with_len}
 use Rattle.std.proofs.lemmas.List.Sums.{count_by-le-length, length-filter}
 use Rattle.std.proofs.Math.Seq.{get_or-append_seam}
 use Rattle.ot_job_roster.specs.Listed.{has, IsListBelow}
-use Rattle.ot_job_roster.specs.Members.{Member, Kept, IsAlone, AreNumbered, Tells, passing, put, goes_out, comes_back, ends, with_kid, with_member}
+use Rattle.ot_job_roster.specs.Members.{Member, Kept, IsAlone, AreNumbered, Tells, passing, told_put, goes_out, comes_back, ends, with_kid, with_member}
 use Rattle.ot_job_roster.proofs.ListedLemmas.{below-but, below-fewer, below-more, counted-one, get_or-behind, has-those, list-is, listed, those-more, those-same}
 
 -- ---- what is told of one number
 
-pub put-here : {A : Type 0} (f : ℕ → A) (i : ℕ) (x : A) → put f i x i ≡ x
+pub put-here : {A : Type 0} (f : ℕ → A) (i : ℕ) (x : A) → told_put f i x i ≡ x
 put-here f i x = ap (λ b. if b then x else f i) (eq-eqb i i refl)
 
-pub put-other : {A : Type 0} (f : ℕ → A) (i : ℕ) (x : A) (k : ℕ) → k ≢ i → put f i x k ≡ f k
+pub put-other : {A : Type 0} (f : ℕ → A) (i : ℕ) (x : A) (k : ℕ) → k ≢ i → told_put f i x k ≡ f k
 put-other f i x k apart = ap (λ b. if b then x else f k) (ne_eqb k i apart)
 
 -- what is the same of it there is so everywhere
-pub put-field : {A B : Type 0} (g : A → B) (f : ℕ → A) (i : ℕ) (x : A) → g x ≡ g (f i) → (k : ℕ) → g (put f i x k) ≡ g (f k)
+pub put-field : {A B : Type 0} (g : A → B) (f : ℕ → A) (i : ℕ) (x : A) → g x ≡ g (f i) → (k : ℕ) → g (told_put f i x k) ≡ g (f k)
 put-field g f i x same k = elim (cases_eq k i) [
-  | inl is ↦ ap (λ n. g (put f i x n)) is ∙ ap g (put-here f i x) ∙ same ∙ sym (ap (λ n. g (f n)) is)
+  | inl is ↦ ap (λ n. g (told_put f i x n)) is ∙ ap g (put-here f i x) ∙ same ∙ sym (ap (λ n. g (f n)) is)
   | inr apart ↦ ap g (put-other f i x k apart)
 ]
 
@@ -31,17 +31,17 @@ count-same : (f g : ℕ → Bool) (n : ℕ) → ((k : ℕ) → f k ≡ g k) → 
 count-same f g n same = ap length (those-same f g 0 n (λ k low high. same k))
 
 -- one more does
-pub count-one : {A : Type 0} (g : A → Bool) (f : ℕ → A) (n i : ℕ) (x : A) → i < n → g (f i) ≡ false → g x ≡ true → length (passing (λ k. g (put f i x k)) n) ≡ length (passing (λ k. g (f k)) n) + 1
+pub count-one : {A : Type 0} (g : A → Bool) (f : ℕ → A) (n i : ℕ) (x : A) → i < n → g (f i) ≡ false → g x ≡ true → length (passing (λ k. g (told_put f i x k)) n) ≡ length (passing (λ k. g (f k)) n) + 1
 count-one g f n i x within fails passes =
-    counted-one (λ k. g (f k)) (λ k. g (put f i x k)) 0 n i (omega arith) (omega (arith, within)) fails (ap g (put-here f i x) ∙ passes) (λ k apart. ap g (put-other f i x k apart))
+    counted-one (λ k. g (f k)) (λ k. g (told_put f i x k)) 0 n i (omega arith) (omega (arith, within)) fails (ap g (put-here f i x) ∙ passes) (λ k apart. ap g (put-other f i x k apart))
 
 -- one fewer does
-pub count-none : {A : Type 0} (g : A → Bool) (f : ℕ → A) (n i : ℕ) (x : A) → i < n → g (f i) ≡ true → g x ≡ false → length (passing (λ k. g (f k)) n) ≡ length (passing (λ k. g (put f i x k)) n) + 1
+pub count-none : {A : Type 0} (g : A → Bool) (f : ℕ → A) (n i : ℕ) (x : A) → i < n → g (f i) ≡ true → g x ≡ false → length (passing (λ k. g (f k)) n) ≡ length (passing (λ k. g (told_put f i x k)) n) + 1
 count-none g f n i x within passes fails =
-    counted-one (λ k. g (put f i x k)) (λ k. g (f k)) 0 n i (omega arith) (omega (arith, within)) (ap g (put-here f i x) ∙ fails) passes (λ k apart. sym (ap g (put-other f i x k apart)))
+    counted-one (λ k. g (told_put f i x k)) (λ k. g (f k)) 0 n i (omega arith) (omega (arith, within)) (ap g (put-here f i x) ∙ fails) passes (λ k apart. sym (ap g (put-other f i x k apart)))
 
-pub count-kept : {A : Type 0} (g : A → Bool) (f : ℕ → A) (n i : ℕ) (x : A) → g x ≡ g (f i) → length (passing (λ k. g (put f i x k)) n) ≡ length (passing (λ k. g (f k)) n)
-count-kept g f n i x same = count-same (λ k. g (put f i x k)) (λ k. g (f k)) n (put-field g f i x same)
+pub count-kept : {A : Type 0} (g : A → Bool) (f : ℕ → A) (n i : ℕ) (x : A) → g x ≡ g (f i) → length (passing (λ k. g (told_put f i x k)) n) ≡ length (passing (λ k. g (f k)) n)
+count-kept g f n i x same = count-same (λ k. g (told_put f i x k)) (λ k. g (f k)) n (put-field g f i x same)
 
 -- among one number more, that doesn't pass
 longer-same : (f g : ℕ → Bool) (n : ℕ) → g n ≡ false → ((k : ℕ) → k < n → g k ≡ f k) → length (passing g (n + 1)) ≡ length (passing f n)
@@ -52,17 +52,17 @@ longer-same f g n fails same =
 -- and among one that does
 longer-one : (f g : ℕ → Bool) (n : ℕ) → g n ≡ true → ((k : ℕ) → k < n → g k ≡ f k) → length (passing g (n + 1)) ≡ length (passing f n) + 1
 longer-one f g n passes same =
-    let less = longer-same f (put g n false) n (put-here g n false) (λ k h. put-other g n false k (λ e. absurd (omega (arith, e, h))) ∙ same k h) in
-    let one = counted-one (put g n false) g 0 (n + 1) n (omega arith) (omega arith) (put-here g n false) passes (λ k apart. sym (put-other g n false k apart)) in
+    let less = longer-same f (told_put g n false) n (put-here g n false) (λ k h. put-other g n false k (λ e. absurd (omega (arith, e, h))) ∙ same k h) in
+    let one = counted-one (told_put g n false) g 0 (n + 1) n (omega arith) (omega arith) (put-here g n false) passes (λ k apart. sym (put-other g n false k apart)) in
     omega (arith, one, less)
 
 -- ---- which are listed
 
 pub put-listed : (n room : ℕ) (test : ℕ → Bool) (i : ℕ) (b : Bool) (old new : List ℕ) → i < n → n ≤ room → old ≡ passing test n → IsListBelow room new → has i new ≡ b → ((k : ℕ) → k ≢ i → has k new ≡ has k old)
-    → new ≡ passing (put test i b) n
+    → new ≡ passing (told_put test i b) n
 put-listed n room test i b old new within enough was ordered here others =
-    list-is (put test i b) n new (below-but n room old new i within enough (listed test n old was) ordered others) (λ k h. elim (cases_eq k i) [
-      | inl is ↦ subst (λ j. has j new ≡ put test i b j) (sym is) (here ∙ sym (put-here test i b))
+    list-is (told_put test i b) n new (below-but n room old new i within enough (listed test n old was) ordered others) (λ k h. elim (cases_eq k i) [
+      | inl is ↦ subst (λ j. has j new ≡ told_put test i b j) (sym is) (here ∙ sym (put-here test i b))
       | inr apart ↦ others k apart ∙ ap (has k) was ∙ has-those test 0 n k (omega arith) (omega (arith, h)) ∙ sym (put-other test i b k apart)
     ])
 
@@ -97,7 +97,7 @@ tells-same n s t f g r same passes old = record {
 
 -- as the list tells that is made of it
 pub tells-marked : (n : ℕ) (s : ℕ → Member) (test : ℕ → Bool) (r : Kept) (room i : ℕ) (b : Bool) (new : List ℕ) → i < n → n ≤ room → IsListBelow room new → has i new ≡ b → ((k : ℕ) → k ≢ i → has k new ≡ has k r.listed)
-    → Tells n s test r → Tells n s (put test i b) (record r { listed = new; room = room })
+    → Tells n s test r → Tells n s (told_put test i b) (record r { listed = new; room = room })
 tells-marked n s test r room i b new within enough ordered here others old = record {
   free = put-listed n room test i b r.listed new within enough old.free ordered here others;
   out = old.out;
@@ -107,26 +107,26 @@ tells-marked n s test r room i b new within enough ordered here others old = rec
 
 -- ---- one member changes, and neither whose child it is nor how many it has
 
-pub numbered-put : (n : ℕ) (s : ℕ → Member) (numbers : List (List ℕ)) (i : ℕ) (m : Member) → m.parent ≡ (s i).parent → m.child ≡ (s i).child → m.kids ≡ (s i).kids → AreNumbered n s numbers → AreNumbered n (put s i m) numbers
+pub numbered-put : (n : ℕ) (s : ℕ → Member) (numbers : List (List ℕ)) (i : ℕ) (m : Member) → m.parent ≡ (s i).parent → m.child ≡ (s i).child → m.kids ≡ (s i).kids → AreNumbered n s numbers → AreNumbered n (told_put s i m) numbers
 numbered-put n s numbers i m up place many old = record {
   long = old.long;
   kids = λ p. old.kids p ∙ sym (kids p);
   known = λ p c h. old.known p c (omega (arith, h, kids p));
-  placed = λ k pos h. omega (arith, old.placed k pos h, child k, kids (put s i m k).parent, ap (λ p. (s p).kids) (parent k));
-  is = λ k pos h. ap (λ p. get_or (get_or numbers p []) (put s i m k).child 0) (parent k) ∙ ap (λ c. get_or (get_or numbers (s k).parent []) c 0) (child k) ∙ old.is k pos h;
+  placed = λ k pos h. omega (arith, old.placed k pos h, child k, kids (told_put s i m k).parent, ap (λ p. (s p).kids) (parent k));
+  is = λ k pos h. ap (λ p. get_or (get_or numbers p []) (told_put s i m k).child 0) (parent k) ∙ ap (λ c. get_or (get_or numbers (s k).parent []) c 0) (child k) ∙ old.is k pos h;
 }
   where
-    parent : (k : ℕ) → (put s i m k).parent ≡ (s k).parent
+    parent : (k : ℕ) → (told_put s i m k).parent ≡ (s k).parent
     parent = put-field (λ m. m.parent) s i m up
 
-    child : (k : ℕ) → (put s i m k).child ≡ (s k).child
+    child : (k : ℕ) → (told_put s i m k).child ≡ (s k).child
     child = put-field (λ m. m.child) s i m place
 
-    kids : (k : ℕ) → (put s i m k).kids ≡ (s k).kids
+    kids : (k : ℕ) → (told_put s i m k).kids ≡ (s k).kids
     kids = put-field (λ m. m.kids) s i m many
 
 -- it goes out
-pub tells-out : (n : ℕ) (s : ℕ → Member) (test : ℕ → Bool) (r : Kept) (i : ℕ) → i < n → (s i).out ≡ false → Tells n s test r → Tells n (put s i (goes_out (s i))) test (record r { out = r.out + 1 })
+pub tells-out : (n : ℕ) (s : ℕ → Member) (test : ℕ → Bool) (r : Kept) (i : ℕ) → i < n → (s i).out ≡ false → Tells n s test r → Tells n (told_put s i (goes_out (s i))) test (record r { out = r.out + 1 })
 tells-out n s test r i within idle old = record {
   free = old.free;
   out = omega (arith, old.out, count-one (λ m. m.out) s n i (goes_out (s i)) within idle refl);
@@ -135,7 +135,7 @@ tells-out n s test r i within idle old = record {
 }
 
 -- it comes back
-pub tells-back : (n : ℕ) (s : ℕ → Member) (test : ℕ → Bool) (r : Kept) (i : ℕ) → i < n → (s i).out ≡ true → Tells n s test r → Tells n (put s i (comes_back (s i))) test (record r { out = r.out - 1 })
+pub tells-back : (n : ℕ) (s : ℕ → Member) (test : ℕ → Bool) (r : Kept) (i : ℕ) → i < n → (s i).out ≡ true → Tells n s test r → Tells n (told_put s i (comes_back (s i))) test (record r { out = r.out - 1 })
 tells-back n s test r i within out old = record {
   free = old.free;
   out = omega (arith, old.out, count-none (λ m. m.out) s n i (comes_back (s i)) within out refl);
@@ -144,7 +144,7 @@ tells-back n s test r i within out old = record {
 }
 
 -- it ends
-pub tells-ended : (n : ℕ) (s : ℕ → Member) (test : ℕ → Bool) (r : Kept) (i : ℕ) → i < n → (s i).ended ≡ false → Tells n s test r → Tells n (put s i (ends (s i))) test (record r { unended = r.unended - 1 })
+pub tells-ended : (n : ℕ) (s : ℕ → Member) (test : ℕ → Bool) (r : Kept) (i : ℕ) → i < n → (s i).ended ≡ false → Tells n s test r → Tells n (told_put s i (ends (s i))) test (record r { unended = r.unended - 1 })
 tells-ended n s test r i within alive old = record {
   free = old.free;
   out = old.out ∙ sym (count-kept (λ m. m.out) s n i (ends (s i)) refl);
@@ -167,8 +167,8 @@ out-few n s test r i old within idle =
       old.out,
       old.numbered.long,
       count-one (λ m. m.out) s n i (goes_out (s i)) within idle refl,
-      length-filter (λ k. (put s i (goes_out (s i)) k).out) (range_with_len 0 n),
-      count_by-le-length (λ k. (put s i (goes_out (s i)) k).out) (range_with_len 0 n),
+      length-filter (λ k. (told_put s i (goes_out (s i)) k).out) (range_with_len 0 n),
+      count_by-le-length (λ k. (told_put s i (goes_out (s i)) k).out) (range_with_len 0 n),
       length-range_with_len 0 n,
     )
 
@@ -191,13 +191,13 @@ module _ (n : ℕ) (s : ℕ → Member) (test : ℕ → Bool) (r : Kept) (t : Te
   row-other q apart = get_or-behind [] (set r.numbers p (get_or r.numbers p [] ++ n ∷ [])) q ∙ get_or-set_other r.numbers p q (get_or r.numbers p [] ++ n ∷ []) [] apart
 
   now-new : now n ≡ record { parent = p; child = (s p).kids; kids = 0; out = false; ended = false }
-  now-new = put-here (put s p (with_kid (s p))) n _
+  now-new = put-here (told_put s p (with_kid (s p))) n _
 
   now-here : now p ≡ with_kid (s p)
-  now-here = put-other (put s p (with_kid (s p))) n _ p (λ e. absurd (omega (arith, e, within))) ∙ put-here s p (with_kid (s p))
+  now-here = put-other (told_put s p (with_kid (s p))) n _ p (λ e. absurd (omega (arith, e, within))) ∙ put-here s p (with_kid (s p))
 
   now-other : (k : ℕ) → k ≢ n → k ≢ p → now k ≡ s k
-  now-other k young apart = put-other (put s p (with_kid (s p))) n _ k young ∙ put-other s p (with_kid (s p)) k apart
+  now-other k young apart = put-other (told_put s p (with_kid (s p))) n _ k young ∙ put-other s p (with_kid (s p)) k apart
 
   -- what is so of the three is so of all
   each : (P : ℕ → Type 0) → P p → P n → ((k : ℕ) → k ≢ n → k ≢ p → P k) → (k : ℕ) → P k
@@ -210,8 +210,8 @@ module _ (n : ℕ) (s : ℕ → Member) (test : ℕ → Bool) (r : Kept) (t : Te
   ]
 
   -- whose child an older member is
-  before : (k : ℕ) → k < n → now k ≡ put s p (with_kid (s p)) k
-  before k h = put-other (put s p (with_kid (s p))) n _ k (λ e. absurd (omega (arith, e, h)))
+  before : (k : ℕ) → k < n → now k ≡ told_put s p (with_kid (s p)) k
+  before k h = put-other (told_put s p (with_kid (s p))) n _ k (λ e. absurd (omega (arith, e, h)))
 
   place : (k : ℕ) → k < n → ((now k).parent ≡ (s k).parent) × ((now k).child ≡ (s k).child)
   place k h = (ap (λ m. m.parent) (before k h) ∙ put-field (λ m. m.parent) s p (with_kid (s p)) refl k, ap (λ m. m.child) (before k h) ∙ put-field (λ m. m.child) s p (with_kid (s p)) refl k)
@@ -278,12 +278,12 @@ module _ (n : ℕ) (s : ℕ → Member) (test : ℕ → Bool) (r : Kept) (t : Te
 
   -- it is among them, idle and not ended, and free or not
   pub tells-more : (room : ℕ) (b : Bool) (new : List ℕ) (places : ℕ) (rooms : List ℕ) → n < room → IsListBelow room new → has n new ≡ b → ((k : ℕ) → k ≢ n → has k new ≡ has k r.listed)
-      → Tells (n + 1) now (put test n b) (record r { numbers = more; listed = new; unended = r.unended + 1; room = room; places = places; rooms = rooms })
+      → Tells (n + 1) now (told_put test n b) (record r { numbers = more; listed = new; unended = r.unended + 1; room = room; places = places; rooms = rooms })
   tells-more room b new places rooms enough ordered here others = record {
-    free = list-is (put test n b) (n + 1) new
+    free = list-is (told_put test n b) (n + 1) new
         (below-but (n + 1) room r.listed new n (omega arith) (omega (arith, enough)) (below-more n r.listed (listed test n r.listed t.free)) ordered others)
         (λ k h. elim (cases_eq k n) [
-          | inl is ↦ subst (λ j. has j new ≡ put test n b j) (sym is) (here ∙ sym (put-here test n b))
+          | inl is ↦ subst (λ j. has j new ≡ told_put test n b j) (sym is) (here ∙ sym (put-here test n b))
           | inr young ↦ others k young ∙ ap (has k) t.free ∙ has-those test 0 n k (omega arith) (omega (arith, h, young)) ∙ sym (put-other test n b k young)
         ]);
     out = t.out ∙ sym (longer-same (λ k. (s k).out) (λ k. (now k).out) n (ap (λ m. m.out) now-new) (λ k h. ap (λ m. m.out) (before k h) ∙ put-field (λ m. m.out) s p (with_kid (s p)) refl k));

@@ -50,8 +50,8 @@ pub record Knows (r : Kept) (i : ℕ) (P : Member → Type 0) : Type 0 where
   pub holds : P (members i)
 
 -- what is told of a number, and nothing else, is this from now on
-abbrev pub put : {A : Type 0} → (ℕ → A) → ℕ → A → ℕ → A
-put f i x k = if k == i then x else f k
+abbrev pub told_put : {A : Type 0} → (ℕ → A) → ℕ → A → ℕ → A
+told_put f i x k = if k == i then x else f k
 
 abbrev pub goes_out : Member → Member
 goes_out m = record m { out = true }
@@ -67,7 +67,7 @@ with_kid m = record m { kids = m.kids + 1 }
 
 -- member n is a further child of this one
 abbrev pub with_member : ℕ → ℕ → (ℕ → Member) → ℕ → Member
-with_member n p s = put (put s p (with_kid (s p))) n (record { parent = p; child = (s p).kids; kids = 0; out = false; ended = false })
+with_member n p s = told_put (told_put s p (with_kid (s p))) n (record { parent = p; child = (s p).kids; kids = 0; out = false; ended = false })
 
 -- one member alone, that is free
 pub record IsAlone (s : ℕ → Member) (test : ℕ → Bool) : Type 0 where

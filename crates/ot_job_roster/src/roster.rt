@@ -29,7 +29,7 @@ impl Model for Roster {
 
 impl Roster {
     ghost use Rattle.std.specs.Prelude.{◌≡◌, ◌<◌, ◌+◌, ◌==◌, ℕ, Bool, [], true, false, not, length, get_or, slice_get, OnOk, IfOk};
-    ghost use Rattle.ot_job_roster.specs.Members.{Member, Kept, Tells, Knows, HasRoom, IsAlone, put, goes_out, comes_back, ends, with_member};
+    ghost use Rattle.ot_job_roster.specs.Members.{Member, Kept, Tells, Knows, HasRoom, IsAlone, told_put, goes_out, comes_back, ends, with_member};
 
     /// One member, that is free.
     pub fn alone(alloc: Global) -> Result<Roster, AllocError>
@@ -87,7 +87,7 @@ impl Roster {
     /// Notes whether a member is free. It takes no memory.
     pub fn mark(&mut self, number: usize, free: bool)
         requires { number < length self.old.numbers }
-        ensures { (n : ℕ) (s : ℕ → Member) (test : ℕ → Bool) → Tells n s test self.old → Tells n s (put test number free) self.new }
+        ensures { (n : ℕ) (s : ℕ → Member) (test : ℕ → Bool) → Tells n s test self.old → Tells n s (told_put test number free) self.new }
     {
         self.free.set(number, free);
     }
@@ -95,7 +95,7 @@ impl Roster {
     /// A member goes out, and isn't free. It takes no memory.
     pub fn begin(&mut self, number: usize)
         requires { Knows self.old number (λ m. m.out ≡ false) }
-        ensures { (n : ℕ) (s : ℕ → Member) (test : ℕ → Bool) → Tells n s test self.old → (s number).out ≡ false → Tells n (put s number (goes_out (s number))) (put test number false) self.new }
+        ensures { (n : ℕ) (s : ℕ → Member) (test : ℕ → Bool) → Tells n s test self.old → (s number).out ≡ false → Tells n (told_put s number (goes_out (s number))) (told_put test number false) self.new }
     {
         self.free.set(number, false);
         self.out += 1;
@@ -104,7 +104,7 @@ impl Roster {
     /// A member that was out is back, and is free or isn't. It takes no memory.
     pub fn stop(&mut self, number: usize, free: bool)
         requires { Knows self.old number (λ m. m.out ≡ true) }
-        ensures { (n : ℕ) (s : ℕ → Member) (test : ℕ → Bool) → Tells n s test self.old → (s number).out ≡ true → Tells n (put s number (comes_back (s number))) (put test number free) self.new }
+        ensures { (n : ℕ) (s : ℕ → Member) (test : ℕ → Bool) → Tells n s test self.old → (s number).out ≡ true → Tells n (told_put s number (comes_back (s number))) (told_put test number free) self.new }
     {
         self.free.set(number, free);
         self.out -= 1;
@@ -113,7 +113,7 @@ impl Roster {
     /// A member has ended. It takes no memory.
     pub fn end(&mut self)
         requires { (number : ℕ) × Knows self.old number (λ m. m.ended ≡ false) }
-        ensures { (n : ℕ) (s : ℕ → Member) (test : ℕ → Bool) (number : ℕ) → Tells n s test self.old → number < n → (s number).ended ≡ false → Tells n (put s number (ends (s number))) test self.new }
+        ensures { (n : ℕ) (s : ℕ → Member) (test : ℕ → Bool) (number : ℕ) → Tells n s test self.old → number < n → (s number).ended ≡ false → Tells n (told_put s number (ends (s number))) test self.new }
     {
         self.unended -= 1;
     }
@@ -133,7 +133,7 @@ impl Roster {
     pub fn add(&mut self, alloc: Global, parent: usize, free: bool)
         requires known { parent < length self.old.numbers }
         requires room { HasRoom self.old parent }
-        ensures { (n : ℕ) (s : ℕ → Member) (test : ℕ → Bool) → Tells n s test self.old → Tells (n + 1) (with_member n parent s) (put test n free) self.new }
+        ensures { (n : ℕ) (s : ℕ → Member) (test : ℕ → Bool) → Tells n s test self.old → Tells (n + 1) (with_member n parent s) (told_put test n free) self.new }
     {
         let number = self.children.len();
         self.children[parent].push_reserved(number);

@@ -10,7 +10,7 @@ use Rattle.ot_model.specs.Cells.{same_cell}
 use Rattle.ot_check.proofs.Cited.{value-same, read-weaker}
 use Rattle.ot_owner.specs.Lending.{MayChange, uses_of, use_of, Lease, lease_of}
 use Rattle.ot_owner.specs.declared.lent.LentCell.{LentCell}
-use Rattle.ot_job_task.specs.Copies.{Look, with_copy, assigned}
+use Rattle.ot_job_task.specs.Copies.{Look, with_copy, copies_assigned}
 use Rattle.ot_check.specs.Offences.{EachRead}
 
 pub read-all : (P : Cell → Type 0) → ((c : Cell) → P c) → (e : E) → EachRead P e
@@ -23,7 +23,7 @@ read-all P h e = read-weaker (λ c. Unit {0}) P e (λ c u. h c) (units e)
     units (PickFrom s e) = (λ k. tt, units e)
 
 -- looks that are the same at each cell
-pub assigned-same : (b : Body) (look other : Look) → ((c : Cell) → look c ≡ other c) → (c : Cell) → assigned b look c ≡ assigned b other c
+pub assigned-same : (b : Body) (look other : Look) → ((c : Cell) → look c ≡ other c) → (c : Cell) → copies_assigned b look c ≡ copies_assigned b other c
 assigned-same End look other same c = same c
 assigned-same (Next (Set d e) rest) look other same c =
     let v = value-same look other e (read-all (λ x. look x ≡ other x) same e) in

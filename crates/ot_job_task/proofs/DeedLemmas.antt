@@ -16,13 +16,13 @@ use Rattle.ot_parts.specs.declared.step.Step.{Step}
 use Rattle.ot_owner.specs.Lending.{value_at, lease_of}
 use Rattle.ot_owner.specs.declared.lent.LentCell.{LentCell}
 use Rattle.ot_job_task.specs.Assigns.{CanAssign}
-use Rattle.ot_job_task.specs.Copies.{Look, with_copy, assigned}
-use Rattle.ot_job_task.specs.Deeds.{stacked, changed, made, CanDo, CanDoAll, height_after}
+use Rattle.ot_job_task.specs.Copies.{Look, with_copy, copies_assigned}
+use Rattle.ot_job_task.specs.Deeds.{stack_behind, copies_changed, copies_made, CanDo, CanDoAll, height_after}
 use Rattle.ot_job_task.proofs.AssignLemmas.{change-kept}
 
 -- ---- looks that are the same at each cell
 
-pub stacked-same : (d : Deed) (ns : List ℕ) (look other : Look) → ((c : Cell) → look c ≡ other c) → stacked d look ns ≡ stacked d other ns
+pub stacked-same : (d : Deed) (ns : List ℕ) (look other : Look) → ((c : Cell) → look c ≡ other c) → stack_behind d look ns ≡ stack_behind d other ns
 stacked-same (Push n) ns look other same = refl
 stacked-same (Load c) ns look other same = ap (λ o. unwrap_or o 0 ∷ ns) (same c)
 stacked-same (Choose s) [] look other same = refl
@@ -38,7 +38,7 @@ stacked-same (Write w) (n ∷ ns) look other same = refl
 stacked-same (WriteJoined o w) [] look other same = refl
 stacked-same (WriteJoined o w) (n ∷ ns) look other same = refl
 
-changed-same : (d : Deed) (ns : List ℕ) (look other : Look) → ((c : Cell) → look c ≡ other c) → (c : Cell) → changed d ns look c ≡ changed d ns other c
+changed-same : (d : Deed) (ns : List ℕ) (look other : Look) → ((c : Cell) → look c ≡ other c) → (c : Cell) → copies_changed d ns look c ≡ copies_changed d ns other c
 changed-same (Push n) ns look other same c = same c
 changed-same (Load w) ns look other same c = same c
 changed-same (Choose s) ns look other same c = same c
@@ -49,11 +49,11 @@ changed-same (Write w) (n ∷ ns) look other same c = ap (λ o. if same_cell w c
 changed-same (WriteJoined o w) [] look other same c = same c
 changed-same (WriteJoined o w) (n ∷ ns) look other same c = ap (λ s. if same_cell w c then option_map (λ m. join_by o m n) s else s) (same c)
 
-pub made-same : (ds : List Deed) (ns : List ℕ) (look other : Look) → ((c : Cell) → look c ≡ other c) → (c : Cell) → made ds ns look c ≡ made ds ns other c
+pub made-same : (ds : List Deed) (ns : List ℕ) (look other : Look) → ((c : Cell) → look c ≡ other c) → (c : Cell) → copies_made ds ns look c ≡ copies_made ds ns other c
 made-same [] ns look other same c = same c
 made-same (d ∷ ds) ns look other same c =
-    made-same ds (stacked d look ns) (changed d ns look) (changed d ns other) (changed-same d ns look other same) c
-    ∙ ap (λ (s : List ℕ). made ds s (changed d ns other) c) (stacked-same d ns look other same)
+    made-same ds (stack_behind d look ns) (copies_changed d ns look) (copies_changed d ns other) (changed-same d ns look other same) c
+    ∙ ap (λ (s : List ℕ). copies_made ds s (copies_changed d ns other) c) (stacked-same d ns look other same)
 
 -- a cell that has a new number, and all others as they were
 pub wrote : (look now : Look) (cell : Cell) (f : ℕ → ℕ) (m : ℕ) → look cell ≡ Some m → now cell ≡ Some (f m) → ((other : Cell) → cell ≢ other → now other ≡ look other)
@@ -73,7 +73,7 @@ some-kept true f (Some n) some = refl
 some-kept true f None some = some
 some-kept false f o some = some
 
-pub changed-some : (d : Deed) (ns : List ℕ) (look : Look) (c : Cell) → IsSome (look c) → IsSome (changed d ns look c)
+pub changed-some : (d : Deed) (ns : List ℕ) (look : Look) (c : Cell) → IsSome (look c) → IsSome (copies_changed d ns look c)
 changed-some (Push n) ns look c some = some
 changed-some (Load w) ns look c some = some
 changed-some (Choose s) ns look c some = some
@@ -91,29 +91,29 @@ behind one two ds d = append_assoc (one ++ two) (d ∷ []) ds ∙ append_assoc o
 
 -- two operands, and the operation behind them
 made-both : (o : Op) (one two : List Deed) (a b : ℕ) (look : Look)
-    → ((ds : List Deed) (ns : List ℕ) → made (one ++ ds) ns look ≡ made ds (a ∷ ns) look)
-    → ((ds : List Deed) (ns : List ℕ) → made (two ++ ds) ns look ≡ made ds (b ∷ ns) look)
-    → (t : Bool) (ds : List Deed) (ns : List ℕ) → made ((if t then (two ++ one) ++ JoinBack o ∷ [] else (one ++ two) ++ Join o ∷ []) ++ ds) ns look ≡ made ds (applied o a b ∷ ns) look
+    → ((ds : List Deed) (ns : List ℕ) → copies_made (one ++ ds) ns look ≡ copies_made ds (a ∷ ns) look)
+    → ((ds : List Deed) (ns : List ℕ) → copies_made (two ++ ds) ns look ≡ copies_made ds (b ∷ ns) look)
+    → (t : Bool) (ds : List Deed) (ns : List ℕ) → copies_made ((if t then (two ++ one) ++ JoinBack o ∷ [] else (one ++ two) ++ Join o ∷ []) ++ ds) ns look ≡ copies_made ds (applied o a b ∷ ns) look
 made-both o one two a b look first second true ds ns =
-    ap (λ (l : List Deed). made l ns look) (behind two one ds (JoinBack o)) ∙ second (one ++ JoinBack o ∷ ds) ns ∙ first (JoinBack o ∷ ds) (b ∷ ns)
+    ap (λ (l : List Deed). copies_made l ns look) (behind two one ds (JoinBack o)) ∙ second (one ++ JoinBack o ∷ ds) ns ∙ first (JoinBack o ∷ ds) (b ∷ ns)
 made-both o one two a b look first second false ds ns =
-    ap (λ (l : List Deed). made l ns look) (behind one two ds (Join o)) ∙ first (two ++ Join o ∷ ds) ns ∙ second (Join o ∷ ds) (a ∷ ns)
+    ap (λ (l : List Deed). copies_made l ns look) (behind one two ds (Join o)) ∙ first (two ++ Join o ∷ ds) ns ∙ second (Join o ∷ ds) (a ∷ ns)
 
-pub made-value : (e : E) (look : Look) (ds : List Deed) (ns : List ℕ) → made (value_deeds e ++ ds) ns look ≡ made ds (val look e ∷ ns) look
+pub made-value : (e : E) (look : Look) (ds : List Deed) (ns : List ℕ) → copies_made (value_deeds e ++ ds) ns look ≡ copies_made ds (val look e ∷ ns) look
 made-value (Literal n) look ds ns = refl
 made-value (CellAt c) look ds ns = refl
-made-value (PickFrom s e) look ds ns = ap (λ (l : List Deed). made l ns look) (append_assoc (value_deeds e) (Choose s ∷ []) ds) ∙ made-value e look (Choose s ∷ ds) ns
+made-value (PickFrom s e) look ds ns = ap (λ (l : List Deed). copies_made l ns look) (append_assoc (value_deeds e) (Choose s ∷ []) ds) ∙ made-value e look (Choose s ∷ ds) ns
 made-value (Apply o a b) look ds ns =
     made-both o (value_deeds a) (value_deeds b) (val look a) (val look b) look (made-value a look) (made-value b look) (nat_lt (length (value_deeds a)) (length (value_deeds b))) ds ns
 
 -- the deeds of sets and folds make what these assign
-pub made-assigned : (b : Body) (look : Look) → made (deeds_of b) [] look ≡ assigned b look
+pub made-assigned : (b : Body) (look : Look) → copies_made (deeds_of b) [] look ≡ copies_assigned b look
 made-assigned End look = refl
 made-assigned (Next (Set c e) rest) look =
-    ap (λ (l : List Deed). made l [] look) (append_assoc (value_deeds e) (Write c ∷ []) (deeds_of rest)) ∙ made-value e look (Write c ∷ deeds_of rest) []
+    ap (λ (l : List Deed). copies_made l [] look) (append_assoc (value_deeds e) (Write c ∷ []) (deeds_of rest)) ∙ made-value e look (Write c ∷ deeds_of rest) []
     ∙ made-assigned rest (with_copy look c (λ _. val look e))
 made-assigned (Next (Fold o c e) rest) look =
-    ap (λ (l : List Deed). made l [] look) (append_assoc (value_deeds e) (WriteJoined o c ∷ []) (deeds_of rest)) ∙ made-value e look (WriteJoined o c ∷ deeds_of rest) []
+    ap (λ (l : List Deed). copies_made l [] look) (append_assoc (value_deeds e) (WriteJoined o c ∷ []) (deeds_of rest)) ∙ made-value e look (WriteJoined o c ∷ deeds_of rest) []
     ∙ made-assigned rest (with_copy look c (λ n. join_by o n (val look e)))
 made-assigned (Next (If e a b) rest) look = refl
 made-assigned (Next (Task d b) rest) look = refl
@@ -226,7 +226,7 @@ pub can-all : (lent now : List LentCell) (ds : List Deed) (h : ℕ) → lease_of
 can-all lent now [] h same can = tt
 can-all lent now (d ∷ ds) h same can = (can-one lent now d h same can.0, can-all lent now ds (height_after d h) same can.1)
 
-pub stacked-height : (lent : List LentCell) (d : Deed) (look : Look) (ns : List ℕ) → CanDo lent (length ns) d → length (stacked d look ns) ≡ height_after d (length ns)
+pub stacked-height : (lent : List LentCell) (d : Deed) (look : Look) (ns : List ℕ) → CanDo lent (length ns) d → length (stack_behind d look ns) ≡ height_after d (length ns)
 stacked-height lent (Push n) look ns can = omega arith
 stacked-height lent (Load c) look ns can = omega arith
 stacked-height lent (Choose s) look [] can = absurd (omega (arith, can.0))
@@ -248,12 +248,12 @@ split : (steps : List Step) (i : ℕ) (x : Step) → i < length steps → x ≡ 
 split steps i x within is = ap (map deed_of) (drop_more steps i x within) ∙ ap (λ (y : Step). deed_of y ∷ map deed_of (drop (i + 1) steps)) (sym is)
 
 -- one step is made
-pub step-made : (steps : List Step) (i : ℕ) (x : Step) (ns new : List ℕ) (look now : Look) → i < length steps → x ≡ get_or steps i x → new ≡ stacked (deed_of x) look ns
-    → ((c : Cell) → now c ≡ changed (deed_of x) ns look c) → (c : Cell) → made (map deed_of (drop (i + 1) steps)) new now c ≡ made (map deed_of (drop i steps)) ns look c
+pub step-made : (steps : List Step) (i : ℕ) (x : Step) (ns new : List ℕ) (look now : Look) → i < length steps → x ≡ get_or steps i x → new ≡ stack_behind (deed_of x) look ns
+    → ((c : Cell) → now c ≡ copies_changed (deed_of x) ns look c) → (c : Cell) → copies_made (map deed_of (drop (i + 1) steps)) new now c ≡ copies_made (map deed_of (drop i steps)) ns look c
 step-made steps i x ns new look now within is put wrote c =
     let rest = map deed_of (drop (i + 1) steps) in
-    made-same rest new now (changed (deed_of x) ns look) wrote c ∙ ap (λ (s : List ℕ). made rest s (changed (deed_of x) ns look) c) put
-    ∙ ap (λ (ds : List Deed). made ds ns look c) (sym (split steps i x within is))
+    made-same rest new now (copies_changed (deed_of x) ns look) wrote c ∙ ap (λ (s : List ℕ). copies_made rest s (copies_changed (deed_of x) ns look) c) put
+    ∙ ap (λ (ds : List Deed). copies_made ds ns look c) (sym (split steps i x within is))
 
 -- and can be made
 pub step-can : (lent : List LentCell) (steps : List Step) (i : ℕ) (x : Step) (h : ℕ) → i < length steps → x ≡ get_or steps i x → CanDoAll lent h (map deed_of (drop i steps))
@@ -262,12 +262,12 @@ step-can lent steps i x h within is can = subst (CanDoAll lent h) (split steps i
 
 -- the others can still be made
 pub rest-can : (lent now : List LentCell) (steps : List Step) (i : ℕ) (x : Step) (ns new : List ℕ) (look : Look) → i < length steps → x ≡ get_or steps i x → lease_of now ≡ lease_of lent
-    → new ≡ stacked (deed_of x) look ns → CanDoAll lent (length ns) (map deed_of (drop i steps)) → CanDoAll now (length new) (map deed_of (drop (i + 1) steps))
+    → new ≡ stack_behind (deed_of x) look ns → CanDoAll lent (length ns) (map deed_of (drop i steps)) → CanDoAll now (length new) (map deed_of (drop (i + 1) steps))
 rest-can lent now steps i x ns new look within is same put can =
     let both = step-can lent steps i x (length ns) within is can in
     let high : height_after (deed_of x) (length ns) ≡ length new = sym (stacked-height lent (deed_of x) look ns both.0) ∙ ap length (sym put) in
     subst (λ h. CanDoAll now h (map deed_of (drop (i + 1) steps))) high (can-all lent now (map deed_of (drop (i + 1) steps)) (height_after (deed_of x) (length ns)) same both.1)
 
 -- nothing is left
-pub none-left : (steps : List Step) (i : ℕ) (ns : List ℕ) (look : Look) (c : Cell) → length steps ≤ i → look c ≡ made (map deed_of (drop i steps)) ns look c
-none-left steps i ns look c past = ap (λ (l : List Step). made (map deed_of l) ns look c) (sym (drop_all i steps past))
+pub none-left : (steps : List Step) (i : ℕ) (ns : List ℕ) (look : Look) (c : Cell) → length steps ≤ i → look c ≡ copies_made (map deed_of (drop i steps)) ns look c
+none-left steps i ns look c past = ap (λ (l : List Step). copies_made (map deed_of l) ns look c) (sym (drop_all i steps past))

@@ -15,9 +15,9 @@ use Rattle.ot_model.proofs.NamesLemmas.{found_from_in}
 use Rattle.ot_check.specs.Offences.{use_as, Declared}
 use Rattle.ot_check.proofs.Cited.{same_is}
 use Rattle.ot_job_task.proofs.CellLemmas.{same_self}
-use Rattle.ot_job_task.specs.Pieces.{leading, behind, test_of}
+use Rattle.ot_job_task.specs.Pieces.{leading, after_parts, test_of}
 use Rattle.ot_job_task.specs.Touched.{assign_touches, test_touches, piece_touches}
-use Rattle.ot_job_task.specs.Assigns.{held, noted, with_mode, mode_held}
+use Rattle.ot_job_task.specs.Assigns.{held_mode, mode_noted, with_mode, mode_held}
 
 -- ---- each touch is of a cell in the shape
 
@@ -55,7 +55,7 @@ assigns-in lens (Next (Task d b) rest) h = tt
 assigns-in lens (Next (Wait w) rest) h = tt
 assigns-in lens (Next (Group o cs b) rest) h = tt
 
-test-in : (lens : List ℕ) (b : Body) → NamedIn lens b → AllIn lens (test_touches (test_of (behind b)))
+test-in : (lens : List ℕ) (b : Body) → NamedIn lens b → AllIn lens (test_touches (test_of (after_parts b)))
 test-in lens End h = tt
 test-in lens (Next (Set c e) rest) h = test-in lens rest h.1
 test-in lens (Next (Fold o c e) rest) h = test-in lens rest h.1
@@ -64,14 +64,14 @@ test-in lens (Next (Task d b) rest) h = tt
 test-in lens (Next (Wait w) rest) h = tt
 test-in lens (Next (Group o cs b) rest) h = tt
 
-pub piece-in : (lens : List ℕ) (b : Body) → NamedIn lens b → AllIn lens (piece_touches (leading b) (test_of (behind b)))
+pub piece-in : (lens : List ℕ) (b : Body) → NamedIn lens b → AllIn lens (piece_touches (leading b) (test_of (after_parts b)))
 piece-in lens b h = all-append lens _ _ (assigns-in lens b h) (test-in lens b h)
 
 -- ---- what is held is touched
 
-held-from : (lens : List ℕ) (own : Declared) (us : List Use) (c : Cell) (o : Option Mode) → AllIn lens us → (IsSome o → IsInShape lens c) → IsSome (fold (noted own c) o us) → IsInShape lens c
+held-from : (lens : List ℕ) (own : Declared) (us : List Use) (c : Cell) (o : Option Mode) → AllIn lens us → (IsSome o → IsInShape lens c) → IsSome (fold (mode_noted own c) o us) → IsInShape lens c
 held-from lens own [] c o h k s = k s
-held-from lens own (u ∷ us) c o h k s = held-from lens own us c (noted own c o u) h.1 (by (same_cell u.cell c) refl) s
+held-from lens own (u ∷ us) c o h k s = held-from lens own us c (mode_noted own c o u) h.1 (by (same_cell u.cell c) refl) s
   where
     by : (b : Bool) → same_cell u.cell c ≡ b → IsSome (if same_cell u.cell c then Some (with_mode o (mode_held own u)) else o) → IsInShape lens c
     by true e s = subst (IsInShape lens) (same_is u.cell c e) h.0
@@ -81,7 +81,7 @@ mode-there : (d : List Use) (c : Cell) (u : Use) (more : List Use) → u.cell �
 mode-there d c u more same = rw (same_self c u.cell (sym same)) refl
 
 -- each cell that is held is there
-pub held-there : (cells : List (List ℕ)) (own : Declared) (us d : List Use) → AllIn (lengths cells) us → ((c : Cell) → mode_in d c ≡ held own us c) → All (λ u. IsSome (cell_of cells u.cell)) d
+pub held-there : (cells : List (List ℕ)) (own : Declared) (us d : List Use) → AllIn (lengths cells) us → ((c : Cell) → mode_in d c ≡ held_mode own us c) → All (λ u. IsSome (cell_of cells u.cell)) d
 held-there cells own us d named modes = each d (λ c s. found_from_in cells c (held-from (lengths cells) own us c None named (λ none. absurd (true≢false (sym none))) (subst IsSome (modes c) s)))
   where
     each : (d : List Use) → ((c : Cell) → IsSome (mode_in d c) → IsSome (cell_of cells c)) → All (λ u. IsSome (cell_of cells u.cell)) d

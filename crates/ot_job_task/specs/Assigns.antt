@@ -8,9 +8,9 @@ pub use Rattle.ot_parts.specs.Assigns.{assign_of, assigns_of, assigns_in}
 use Rattle.ot_model.specs.Cells.{mode_in}
 use Rattle.ot_model.specs.declared.stmt.Use.{Use}
 use Rattle.ot_job_task.specs.Regions.{Region}
-use Rattle.ot_job_task.specs.Pieces.{leading, behind, test_of, awake}
+use Rattle.ot_job_task.specs.Pieces.{leading, after_parts, test_of, awake}
 use Rattle.ot_job_task.specs.Touched.{piece_touches}
-pub use Rattle.ot_parts.specs.Modes.{held_as, mode_held, stronger, with_mode, noted, held, PicksFit, AssignsFit}
+pub use Rattle.ot_parts.specs.Modes.{held_as, mode_held, stronger, with_mode, mode_noted, held_mode, PicksFit, AssignsFit}
 
 -- each cell that is read is lent, and each that is set or folded into may be changed
 abbrev pub CanAssign : Body → List LentCell → Type 0
@@ -28,4 +28,4 @@ pub record CanRun (assigns : Body) (test : Option E) (lent : List LentCell) : Ty
 
 -- these are the modes in which a region's next piece holds its cells
 abbrev pub AreHeld : Region → List Use → Type 0
-AreHeld r d = (c : Cell) → mode_in d c ≡ held r.own (piece_touches (leading (awake r).rest) (test_of (behind (awake r).rest))) c
+AreHeld r d = (c : Cell) → mode_in d c ≡ held_mode r.own (piece_touches (leading (awake r).rest) (test_of (after_parts (awake r).rest))) c

@@ -13,7 +13,7 @@ abbrev pub with_copy : Look → Cell → (ℕ → ℕ) → Look
 with_copy look c f d = if same_cell c d then option_map f (look d) else look d
 
 -- the copies after these assignments
-abbrev pub assigned : Body → Look → Look
-assigned (Next (Set c e) rest) look = assigned rest (with_copy look c (λ _. val look e))
-assigned (Next (Fold o c e) rest) look = assigned rest (with_copy look c (λ n. join_by o n (val look e)))
-assigned b look = look
+abbrev pub copies_assigned : Body → Look → Look
+copies_assigned (Next (Set c e) rest) look = copies_assigned rest (with_copy look c (λ _. val look e))
+copies_assigned (Next (Fold o c e) rest) look = copies_assigned rest (with_copy look c (λ n. join_by o n (val look e)))
+copies_assigned b look = look

@@ -8,26 +8,26 @@ use Rattle.ot_owner.specs.declared.lent.LentCell.{LentCell}
 use Rattle.ot_job_task.specs.Copies.{Look, with_copy}
 
 -- the stack after one, its top first
-abbrev pub stacked : Deed → Look → List ℕ → List ℕ
-stacked (Push n) look ns = n ∷ ns
-stacked (Load c) look ns = unwrap_or (look c) 0 ∷ ns
-stacked (Choose s) look (k ∷ ns) = unwrap_or (look (cell_at s (k % s.len))) 0 ∷ ns
-stacked (Join o) look (b ∷ a ∷ ns) = applied o a b ∷ ns
-stacked (JoinBack o) look (a ∷ b ∷ ns) = applied o a b ∷ ns
-stacked (Write c) look (n ∷ ns) = ns
-stacked (WriteJoined o c) look (n ∷ ns) = ns
-stacked d look ns = ns
+abbrev pub stack_behind : Deed → Look → List ℕ → List ℕ
+stack_behind (Push n) look ns = n ∷ ns
+stack_behind (Load c) look ns = unwrap_or (look c) 0 ∷ ns
+stack_behind (Choose s) look (k ∷ ns) = unwrap_or (look (cell_at s (k % s.len))) 0 ∷ ns
+stack_behind (Join o) look (b ∷ a ∷ ns) = applied o a b ∷ ns
+stack_behind (JoinBack o) look (a ∷ b ∷ ns) = applied o a b ∷ ns
+stack_behind (Write c) look (n ∷ ns) = ns
+stack_behind (WriteJoined o c) look (n ∷ ns) = ns
+stack_behind d look ns = ns
 
 -- the copies after it
-abbrev pub changed : Deed → List ℕ → Look → Look
-changed (Write c) (n ∷ ns) look = with_copy look c (λ _. n)
-changed (WriteJoined o c) (n ∷ ns) look = with_copy look c (λ m. join_by o m n)
-changed d ns look = look
+abbrev pub copies_changed : Deed → List ℕ → Look → Look
+copies_changed (Write c) (n ∷ ns) look = with_copy look c (λ _. n)
+copies_changed (WriteJoined o c) (n ∷ ns) look = with_copy look c (λ m. join_by o m n)
+copies_changed d ns look = look
 
 -- the copies after all of them
-abbrev pub made : List Deed → List ℕ → Look → Look
-made [] ns look = look
-made (d ∷ ds) ns look = made ds (stacked d look ns) (changed d ns look)
+abbrev pub copies_made : List Deed → List ℕ → Look → Look
+copies_made [] ns look = look
+copies_made (d ∷ ds) ns look = copies_made ds (stack_behind d look ns) (copies_changed d ns look)
 
 -- so many numbers are on the stack that it can be done, there is room for one more where it puts one there, and what it writes
 -- may be changed
@@ -52,6 +52,6 @@ CanDoAll lent h [] = Unit {0}
 CanDoAll lent h (d ∷ ds) = CanDo lent h d × CanDoAll lent (height_after d h) ds
 
 -- the first numbers, the last of these first
-abbrev pub piled : ℕ → List ℕ → List ℕ
-piled zero ns = []
-piled (suc h) ns = get_or ns h 0 ∷ piled h ns
+abbrev pub numbers_piled : ℕ → List ℕ → List ℕ
+numbers_piled zero ns = []
+numbers_piled (suc h) ns = get_or ns h 0 ∷ numbers_piled h ns

@@ -5,7 +5,7 @@ use Rattle.ot_job_task.specs.Regions.{Open, innermost, Region, Run}
 use Rattle.ot_owner.specs.Lending.{Lease, lease_of}
 use Rattle.ot_owner.specs.declared.lent.LentCell.{LentCell}
 -- the sets and folds that come first, what stands behind them, how many they are; the condition of an `if` that comes next
-pub use Rattle.ot_parts.specs.Parts.{leading, behind, leading_len, test_of}
+pub use Rattle.ot_parts.specs.Parts.{leading, after_parts, leading_len, test_of}
 
 -- what is left of the innermost open group's body, and the open groups, the innermost first
 pub record Standing : Type 0 where
@@ -28,12 +28,12 @@ is_at_end rest os = false
 -- What a piece is taken from, and what is left behind it.
 
 -- behind the end of the innermost open group, where that end is reached
-abbrev pub passed : Body → List Open → Standing
-passed End (o ∷ os) = record { rest = o.behind; groups = os }
-passed rest os = record { rest = rest; groups = os }
+abbrev pub groups_passed : Body → List Open → Standing
+groups_passed End (o ∷ os) = record { rest = o.behind; groups = os }
+groups_passed rest os = record { rest = rest; groups = os }
 
 abbrev pub passed_end : Standing → Standing
-passed_end s = passed s.rest s.groups
+passed_end s = groups_passed s.rest s.groups
 
 -- the number of the innermost open group, where its end is reached
 abbrev pub ended_group : Body → List Open → Option ℕ
@@ -46,11 +46,11 @@ group_passed r = ended_group r.rest r.groups
 
 -- the region as its task goes on
 abbrev pub awake : Region → Region
-awake r = let s = passed r.rest r.groups in record r { rest = s.rest; groups = s.groups; waiting = None }
+awake r = let s = groups_passed r.rest r.groups in record r { rest = s.rest; groups = s.groups; waiting = None }
 
 -- the region once the worker has a piece of it, which holds this
-abbrev pub begun : ℕ → Lease → Region → Region
-begun worker lease r = let s = awake r in record s { rest = behind s.rest; running = Some (record { worker = worker; assigns = leading s.rest; lease = lease }) }
+abbrev pub piece_begun : ℕ → Lease → Region → Region
+piece_begun worker lease r = let s = awake r in record s { rest = after_parts s.rest; running = Some (record { worker = worker; assigns = leading s.rest; lease = lease }) }
 
 -- some worker has a piece of these assigns, which holds this
 abbrev pub IsWith : Option Run → Body → Lease → Type 0

@@ -5,7 +5,7 @@ use Rattle.ot_model.specs.Cells.{updated}
 use Rattle.ot_model.specs.declared.stmt.Use.{Use}
 use Rattle.ot_model.specs.declared.expr.Cell.{Cell}
 use Rattle.ot_model.specs.declared.fold.Fold.{Fold as Operation}
-use Rattle.ot_depend.specs.Siblings.{Sibling, created, with_finished, is_unfinished, is_unfinished_in}
+use Rattle.ot_depend.specs.Siblings.{Sibling, sibling_created, with_finished, is_unfinished, is_unfinished_in}
 use Rattle.ot_check.specs.Offences.{Declared, awaits}
 use Rattle.ot_owner.specs.Lending.{Lease}
 use Rattle.std.specs.List.{list_any}
@@ -66,15 +66,15 @@ new_region parent child uses body =
 
 -- with a child more, created in the open groups
 abbrev pub with_child : List Use → Region → Region
-with_child uses r = record r { children = r.children ++ created uses (map (λ o. o.group) r.groups) ∷ [] }
+with_child uses r = record r { children = r.children ++ sibling_created uses (map (λ o. o.group) r.groups) ∷ [] }
 
 -- inside a group
 abbrev pub inside : ℕ → Operation → List Cell → Body → Region → Region
 inside g op cells body r = record r { rest = body; groups = record { group = g; op = op; cells = cells; behind = r.rest } ∷ r.groups }
 
 -- no piece of it is out
-abbrev pub stopped : Region → Region
-stopped r = record r { running = None }
+abbrev pub region_stopped : Region → Region
+region_stopped r = record r { running = None }
 
 -- its body has ended
 abbrev pub over : Region → Region
@@ -107,8 +107,8 @@ stepped_from taken g (Next (Group o cs b) rest) r = inside g o cs b (with_rest r
 stepped_from taken g (Next (Task d b) rest) r = with_rest rest r
 stepped_from taken g rest r = r
 
-abbrev pub stepped : Bool → ℕ → Region → Region
-stepped taken g r = stepped_from taken g r.rest r
+abbrev pub region_stepped : Bool → ℕ → Region → Region
+region_stepped taken g r = stepped_from taken g r.rest r
 
 -- the task that comes next
 abbrev pub next_task : Body → Option (List Use × Body)
@@ -145,8 +145,8 @@ with_created i None rs = rs
 with_created i (Some child) rs = updated rs i (with_child child.0) ++ new_region i (children_at rs i) child.0 child.1 ∷ []
 
 -- the regions once task i has executed the control statement that comes next
-abbrev pub executed : Bool → ℕ → ℕ → List Region → List Region
-executed taken g i rs = with_created i (next_task (rest_at rs i)) (updated rs i (stepped taken g))
+abbrev pub control_executed : Bool → ℕ → ℕ → List Region → List Region
+control_executed taken g i rs = with_created i (next_task (rest_at rs i)) (updated rs i (region_stepped taken g))
 
 -- What holds a task that has no piece out.
 

@@ -3,8 +3,8 @@ ghost use Rattle.ot_model.specs.declared.expr.Cell.{Cell};
 ghost use Rattle.ot_owner.specs.Lending.{value_at, lease_of, MayChange};
 ghost use Rattle.ot_parts.specs.Steps.{deed_of, Join, JoinBack, Choose, Write, WriteJoined};
 ghost use Rattle.ot_job_task.specs.Assigns.{CanAssign};
-ghost use Rattle.ot_job_task.specs.Copies.{assigned, Look};
-ghost use Rattle.ot_job_task.specs.Deeds.{stacked, changed, CanDo};
+ghost use Rattle.ot_job_task.specs.Copies.{copies_assigned, Look};
+ghost use Rattle.ot_job_task.specs.Deeds.{stack_behind, copies_changed, CanDo};
 ghost use Rattle.ot_model.specs.Tree.{applied};
 
 use crate::stack::Stack;
@@ -16,7 +16,7 @@ use ot_parts::{Assigns, Step};
 pub fn assign_all(assigns: &Assigns, lent: &mut Lent)
     requires can { CanAssign assigns.now lent.old }
     ensures lease { lease_of lent.new ≡ lease_of lent.old }
-    ensures made { (c : Cell) → value_at lent.new c ≡ assigned assigns.now (value_at lent.old) c }
+    ensures made { (c : Cell) → value_at lent.new c ≡ copies_assigned assigns.now (value_at lent.old) c }
     ensures there { (c : Cell) → IsSome (value_at lent.old c) → IsSome (value_at lent.new c) }
 {
     let mut stack = Stack::new();
@@ -30,8 +30,8 @@ pub fn assign_all(assigns: &Assigns, lent: &mut Lent)
 fn make(step: Step, stack: &mut Stack, lent: &mut Lent)
     requires { CanDo lent.old (length stack.old) (deed_of step) }
     ensures lease { lease_of lent.new ≡ lease_of lent.old }
-    ensures stacked { stack.new ≡ stacked (deed_of step) (value_at lent.old) stack.old }
-    ensures changed { (c : Cell) → value_at lent.new c ≡ changed (deed_of step) stack.old (value_at lent.old) c }
+    ensures stacked { stack.new ≡ stack_behind (deed_of step) (value_at lent.old) stack.old }
+    ensures changed { (c : Cell) → value_at lent.new c ≡ copies_changed (deed_of step) stack.old (value_at lent.old) c }
 {
     match step {
         Step::Number(number) => stack.push(number),
@@ -59,7 +59,7 @@ fn pick(stack: &mut Stack, lent: &Lent, near: u32, section: Section)
     requires some { 0 < length stack.old }
     requires chosen { 0 < section.len }
     requires fits { section.start + section.len ≤ 2 ^ 32 }
-    ensures { stack.new ≡ stacked (Choose section) (value_at lent.now) stack.old }
+    ensures { stack.new ≡ stack_behind (Choose section) (value_at lent.now) stack.old }
 {
     let place = (stack.pop() % u64::from(section.len)) as u32;
     let cell = Cell {
@@ -72,7 +72,7 @@ fn pick(stack: &mut Stack, lent: &Lent, near: u32, section: Section)
 /// Joins the two numbers on top, of which the upper one is the second operand.
 fn join(stack: &mut Stack, op: Op)
     requires { 1 < length stack.old }
-    ensures { (look : Look) → stack.new ≡ stacked (Join op) look stack.old }
+    ensures { (look : Look) → stack.new ≡ stack_behind (Join op) look stack.old }
 {
     let two = stack.pop();
     let one = stack.pop();
@@ -82,7 +82,7 @@ fn join(stack: &mut Stack, op: Op)
 /// The same, where the upper one is the first operand.
 fn join_back(stack: &mut Stack, op: Op)
     requires { 1 < length stack.old }
-    ensures { (look : Look) → stack.new ≡ stacked (JoinBack op) look stack.old }
+    ensures { (look : Look) → stack.new ≡ stack_behind (JoinBack op) look stack.old }
 {
     let one = stack.pop();
     let two = stack.pop();
@@ -94,8 +94,8 @@ fn write(stack: &mut Stack, lent: &mut Lent, near: u32, cell: Cell)
     requires some { 0 < length stack.old }
     requires may { MayChange lent.old cell }
     ensures lease { lease_of lent.new ≡ lease_of lent.old }
-    ensures stacked { stack.new ≡ stacked (Write cell) (value_at lent.old) stack.old }
-    ensures changed { (c : Cell) → value_at lent.new c ≡ changed (Write cell) stack.old (value_at lent.old) c }
+    ensures stacked { stack.new ≡ stack_behind (Write cell) (value_at lent.old) stack.old }
+    ensures changed { (c : Cell) → value_at lent.new c ≡ copies_changed (Write cell) stack.old (value_at lent.old) c }
 {
     let number = stack.pop();
     let Some(_) = lent.value_near(near as usize, cell) else {
@@ -109,8 +109,8 @@ fn write_joined(stack: &mut Stack, lent: &mut Lent, op: Fold, near: u32, cell: C
     requires some { 0 < length stack.old }
     requires may { MayChange lent.old cell }
     ensures lease { lease_of lent.new ≡ lease_of lent.old }
-    ensures stacked { stack.new ≡ stacked (WriteJoined op cell) (value_at lent.old) stack.old }
-    ensures changed { (c : Cell) → value_at lent.new c ≡ changed (WriteJoined op cell) stack.old (value_at lent.old) c }
+    ensures stacked { stack.new ≡ stack_behind (WriteJoined op cell) (value_at lent.old) stack.old }
+    ensures changed { (c : Cell) → value_at lent.new c ≡ copies_changed (WriteJoined op cell) stack.old (value_at lent.old) c }
 {
     let number = stack.pop();
     let Some(before) = lent.value_near(near as usize, cell) else {

@@ -29,10 +29,10 @@ impl Place {
     ghost use Rattle.ot_model.specs.Tree.{End, S};
     ghost use Rattle.ot_model.specs.Cells.{AreInOrder};
     ghost use Rattle.ot_model.specs.View.{expr_of};
-    ghost use Rattle.ot_parts.specs.Parts.{branched, control_next, past_control, part_of, parts_of};
+    ghost use Rattle.ot_parts.specs.Parts.{branch_taken, control_next, past_control, part_of, parts_of};
     ghost use Rattle.ot_parts.specs.Assigns.{AreHeldBy};
     ghost use Rattle.ot_job_task.specs.RegionView.{standing_of};
-    ghost use Rattle.ot_job_task.specs.Pieces.{passed_end, leading, behind, test_of, left_group};
+    ghost use Rattle.ot_job_task.specs.Pieces.{passed_end, leading, after_parts, test_of, left_group};
     ghost use Rattle.ot_job_task.specs.Regions.{weight, weight_behind, weight_left};
 
     /// At the beginning of a body. It takes no memory.
@@ -82,7 +82,7 @@ impl Place {
 
     /// Goes into one body of an `if` that comes next, if one does. Where memory is refused, it stays.
     pub(crate) fn branch(&mut self, taken: bool) -> Result<(), AllocError>
-        ensures branched { OnOk result (standing_of self.new ≡ record (standing_of self.old) { rest = branched taken (standing_of self.old).rest }) }
+        ensures branched { OnOk result (standing_of self.new ≡ record (standing_of self.old) { rest = branch_taken taken (standing_of self.old).rest }) }
         ensures same { OnErr result (standing_of self.new ≡ standing_of self.old) }
     {
         self.rest.branch(taken)
@@ -138,8 +138,8 @@ impl Place {
     pub(crate) fn leading(&self, alloc: Global, own: Option<&Decl>) -> Result<Leading, AllocError>
         requires named { (lens : List ℕ) × NamedIn lens (passed_end (standing_of self.now)).rest }
         ensures assigns { IfOk result (λ l. l.assigns ≡ leading (passed_end (standing_of self.now)).rest) }
-        ensures condition { IfOk result (λ l. option_map expr_of l.condition ≡ test_of (behind (passed_end (standing_of self.now)).rest)) }
-        ensures held { IfOk result (λ l. AreHeldBy (option_map (λ o. o.now) own.entry) (leading (passed_end (standing_of self.now)).rest) (test_of (behind (passed_end (standing_of self.now)).rest)) (arc_value l.held)) }
+        ensures condition { IfOk result (λ l. option_map expr_of l.condition ≡ test_of (after_parts (passed_end (standing_of self.now)).rest)) }
+        ensures held { IfOk result (λ l. AreHeldBy (option_map (λ o. o.now) own.entry) (leading (passed_end (standing_of self.now)).rest) (test_of (after_parts (passed_end (standing_of self.now)).rest)) (arc_value l.held)) }
         ensures ordered { IfOk result (λ l. AreInOrder (arc_value l.held)) }
     {
         self.awake().leading(alloc, own)
@@ -160,7 +160,7 @@ impl Place {
     /// Passes the end of the innermost open group where it is reached, and the sets and folds that come
     /// then. It takes no memory.
     pub(crate) fn go_on(&mut self)
-        ensures { standing_of self.new ≡ record (passed_end (standing_of self.old)) { rest = behind (passed_end (standing_of self.old)).rest } }
+        ensures { standing_of self.new ≡ record (passed_end (standing_of self.old)) { rest = after_parts (passed_end (standing_of self.old)).rest } }
     {
         self.pass_end();
         self.rest.pass();

@@ -3,7 +3,7 @@ ghost use Rattle.std.specs.Prelude.{◌≡◌, ℕ, List, IfOk, IsSome, All, opt
 ghost use Rattle.ot_model.specs.Names.{NamedIn};
 ghost use Rattle.ot_model.specs.Cells.{AreInOrder, cell_of, lengths};
 ghost use Rattle.ot_model.specs.View.{expr_of};
-ghost use Rattle.ot_job_task.specs.Pieces.{leading, behind, test_of, awake};
+ghost use Rattle.ot_job_task.specs.Pieces.{leading, after_parts, test_of, awake};
 ghost use Rattle.ot_job_task.specs.Assigns.{AreHeld};
 
 use crate::task::Task;
@@ -29,7 +29,7 @@ pub fn prepare(alloc: Global, task: &Task) -> Result<Prepared, AllocError>
     requires named { (lens : List ℕ) × NamedIn lens (awake task.now).rest }
     ensures assigns { IfOk result (λ p. p.assigns ≡ leading (awake task.now).rest) }
     ensures shared { IfOk result (λ p. p.shared ≡ p.assigns) }
-    ensures test { IfOk result (λ p. option_map expr_of p.condition ≡ test_of (behind (awake task.now).rest)) }
+    ensures test { IfOk result (λ p. option_map expr_of p.condition ≡ test_of (after_parts (awake task.now).rest)) }
     ensures held { IfOk result (λ p. AreHeld task.now (arc_value p.decl)) }
     ensures ordered { IfOk result (λ p. AreInOrder (arc_value p.decl)) }
     ensures there { (cells : List (List ℕ)) → NamedIn (lengths cells) (awake task.now).rest → IfOk result (λ p. All (λ u. IsSome (cell_of cells u.cell)) (arc_value p.decl)) }

@@ -10,11 +10,11 @@ pub(crate) struct Stack {
 /// The numbers, the one on top first.
 impl Model for Stack {
     ghost use Rattle.std.specs.Prelude.{ℕ, List, ◌≤◌};
-    ghost use Rattle.ot_job_task.specs.Deeds.{piled};
+    ghost use Rattle.ot_job_task.specs.Deeds.{numbers_piled};
 
     ghost Value = { List ℕ };
 
-    ghost view = { λ s. piled s.height s.numbers };
+    ghost view = { λ s. numbers_piled s.height s.numbers };
 
     ghost invariant = { λ s. s.height ≤ 64 };
 }

@@ -1,4 +1,4 @@
-ghost use Rattle.ot_job_task.specs.Regions.{Region, root_region, new_region, child_of, stepped, next_task, with_noted, is_control, tasks_next, group_next, with_child, with_rest, without, over, stopped, is_let_go, end_lets_go, region_weight};
+ghost use Rattle.ot_job_task.specs.Regions.{Region, root_region, new_region, child_of, region_stepped, next_task, with_noted, is_control, tasks_next, group_next, with_child, with_rest, without, over, region_stopped, is_let_go, end_lets_go, region_weight};
 
 use crate::place::Place;
 use crate::running::Running;
@@ -53,7 +53,7 @@ impl Task {
     ghost use Rattle.ot_parts.specs.Parts.{past_control, parts_of};
     ghost use Rattle.ot_parts.specs.Assigns.{AreHeldBy};
     ghost use Rattle.ot_depend.specs.Siblings.{IsReady, IsUnfinished, is_ready, with_finished, LetsTheSame, WaitForLess};
-    ghost use Rattle.ot_job_task.specs.Pieces.{leading, behind, test_of, awake, begun, Runs, group_passed, is_at_end};
+    ghost use Rattle.ot_job_task.specs.Pieces.{leading, after_parts, test_of, awake, piece_begun, Runs, group_passed, is_at_end};
 
     /// The root task at the beginning of the program's body. It takes no memory.
     pub fn root(alloc: Global, body: Arc<Vec<Part>>) -> Task
@@ -153,8 +153,8 @@ impl Task {
     pub(crate) fn leading(&self, alloc: Global) -> Result<Leading, AllocError>
         requires named { (lens : List ℕ) × NamedIn lens (awake self.now).rest }
         ensures assigns { IfOk result (λ l. l.assigns ≡ leading (awake self.now).rest) }
-        ensures condition { IfOk result (λ l. option_map expr_of l.condition ≡ test_of (behind (awake self.now).rest)) }
-        ensures held { IfOk result (λ l. AreHeldBy self.now.own (leading (awake self.now).rest) (test_of (behind (awake self.now).rest)) (arc_value l.held)) }
+        ensures condition { IfOk result (λ l. option_map expr_of l.condition ≡ test_of (after_parts (awake self.now).rest)) }
+        ensures held { IfOk result (λ l. AreHeldBy self.now.own (leading (awake self.now).rest) (test_of (after_parts (awake self.now).rest)) (arc_value l.held)) }
         ensures ordered { IfOk result (λ l. AreInOrder (arc_value l.held)) }
     {
         self.place.leading(alloc, self.own())
@@ -194,7 +194,7 @@ impl Task {
     /// Goes on with a piece that is out from now on, of which it keeps this. It takes no memory.
     pub fn begin(&mut self, running: Running)
         requires { running.assigns ≡ leading (awake self.old).rest }
-        ensures { self.new ≡ begun running.worker running.lease self.old }
+        ensures { self.new ≡ piece_begun running.worker running.lease self.old }
     {
         self.place.go_on();
         self.waiting = Waiting::Nowhere;
@@ -288,7 +288,7 @@ impl Task {
 
     /// No piece of it is out any more.
     pub fn stop(&mut self)
-        ensures { self.new ≡ stopped self.old }
+        ensures { self.new ≡ region_stopped self.old }
     {
         self.running = None;
     }
@@ -303,7 +303,7 @@ impl Task {
         taken: bool,
         group: u32,
     ) -> Result<Option<Task>, AllocError>
-        ensures stepped { OnOk result (self.new ≡ with_noted (next_task self.old.rest) (stepped taken group self.old)) }
+        ensures stepped { OnOk result (self.new ≡ with_noted (next_task self.old.rest) (region_stepped taken group self.old)) }
         ensures child { IfOk result (λ child. child ≡ option_map (child_of number self.old) (next_task self.old.rest)) }
         ensures ordered { OnOk result ((c : List Use × Body) → next_task self.old.rest ≡ Some c → AreInOrder c.0) }
         ensures refused { OnErr result (self.new ≡ self.old) }

@@ -13,7 +13,7 @@ use Rattle.ot_model.specs.declared.stmt.Use.{Use}
 use Rattle.ot_law_profile1.specs.Tree.{Mode1, Reads1, Writes1, Adds1, Use1, conflicts1, is_adds1, S1, Set1, Add1, If1, Task1, Wait1, Group1, Body1, End1, Next1, size1, size_one1}
 use Rattle.ot_law_profile1.specs.Upward.{up_mode, up_use, up_uses, up_one, up, up_mark, up_step, up_path}
 use Rattle.ot_law_profile1.proofs.SerialLemmas.{any-map, any-same, size-up, size_one-up}
-use Rattle.ot_check.specs.Offences.{Mark, Touch, Enter, Leave, Step, At, use_as, touches, touched, PassesOne, Passes, has_cell, covers, folds_by, Declared, allows, folds_to, exceeds, opened_by_any, misfits_as, misfits, clashes, stays_within, is_awaited, unawaited, is_open, breaks, OnPath, CanEndWithChildren, InTasksOfOne, InTasks, Offends, IsFirstOf}
+use Rattle.ot_check.specs.Offences.{Mark, Touch, Enter, Leave, Step, At, use_as, touches, touch_steps, PassesOne, Passes, has_cell, covers, folds_by, Declared, allows, folds_to, exceeds, opened_by_any, misfits_as, misfits, clashes, stays_within, is_awaited, unawaited_uses, is_open, breaks, OnPath, CanEndWithChildren, InTasksOfOne, InTasks, Offends, IsFirstOf}
 use Rattle.ot_check.specs.declared.fault.Offence.{Offence}
 use Rattle.ot_check.specs.declared.fault.Offence.TheVariants.{NotDeclared, ChildBeyond, ReductionMisuse, ConflictsWithChild, EndsWithChildren}
 use Rattle.ot_law_profile1.specs.Offences.{Mark1, Touch1, Create1, Await1, Enter1, Leave1, Step1, At1, use_as1, touches1, touched1, PassesOne1, Passes1, covers1, Declared1, allows1, adds_to1, exceeds1, misfits1, clashes1, stays_within1, has_wait1, unawaited1, is_open1, breaks1, OnPath1, CanEndWithChildren1, InTasksOfOne1, InTasks1, Offends1}
@@ -46,12 +46,12 @@ touches-up (Task1 d b) = refl
 touches-up Wait1 = refl
 touches-up (Group1 cs b) = refl
 
-up-touched : (k : ℕ) (us : List Use1) → up_path (touched1 k us) ≡ touched k (map up_use us)
+up-touched : (k : ℕ) (us : List Use1) → up_path (touched1 k us) ≡ touch_steps k (map up_use us)
 up-touched k [] = refl
 up-touched k (u ∷ us) = ap (λ p. At k (Touch (up_use u)) ∷ p) (up-touched k us)
 
-touched-up : (k : ℕ) (x : S1) → up_path (touched1 k (touches1 x)) ≡ touched k (touches (up_one x))
-touched-up k x = up-touched k (touches1 x) ∙ ap (touched k) (touches-up x)
+touched-up : (k : ℕ) (x : S1) → up_path (touched1 k (touches1 x)) ≡ touch_steps k (touches (up_one x))
+touched-up k x = up-touched k (touches1 x) ∙ ap (touch_steps k) (touches-up x)
 
 -- ---- paths
 
@@ -130,12 +130,12 @@ kept-up : (b : Bool) (d : List Use1) (ds : List (List Use1)) → map up_uses (if
 kept-up true d ds = refl
 kept-up false d ds = refl
 
-unawaited-up : (path : List Step1) → unawaited (up_path path) ≡ map up_uses (unawaited1 path)
+unawaited-up : (path : List Step1) → unawaited_uses (up_path path) ≡ map up_uses (unawaited1 path)
 unawaited-up [] = refl
 unawaited-up (At1 k (Touch1 u) ∷ path) = unawaited-up path
 unawaited-up (At1 k (Create1 d) ∷ path) =
-    ap (λ w. if w && not (is_awaited (up_uses d) (up_path path)) then up_uses d ∷ unawaited (up_path path) else unawaited (up_path path)) (within-up 0 path)
-    ∙ ap (λ a. if stays_within1 0 path && not a then up_uses d ∷ unawaited (up_path path) else unawaited (up_path path)) (awaited-up (up_uses d) path)
+    ap (λ w. if w && not (is_awaited (up_uses d) (up_path path)) then up_uses d ∷ unawaited_uses (up_path path) else unawaited_uses (up_path path)) (within-up 0 path)
+    ∙ ap (λ a. if stays_within1 0 path && not a then up_uses d ∷ unawaited_uses (up_path path) else unawaited_uses (up_path path)) (awaited-up (up_uses d) path)
     ∙ ap (λ ds. if stays_within1 0 path && not (has_wait1 path) then up_uses d ∷ ds else ds) (unawaited-up path)
     ∙ sym (kept-up (stays_within1 0 path && not (has_wait1 path)) d (unawaited1 path))
 unawaited-up (At1 k Await1 ∷ path) = unawaited-up path
@@ -233,11 +233,11 @@ clashes-up u child =
     any-map up_use (λ d. same_cell d.cell u.cell && conflicts d.mode (up_mode u.mode)) (λ d. same_cell d.cell u.cell && conflicts1 d.mode u.mode)
     (λ d. ap (λ w. same_cell d.cell u.cell && w) (conflicts-up d.mode u.mode)) child
 
-clash-up : (u : Use1) (path : List Step1) → list_any (clashes (up_use u)) (unawaited (up_path path)) ≡ list_any (clashes1 u) (unawaited1 path)
+clash-up : (u : Use1) (path : List Step1) → list_any (clashes (up_use u)) (unawaited_uses (up_path path)) ≡ list_any (clashes1 u) (unawaited1 path)
 clash-up u path = ap (list_any (clashes (up_use u))) (unawaited-up path) ∙ any-map up_uses (clashes (up_use u)) (clashes1 u) (clashes-up u) (unawaited1 path)
 
 breaks-up : (own : Declared1) (path : List Step1) (mark : Mark1) (offence : Offence)
-    → breaks (up_own own) (is_open (up_path path)) (unawaited (up_path path)) (up_mark mark) offence ≡ breaks1 own (is_open1 path) (unawaited1 path) mark offence
+    → breaks (up_own own) (is_open (up_path path)) (unawaited_uses (up_path path)) (up_mark mark) offence ≡ breaks1 own (is_open1 path) (unawaited1 path) mark offence
 breaks-up own path (Touch1 u) NotDeclared = ap not (allows-up own u)
 breaks-up own path (Touch1 u) ChildBeyond = refl
 breaks-up own path (Touch1 u) ReductionMisuse = any_open-up path u.cell
@@ -256,7 +256,7 @@ breaks-up own path (Enter1 cs) ReductionMisuse =
     any-same (λ c. not (allows (up_own own) (use_as Writes c)) || opened_by_any (is_open (up_path path)) c) (λ c. not (allows1 own (use_as1 Writes1 c)) || is_open1 path c)
     (λ c. ap (λ w. not w || opened_by_any (is_open (up_path path)) c) (allows-up own (use_as1 Writes1 c)) ∙ ap (λ w. not (allows1 own (use_as1 Writes1 c)) || w) (any_open-up path c)) cs
 breaks-up own path (Enter1 cs) ConflictsWithChild =
-    any-same (λ c. list_any (clashes (use_as Writes c)) (unawaited (up_path path))) (λ c. list_any (clashes1 (use_as1 Writes1 c)) (unawaited1 path)) (λ c. clash-up (use_as1 Writes1 c) path) cs
+    any-same (λ c. list_any (clashes (use_as Writes c)) (unawaited_uses (up_path path))) (λ c. list_any (clashes1 (use_as1 Writes1 c)) (unawaited1 path)) (λ c. clash-up (use_as1 Writes1 c) path) cs
 breaks-up own path (Enter1 cs) EndsWithChildren = refl
 breaks-up own path Leave1 offence = refl
 
@@ -335,8 +335,8 @@ on_path-old k b own place offence (before, later, mark, way, h) =
       old_mark p.step1,
       subst (Passes1 k b) (p.whole ∙ ap (λ s. p.before1 ++ s ∷ p.later1) step) q.1,
       sym (breaks-up own p.before1 (old_mark p.step1) offence)
-          ∙ ap (λ path. breaks (up_own own) (is_open path) (unawaited path) (up_mark (old_mark p.step1)) offence) (sym p.is_before)
-          ∙ ap (λ m. breaks (up_own own) (is_open before) (unawaited before) m offence) (sym is_mark) ∙ h,
+          ∙ ap (λ path. breaks (up_own own) (is_open path) (unawaited_uses path) (up_mark (old_mark p.step1)) offence) (sym p.is_before)
+          ∙ ap (λ m. breaks (up_own own) (is_open before) (unawaited_uses before) m offence) (sym is_mark) ∙ h,
     )
 
 -- ---- offences in tasks
@@ -346,7 +346,7 @@ ends-up k b (path, way, some) = (up_path path, up-passes k b path way, λ none. 
 
 ends-old : (k : ℕ) (b : Body1) → CanEndWithChildren k (up b) → CanEndWithChildren1 k b
 ends-old k b (path, way, some) = let q = passes-up k b path way in
-    (q.0, q.1, λ none. some (ap unawaited q.2 ∙ unawaited-up q.0 ∙ ap (map up_uses) none))
+    (q.0, q.1, λ none. some (ap unawaited_uses q.2 ∙ unawaited-up q.0 ∙ ap (map up_uses) none))
 
 mutual
   in_one-up : (k : ℕ) (x : S1) (place : ℕ) (offence : Offence) → InTasksOfOne1 k x place offence → InTasksOfOne k (up_one x) place offence

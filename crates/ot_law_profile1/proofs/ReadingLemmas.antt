@@ -18,10 +18,10 @@ use Rattle.ot_law_profile1.specs.Tree.{Mode1, Reads1, Writes1, Adds1, same_mode1
 use Rattle.ot_law_profile1.specs.Upward.{up_mode, up_use, up_uses, up_one, up, up_program, up_read, ReadingIsKept, FirstIsNotSecond}
 use Rattle.ot_law_profile1.proofs.SerialLemmas.{any-map, any-same, size-up, tasks_in-up}
 use Rattle.ot_program.specs.Copies.{Text, SetText, AddText, IfText, ForText, Turn, TaskText, WaitText, GroupText, ProgramText, NoForm, Placed, Copy, Copies, At, Done, Then, at, turns, copies, copies_of, copy, in_copy, in_order, statement, statement_of, statements_of}
-use Rattle.ot_program.specs.Meanings.{names, named_cells, named_as, operation_in, first_fold, mode_among, named_otherwise, is_mixed, uses, placed, items, letters, Bindings, size as size_of, section, value, mode_of, Clause, clause, is_word}
-use Rattle.ot_program.specs.Faults.{unless, no_list, list_faults, clause_faults, section_faults, mixed, nested, text_faults, past_limits}
+use Rattle.ot_program.specs.Meanings.{names, named_cells, named_as, operation_in, first_fold, mode_among, named_otherwise, is_mixed, uses, cell_placed, items, letters, Bindings, size as size_of, section, value, mode_of, Clause, clause, is_word}
+use Rattle.ot_program.specs.Faults.{unless, no_list, list_faults, clause_faults, section_faults, faults_mixed, faults_nested, text_faults, past_limits}
 use Rattle.ot_program.specs.Limits.{cells_in, tally, plus, own_tally, total}
-use Rattle.ot_program.specs.Programs.{foremost, told_or, faults_behind, told, expansion, program_copy, program_in}
+use Rattle.ot_program.specs.Programs.{foremost, told_or, faults_behind, fault_told, expansion, program_copy, program_in}
 use Rattle.ot_program.specs.declared.fault.Refusal.{Refusal}
 use Rattle.ot_program.specs.declared.fault.Refusal.TheVariants.{Form, MixedReduction}
 use Rattle.ot_law_profile1.proofs.Profiles.{One, Two}
@@ -123,7 +123,7 @@ same_mode-up Adds1 Writes1 = refl
 same_mode-up Adds1 Adds1 = refl
 
 named_cells-up : (cs : List Clause1) → named_cells (map up_clause cs) ≡ named_cells1 cs
-named_cells-up cs = ap (fold placed []) (flat-map up_clause (λ clause. cells_of clause.section) cs)
+named_cells-up cs = ap (fold cell_placed []) (flat-map up_clause (λ clause. cells_of clause.section) cs)
 
 abbrev names1 : Cell → Clause1 → Bool
 names1 c clause = list_any (same_cell c) (cells_of clause.section)
@@ -189,7 +189,7 @@ mixed-up cs c =
     (λ k. mixed_modes cs c k.mode (names1 c k)) cs
     ∙ any-and (named_so Adds1 c) (named_as1 Writes1 cs c || named_as1 Reads1 cs c) cs
 
-all_mixed-up : (cs : List Clause1) → mixed (map up_clause cs) ≡ mixed1 cs
+all_mixed-up : (cs : List Clause1) → faults_mixed (map up_clause cs) ≡ mixed1 cs
 all_mixed-up cs =
     ap (λ w. unless (not w) MixedReduction)
     (ap (list_any (is_mixed (map up_clause cs))) (named_cells-up cs) ∙ any-same (is_mixed (map up_clause cs)) (is_mixed1 cs) (mixed-up cs) (named_cells1 cs))
@@ -327,10 +327,10 @@ module _ (shape : Arrays) where
   text_faults-up level variables (ForText1 a b c d) = refl
   text_faults-up level variables Turn1 = refl
   text_faults-up level variables (TaskText1 a b) =
-      ap (λ fs. ((no_list a ++ fs) ++ no_list b) ++ (nested level ++ mixed (map (clause shape One variables) (items a))))
+      ap (λ fs. ((no_list a ++ fs) ++ no_list b) ++ (faults_nested level ++ faults_mixed (map (clause shape One variables) (items a))))
       (flat-same (clause_faults shape One variables) (clause_faults1 shape variables) (clause_faults-up shape variables) (items a))
-      ∙ ap (λ ms. (list_faults (clause_faults1 shape variables) a ++ no_list b) ++ (nested level ++ ms))
-      (ap mixed (clauses-up shape variables a) ∙ all_mixed-up (map (clause1 shape variables) (items a)))
+      ∙ ap (λ ms. (list_faults (clause_faults1 shape variables) a ++ no_list b) ++ (faults_nested level ++ ms))
+      (ap faults_mixed (clauses-up shape variables a) ∙ all_mixed-up (map (clause1 shape variables) (items a)))
   text_faults-up level variables WaitText1 = refl
   text_faults-up level variables (GroupText1 a b) = refl
   text_faults-up level variables (ProgramText1 a b) = refl
@@ -359,12 +359,12 @@ module _ (shape : Arrays) where
       ∙ ap (λ n. own_faults1 shape p ++ past_limits shape.tasks n)
       (ap (total shape) (sym (map-append up_placed before (p ∷ []))) ∙ total-up (before ++ p ∷ []))
 
-  told-up : (before rest : List Placed1) → told shape (map up_placed before) (map up_placed rest) ≡ told1 shape before rest
+  told-up : (before rest : List Placed1) → fault_told shape (map up_placed before) (map up_placed rest) ≡ told1 shape before rest
   told-up before [] = refl
   told-up before (p ∷ rest) =
-      ap (λ fs. option_or (foremost fs) (told shape (map up_placed before ++ up_placed p ∷ []) (map up_placed rest))) (behind-up before p)
+      ap (λ fs. option_or (foremost fs) (fault_told shape (map up_placed before ++ up_placed p ∷ []) (map up_placed rest))) (behind-up before p)
       ∙ ap (λ o. option_or (foremost (faults_behind1 shape before p)) o)
-      (ap (λ ps. told shape ps (map up_placed rest)) (sym (map-append up_placed before (p ∷ []))) ∙ told-up (before ++ p ∷ []) rest)
+      (ap (λ ps. fault_told shape ps (map up_placed rest)) (sym (map-append up_placed before (p ∷ []))) ∙ told-up (before ++ p ∷ []) rest)
 
 -- ---- programs
 
@@ -386,10 +386,10 @@ program-up : (shape : Arrays) (a b : Data) → program_in shape (Some One) a b
 program-up shape a b =
     let shows = map (section shape []) (items a) in
     let old = program_copy1 a b in
-    ap (λ c. told_or (expansion shows (statement_of shape c)) (told shape [] (in_copy c))) (program_copy-up a b)
-    ∙ ap (λ ss. told_or (expansion shows ss) (told shape [] (in_copy (up_copy old)))) (statement_of-up shape old)
-    ∙ ap (λ x. told_or x (told shape [] (in_copy (up_copy old)))) (expansion-up shows (statement_of1 shape old))
-    ∙ ap (told_or (up_program (expansion1 shows (statement_of1 shape old)))) (ap (told shape []) (in_copy-up old) ∙ told-up shape [] (in_copy1 old))
+    ap (λ c. told_or (expansion shows (statement_of shape c)) (fault_told shape [] (in_copy c))) (program_copy-up a b)
+    ∙ ap (λ ss. told_or (expansion shows ss) (fault_told shape [] (in_copy (up_copy old)))) (statement_of-up shape old)
+    ∙ ap (λ x. told_or x (fault_told shape [] (in_copy (up_copy old)))) (expansion-up shows (statement_of1 shape old))
+    ∙ ap (told_or (up_program (expansion1 shows (statement_of1 shape old)))) (ap (fault_told shape []) (in_copy-up old) ∙ told-up shape [] (in_copy1 old))
     ∙ told_or-up (expansion1 shows (statement_of1 shape old)) (told1 shape [] (in_copy1 old))
 
 -- a text of three items whose first is no `program2`

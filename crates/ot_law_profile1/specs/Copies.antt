@@ -4,7 +4,7 @@ use Rattle.serde_json.specs.Data.{Data, array, Items, no_items, item}
 use Rattle.ot_model.specs.Programs.{Arrays}
 use Rattle.ot_model.specs.Tree.{cells_of}
 use Rattle.ot_law_profile1.specs.Tree.{S1, Set1, Add1, If1, Task1, Wait1, Group1, body_of1, Mode1, Reads1, Writes1, Adds1, Use1, same_mode1}
-use Rattle.ot_program.specs.Meanings.{items, letters, Bindings, size, cell, section, value, is_word, placed}
+use Rattle.ot_program.specs.Meanings.{items, letters, Bindings, size, cell, section, value, is_word, cell_placed}
 use Rattle.std.specs.List.{list_any}
 use Rattle.ot_model.specs.Cells.{same_cell}
 use Rattle.ot_model.specs.declared.expr.Cell.{Cell}
@@ -32,7 +32,7 @@ module _ (shape : Arrays) (variables : Bindings) where
 
 -- the cells that clauses name, each once
 abbrev pub named_cells1 : List Clause1 → List Cell
-named_cells1 clauses = fold placed [] (flat_map (λ clause. cells_of clause.section) clauses)
+named_cells1 clauses = fold cell_placed [] (flat_map (λ clause. cells_of clause.section) clauses)
 
 -- ---- the modes
 

@@ -6,7 +6,7 @@ use Rattle.serde_json.specs.Data.{Data, array, no_items, item}
 use Rattle.ot_model.specs.Programs.{Arrays}
 use Rattle.ot_model.specs.declared.expr.Section.{Section}
 use Rattle.ot_law_profile1.specs.Tree.{S1, body_of1, size1, tasks_in1, Expanded1}
-use Rattle.ot_program.specs.Faults.{unless, no_list, list_faults, deep, name_faults, size_faults, cell_faults, section_faults, expression_faults, nested, past_limits}
+use Rattle.ot_program.specs.Faults.{unless, no_list, list_faults, deep, name_faults, size_faults, cell_faults, section_faults, expression_faults, faults_nested, past_limits}
 use Rattle.ot_program.specs.Limits.{size_depth, cells_in, Tally, tally, plus, with_value}
 use Rattle.ot_program.specs.Meanings.{items, Bindings, section, value, is_word}
 use Rattle.ot_program.specs.Programs.{foremost, told_or}
@@ -28,17 +28,17 @@ module _ (shape : Arrays) where
   abbrev pub text_faults1 : ℕ → Bindings → Text1 → List Refusal
   text_faults1 level variables (SetText1 a b) = cell_faults shape variables a ++ expression_faults shape variables b
   text_faults1 level variables (AddText1 a b) = cell_faults shape variables a ++ expression_faults shape variables b
-  text_faults1 level variables (IfText1 a b c) = (expression_faults shape variables a ++ (no_list b ++ no_list c)) ++ nested level
+  text_faults1 level variables (IfText1 a b c) = (expression_faults shape variables a ++ (no_list b ++ no_list c)) ++ faults_nested level
   text_faults1 level variables (ForText1 a b c d) =
       (name_faults a ++ ((size_faults variables b ++ size_faults variables c) ++ no_list d))
-      ++ (nested level ++ (deep (size_depth b) ++ deep (size_depth c)))
+      ++ (faults_nested level ++ (deep (size_depth b) ++ deep (size_depth c)))
   text_faults1 level variables Turn1 = []
   text_faults1 level variables (TaskText1 a b) =
       (list_faults (clause_faults1 shape variables) a ++ no_list b)
-      ++ (nested level ++ mixed1 (map (clause1 shape variables) (items a)))
+      ++ (faults_nested level ++ mixed1 (map (clause1 shape variables) (items a)))
   text_faults1 level variables WaitText1 = []
-  text_faults1 level variables (GroupText1 a b) = (list_faults (section_faults shape variables) a ++ no_list b) ++ nested level
-  text_faults1 level variables (ProgramText1 a b) = (list_faults (section_faults shape variables) a ++ no_list b) ++ nested level
+  text_faults1 level variables (GroupText1 a b) = (list_faults (section_faults shape variables) a ++ no_list b) ++ faults_nested level
+  text_faults1 level variables (ProgramText1 a b) = (list_faults (section_faults shape variables) a ++ no_list b) ++ faults_nested level
   text_faults1 level variables NoForm1 = Form ∷ []
 
   abbrev pub own_faults1 : Placed1 → List Refusal

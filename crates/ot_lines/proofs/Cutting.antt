@@ -7,7 +7,7 @@ use Rattle.std.proofs.lemmas.Bool.Decides.{nat_tests}
 use Rattle.memchr.specs.Find.{Nowhere, NoneBefore, Passes, is_byte}
 use Rattle.ot_lines.specs.declared.lines.Heard.TheVariants.{Line, Long}
 use Rattle.ot_lines.specs.Lines.{HasNoEnd, Hearing}
-use Rattle.ot_lines.specs.Cutting.{Cuts, taken, passed}
+use Rattle.ot_lines.specs.Cutting.{Cuts, bytes_taken, byte_passed}
 use Rattle.ot_lines.proofs.Passing.{passes_front}
 
 passes_ten : (b : ℕ) → b ≡ 10 → (b == 10) ≡ true
@@ -24,7 +24,7 @@ clean_front bytes to n low within nowhere = λ k inside is.
 
 -- the line ends in what was read
 pub cuts_line : (h : Hearing) (at : ℕ) → length h.since + length h.ahead ≤ h.most → NoneBefore (Passes (is_byte 10) h.ahead) 0 (length h.ahead) at × Passes (is_byte 10) h.ahead at → length h.line + at ≤ h.longest
-    → Cuts h (passed (taken at h)) (Some Line)
+    → Cuts h (byte_passed (bytes_taken at h)) (Some Line)
 cuts_line h at most found fits =
     let piece = take at h.ahead in
     let count : length piece ≡ at = length-take-le at h.ahead (omega (arith, found.0.high)) in
@@ -34,7 +34,7 @@ cuts_line h at most found fits =
     let more : drop 1 (drop at h.ahead) ≡ drop (suc at) h.ahead = ap (drop 1) behind in record {
       piece = piece;
       line = refl;
-      passes = λ f. passes_front h (passed (taken at h)) f (piece ++ 10 ∷ [])
+      passes = λ f. passes_front h (byte_passed (bytes_taken at h)) f (piece ++ 10 ∷ [])
           (sym (take-append-drop at h.ahead) ∙ ap (λ xs. piece ++ xs) (behind ∙ ap (λ xs. 10 ∷ xs) (sym more)) ∙ sym (append_assoc piece (10 ∷ []) (drop 1 (drop at h.ahead))))
           (ap (λ xs. (h.since ++ piece) ++ xs) one ∙ append_assoc h.since piece (10 ∷ [])) refl refl refl;
       left = refl;
@@ -50,14 +50,14 @@ cuts_line h at most found fits =
 
 -- it is too long
 pub cuts_long : (h : Hearing) (to : ℕ) → length h.since + length h.ahead ≤ h.most → to ≤ length h.ahead → Nowhere (Passes (is_byte 10) h.ahead) 0 to → length h.line ≤ h.longest → h.longest - length h.line < to
-    → Cuts h (taken (h.longest - length h.line + 1) h) (Some Long)
+    → Cuts h (bytes_taken (h.longest - length h.line + 1) h) (Some Long)
 cuts_long h to most within nowhere short past =
     let n = h.longest - length h.line + 1 in
     let piece = take n h.ahead in
     let count : length piece ≡ n = length-take-le n h.ahead (omega (arith, past, within)) in record {
       piece = piece;
       line = refl;
-      passes = λ f. passes_front h (taken n h) f (piece ++ [])
+      passes = λ f. passes_front h (bytes_taken n h) f (piece ++ [])
           (sym (take-append-drop n h.ahead) ∙ ap (λ xs. xs ++ drop n h.ahead) (sym (append-nil piece)))
           (ap (λ xs. h.since ++ xs) (sym (append-nil piece))) refl refl refl;
       left = refl;
@@ -72,13 +72,13 @@ cuts_long h to most within nowhere short past =
     }
 
 -- it goes on behind what was read
-pub cuts_all : (h : Hearing) (n : ℕ) → n ≡ length h.ahead → Nowhere (Passes (is_byte 10) h.ahead) 0 (length h.ahead) → length h.line + n ≤ h.longest → Cuts h (taken n h) None
+pub cuts_all : (h : Hearing) (n : ℕ) → n ≡ length h.ahead → Nowhere (Passes (is_byte 10) h.ahead) 0 (length h.ahead) → length h.line + n ≤ h.longest → Cuts h (bytes_taken n h) None
 cuts_all h n all nowhere fits =
     let piece = take n h.ahead in
     let count : length piece ≡ n = length-take-le n h.ahead (omega (arith, all)) in record {
       piece = piece;
       line = refl;
-      passes = λ f. passes_front h (taken n h) f (piece ++ [])
+      passes = λ f. passes_front h (bytes_taken n h) f (piece ++ [])
           (sym (take-append-drop n h.ahead) ∙ ap (λ xs. xs ++ drop n h.ahead) (sym (append-nil piece)))
           (ap (λ xs. h.since ++ xs) (sym (append-nil piece))) refl refl refl;
       left = refl;
@@ -124,13 +124,13 @@ same line new since grown ahead rest left longest most a b c =
 -- so many bytes went behind the line
 pub is_taken : (line new room : List ℕ) (from to n left longest : ℕ) → from + n ≤ to → new ≡ line ++ slice_range room from (from + n)
     → hearing new (take (from + n) room) (slice_range room (from + n) to) left longest (length room)
-    ≡ taken n (hearing line (take from room) (slice_range room from to) left longest (length room))
+    ≡ bytes_taken n (hearing line (take from room) (slice_range room from to) left longest (length room))
 is_taken line new room from to n left longest within grown =
     same _ _ _ _ _ _ left longest (length room) (grown ∙ ap (λ p. line ++ p) (prefix room from to n within)) (reach room from to n within) (further room from to n within)
 
 -- the next byte was heard
 pub is_passed : (line room : List ℕ) (from to left longest : ℕ) → from + 1 ≤ to
     → hearing line (take (from + 1) room) (slice_range room (from + 1) to) left longest (length room)
-    ≡ passed (hearing line (take from room) (slice_range room from to) left longest (length room))
+    ≡ byte_passed (hearing line (take from room) (slice_range room from to) left longest (length room))
 is_passed line room from to left longest within =
     same _ _ _ _ _ _ left longest (length room) refl (reach room from to 1 within) (further room from to 1 within)

@@ -3,16 +3,16 @@ use Rattle.std.proofs.Common.{◌≡◌, ℕ, zero, suc, ◌+◌, ◌*◌, ◌<�
 use Rattle.std.specs.Prelude.{All, Result, Ok, Err, ⊤}
 use Rattle.std.proofs.lemmas.List.Elements.{All-append}
 use Rattle.std.proofs.Math.Nat.{mul-le-mul_right}
-use Rattle.ot_lines.specs.Lines.{Flow, Hearing, Passes, Hears, ended, IsLine, Went, Through, Stops, Ends}
+use Rattle.ot_lines.specs.Lines.{Flow, Hearing, Passes, Hears, lines_ended, IsLine, Went, Through, Stops, Ends}
 use Rattle.ot_lines.specs.declared.lines.Heard.TheVariants.{Line, End, Long}
 use Rattle.ot_lines.specs.declared.lines.LineFault.{LineFault}
 use Rattle.ot_lines.specs.declared.lines.LineFault.TheVariants.{ReadFailed, TooManyReads}
 use Rattle.ot_lines.specs.declared.listener.Ended.TheVariants as ended_as
 use Rattle.ot_lines.proofs.Passing.{passes_nothing, passes_on}
 
-pub ended-append : (lines more : List (List ℕ)) → ended (lines ++ more) ≡ ended lines ++ ended more
+pub ended-append : (lines more : List (List ℕ)) → lines_ended (lines ++ more) ≡ lines_ended lines ++ lines_ended more
 ended-append [] more = refl
-ended-append (l ∷ lines) more = ap (λ rest. l ++ 10 ∷ rest) (ended-append lines more) ∙ sym (append_assoc l (10 ∷ ended lines) (ended more))
+ended-append (l ∷ lines) more = ap (λ rest. l ++ 10 ∷ rest) (ended-append lines more) ∙ sym (append_assoc l (10 ∷ lines_ended lines) (lines_ended more))
 
 all_one : (P : List ℕ → Type 0) (line : List ℕ) → P line → All P (line ∷ [])
 all_one P line is zero other within = is
@@ -39,7 +39,7 @@ module _ {S A X : Type 0} (took : S → A → List ℕ → S → A → Result �
   through_more {from} {mid} {to} {f} {g} {h} rest {n} {m} t more = record {
     lines = t.lines;
     are = t.are;
-    passes = passes_on (ended t.lines) rest (subst (λ bytes. Passes from f mid g bytes 0 0) (append-nil (ended t.lines)) t.passes) more;
+    passes = passes_on (lines_ended t.lines) rest (subst (λ bytes. Passes from f mid g bytes 0 0) (append-nil (lines_ended t.lines)) t.passes) more;
     went = t.went;
   }
 
@@ -49,7 +49,7 @@ module _ {S A X : Type 0} (took : S → A → List ℕ → S → A → Result �
   through_line {from} {to} {f} {h} {old} {now} {answers} {told} new said line t is took_it = record {
     lines = t.lines ++ line ∷ [];
     are = All-append (IsLine from.longest) t.lines (line ∷ []) t.are (all_one (IsLine from.longest) line is);
-    passes = subst (λ bytes. Passes from f to h bytes 0 0) (sym (ended-append t.lines (line ∷ [])) ∙ sym (append-nil (ended (t.lines ++ line ∷ [])))) t.passes;
+    passes = subst (λ bytes. Passes from f to h bytes 0 0) (sym (ended-append t.lines (line ∷ [])) ∙ sym (append-nil (lines_ended (t.lines ++ line ∷ [])))) t.passes;
     went = went-behind old answers now told new said t.lines line t.went took_it;
   }
 

@@ -8,12 +8,12 @@ use Rattle.ot_lines.specs.declared.lines.LineFault.TheVariants.{ReadFailed, TooM
 use Rattle.ot_lines.specs.Lines.{Flow, HasNoEnd, Hearing, IsAmid, IsIdle, Passes, failures_by}
 
 -- so many bytes more stand in the line
-abbrev pub taken : ℕ → Hearing → Hearing
-taken n h = record h { line = h.line ++ take n h.ahead; since = h.since ++ take n h.ahead; ahead = drop n h.ahead }
+abbrev pub bytes_taken : ℕ → Hearing → Hearing
+bytes_taken n h = record h { line = h.line ++ take n h.ahead; since = h.since ++ take n h.ahead; ahead = drop n h.ahead }
 
 -- the next byte is heard, and doesn't stand in the line
-abbrev pub passed : Hearing → Hearing
-passed h = record h { since = h.since ++ take 1 h.ahead; ahead = drop 1 h.ahead }
+abbrev pub byte_passed : Hearing → Hearing
+byte_passed h = record h { since = h.since ++ take 1 h.ahead; ahead = drop 1 h.ahead }
 
 -- the line's end, if any
 abbrev pub end_of : Option Heard → List ℕ

@@ -10,8 +10,8 @@ without_front_blanks [] = []
 without_front_blanks (b ∷ bs) = if is_blank b then without_front_blanks bs else b ∷ bs
 
 -- with no white space at either end
-abbrev pub trimmed : List ℕ → List ℕ
-trimmed line = reverse (without_front_blanks (reverse (without_front_blanks line)))
+abbrev pub line_trimmed : List ℕ → List ℕ
+line_trimmed line = reverse (without_front_blanks (reverse (without_front_blanks line)))
 
 abbrev pub is_bye : List ℕ → Bool
-is_bye line = bytes_eq (trimmed line) (codes "[\"bye\"]")
+is_bye line = bytes_eq (line_trimmed line) (codes "[\"bye\"]")

@@ -47,8 +47,8 @@ pub record Hearing : Type 0 where
   pub most : ℕ
 
 -- nothing is heard yet
-abbrev pub opened : Bounds → Hearing
-opened bounds = record { line = []; since = []; ahead = []; left = bounds.reads; longest = bounds.line; most = bounds.read }
+abbrev pub hearing_opened : Bounds → Hearing
+hearing_opened bounds = record { line = []; since = []; ahead = []; left = bounds.reads; longest = bounds.line; most = bounds.read }
 
 -- what is still to be heard
 abbrev pub stream : Hearing → Flow → Option (List ℕ)
@@ -114,9 +114,9 @@ pub record Hears (old : Hearing) (before : Flow) (new : Hearing) (after : Flow) 
 -- Who listens to a stream takes its lines one after another.
 
 -- lines, each ended by one LF
-abbrev pub ended : List (List ℕ) → List ℕ
-ended [] = []
-ended (line ∷ lines) = line ++ 10 ∷ ended lines
+abbrev pub lines_ended : List (List ℕ) → List ℕ
+lines_ended [] = []
+lines_ended (line ∷ lines) = line ++ 10 ∷ lines_ended lines
 
 -- one line, and no longer than one may be
 pub record IsLine (longest : ℕ) (line : List ℕ) : Type 0 where
@@ -138,7 +138,7 @@ module _ {S A X : Type 0} (took : S → A → List ℕ → S → A → Result �
   pub record Through (from : Hearing) (before : Flow) (old : S) (answers : A) (to : Hearing) (after : Flow) (new : S) (told : A) (rest : List ℕ) (failures ends : ℕ) : Type 0 where
     pub lines : List (List ℕ)
     pub are : All (IsLine from.longest) lines
-    pub passes : Passes from before to after (ended lines ++ rest) failures ends
+    pub passes : Passes from before to after (lines_ended lines ++ rest) failures ends
     pub went : Went old answers lines new told
 
   -- the last line stopped who listens

@@ -1,7 +1,7 @@
 //! Lines, one by one.
 ghost use Rattle.std.specs.Prelude.{◌≡◌, ◌<◌, ◌≤◌, ◌++◌, ◌+◌, suc, length, take, drop, vec_len, IfOk, OnErr, OnOk, []};
-ghost use Rattle.ot_lines.specs.Lines.{opened, Hears};
-ghost use Rattle.ot_lines.specs.Cutting.{Cuts, Fills, taken, passed};
+ghost use Rattle.ot_lines.specs.Lines.{hearing_opened, Hears};
+ghost use Rattle.ot_lines.specs.Cutting.{Cuts, Fills, bytes_taken, byte_passed};
 
 use crate::source::Source;
 use memchr::memchr;
@@ -69,7 +69,7 @@ impl Lines {
     /// Nothing is heard yet.
     pub fn new(alloc: Global, bounds: Bounds) -> Result<Lines, AllocError>
         requires { 0 < bounds.read }
-        ensures { IfOk result (λ lines. lines ≡ opened bounds) }
+        ensures { IfOk result (λ lines. lines ≡ hearing_opened bounds) }
     {
         let line = Vec::with_capacity(alloc, bounds.line as usize + 1)?;
         let room = vec![in alloc; 0u8; bounds.read as usize]?;
@@ -86,7 +86,7 @@ impl Lines {
     /// Begins anew, with these bounds. What was read and isn't heard is forgotten.
     pub fn begin(&mut self, bounds: Bounds) -> Result<(), AllocError>
         requires { 0 < bounds.read }
-        ensures { OnOk result (self.new ≡ opened bounds) }
+        ensures { OnOk result (self.new ≡ hearing_opened bounds) }
     {
         self.from = 0;
         self.to = 0;
@@ -163,7 +163,7 @@ impl Lines {
     fn take(&mut self, count: usize)
         requires there { count ≤ length self.old.ahead }
         requires room { length self.old.line + count ≤ suc self.old.longest }
-        ensures { self.new ≡ taken count self.old }
+        ensures { self.new ≡ bytes_taken count self.old }
     {
         let piece = &self.room.as_slice()[self.from..self.from + count];
         if self.line.extend_from_slice(piece).is_err() {
@@ -175,7 +175,7 @@ impl Lines {
     /// Hears the next byte, which doesn't go into the line.
     fn pass(&mut self)
         requires { 0 < length self.old.ahead }
-        ensures { self.new ≡ passed self.old }
+        ensures { self.new ≡ byte_passed self.old }
     {
         self.from += 1;
     }

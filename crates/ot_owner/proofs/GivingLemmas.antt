@@ -14,9 +14,9 @@ use Rattle.ot_model.specs.declared.stmt.Mode.{Mode}
 use Rattle.ot_model.specs.declared.stmt.Mode.TheVariants.{Reads, Writes, Folds}
 use Rattle.ot_model.proofs.OrderLemmas.{precedes_apart}
 use Rattle.ot_owner.specs.declared.lent.LentCell.{LentCell}
-use Rattle.ot_owner.specs.Worth.{kept, AreStored, taken_back, all_back, worth_over, AreJoined}
+use Rattle.ot_owner.specs.Worth.{stored_kept, AreStored, taken_back, all_back, worth_over, AreJoined}
 use Rattle.ot_owner.specs.Lending.{uses_of}
-use Rattle.ot_owner.specs.Owning.{Summed, IsSummed, IsOnlyBy, copy_among, folded}
+use Rattle.ot_owner.specs.Owning.{Summed, IsSummed, IsOnlyBy, copy_among, copies_folded}
 use Rattle.ot_owner.proofs.OrderLemmas.{each_precedes}
 use Rattle.ot_owner.proofs.JoinedLemmas.{not_lent, lent_push, others_before}
 use Rattle.ot_owner.proofs.GroupLemmas.{worth-grew, worth-idle, worth-other}
@@ -37,7 +37,7 @@ apart lent order i j d before within = precedes_apart (get_or lent i d).cell (ge
 taken-other : (w : ℕ) (l : LentCell) (gs : List Summed) (c : Cell) → (is_fold l.mode ≡ true → l.cell ≢ c) → (s : ℕ) → worth_over (taken_back w l gs) c s ≡ worth_over gs c s
 taken-other w l gs c other s = by (is_fold l.mode) other
   where
-    by : (b : Bool) → (b ≡ true → l.cell ≢ c) → worth_over (if b then folded w l.cell l.value gs else gs) c s ≡ worth_over gs c s
+    by : (b : Bool) → (b ≡ true → l.cell ≢ c) → worth_over (if b then copies_folded w l.cell l.value gs else gs) c s ≡ worth_over gs c s
     by true other = worth-other w l.value l.cell c gs (other refl) s
     by false other = refl
 
@@ -48,16 +48,16 @@ back-other w (l ∷ lent) gs c others s =
 
 -- what the value of a lent cell does to what the cell is worth, all of them together do
 back-changed : (w : ℕ) (f : ℕ → ℕ) (o : Operation) (x : LentCell)
-    → ((n : ℕ) (hs : List Summed) → IsOnlyBy hs o x.cell → copy_among hs w x.cell ≡ Some n → (s : ℕ) → worth_over (folded w x.cell x.value hs) x.cell s ≡ f (worth_over hs x.cell s))
+    → ((n : ℕ) (hs : List Summed) → IsOnlyBy hs o x.cell → copy_among hs w x.cell ≡ Some n → (s : ℕ) → worth_over (copies_folded w x.cell x.value hs) x.cell s ≡ f (worth_over hs x.cell s))
     → (lent : List LentCell) (k : ℕ) (gs : List Summed) → AreApart lent → k < length lent → x ≡ get_or lent k x → x.mode ≡ Folds o → IsOnlyBy gs o x.cell → IsSome (copy_among gs w x.cell)
     → (s : ℕ) → worth_over (all_back w lent gs) x.cell s ≡ f (worth_over gs x.cell s)
 back-changed w f o x step [] k gs pairs within is mode only there s = absurd (omega (arith, within))
 back-changed w f o x step (l ∷ lent) zero gs pairs within is mode only there s =
     back-other w lent (taken_back w l gs) x.cell (λ k d inside folds same. pairs 0 (suc k) d (omega arith) (omega (arith, inside)) (ap (λ (m : LentCell). m.cell) (sym is) ∙ sym same)) s
-    ∙ ap (λ hs. worth_over hs x.cell s) (ap (λ m. taken_back w m gs) (sym is) ∙ ap (λ m. if is_fold m then folded w x.cell x.value gs else gs) mode)
+    ∙ ap (λ hs. worth_over hs x.cell s) (ap (λ m. taken_back w m gs) (sym is) ∙ ap (λ m. if is_fold m then copies_folded w x.cell x.value gs else gs) mode)
     ∙ some (copy_among gs w x.cell) refl there
   where
-    some : (c : Option ℕ) → copy_among gs w x.cell ≡ c → IsSome c → worth_over (folded w x.cell x.value gs) x.cell s ≡ f (worth_over gs x.cell s)
+    some : (c : Option ℕ) → copy_among gs w x.cell ≡ c → IsSome c → worth_over (copies_folded w x.cell x.value gs) x.cell s ≡ f (worth_over gs x.cell s)
     some None at none = absurd (true≢false (sym none))
     some (Some n) at one = step n gs only at s
 back-changed w f o x step (l ∷ lent) (suc k) gs pairs within is mode only there s =
@@ -79,7 +79,7 @@ others-fold lent k d pairs within not i e inside = elim (cases_lt i k) [
 
 module _ (v : ℕ) (old new : ℕ → ℕ) where
   -- what becomes of the stored number and what becomes of the copies are one joining
-  by_mode : (m : Mode) (before after : Option ℕ) → after ≡ option_map (λ n. kept m n v) before → (is_fold m ≡ false → (n : ℕ) → new n ≡ old n) → (m ≡ Writes → (n : ℕ) → old n ≡ n)
+  by_mode : (m : Mode) (before after : Option ℕ) → after ≡ option_map (λ n. stored_kept m n v) before → (is_fold m ≡ false → (n : ℕ) → new n ≡ old n) → (m ≡ Writes → (n : ℕ) → old n ≡ n)
       → ((o : Operation) → m ≡ Folds o → (n : ℕ) → new n ≡ join_by o (old n) v) → option_map new after ≡ option_map (λ n. joined m n v) (option_map old before)
   by_mode Reads None after is same none grew = ap (option_map new) is
   by_mode Reads (Some n) after is same none grew = ap (option_map new) is ∙ ap Some (same refl n)
@@ -88,9 +88,9 @@ module _ (v : ℕ) (old new : ℕ → ℕ) where
   by_mode (Folds o) None after is same none grew = ap (option_map new) is
   by_mode (Folds o) (Some n) after is same none grew = ap (option_map new) is ∙ ap Some (grew o refl n)
 
-by_idle : (m : Mode) (v : ℕ) (o : Operation) (old new : ℕ → ℕ) (before after : Option ℕ) → after ≡ option_map (λ n. kept m n v) before → m ≡ Folds o → ((n : ℕ) → new n ≡ old n)
+by_idle : (m : Mode) (v : ℕ) (o : Operation) (old new : ℕ → ℕ) (before after : Option ℕ) → after ≡ option_map (λ n. stored_kept m n v) before → m ≡ Folds o → ((n : ℕ) → new n ≡ old n)
     → option_map new after ≡ option_map old before
-by_idle m v o old new before after is folds same = by before (is ∙ ap (λ k. option_map (λ n. kept k n v) before) folds)
+by_idle m v o old new before after is folds same = by before (is ∙ ap (λ k. option_map (λ n. stored_kept k n v) before) folds)
   where
     by : (before : Option ℕ) → after ≡ option_map (λ (n : ℕ). n) before → option_map new after ≡ option_map old before
     by None is = ap (option_map new) is
@@ -103,7 +103,7 @@ module _ (w : ℕ) (lent : List LentCell) (gs : List Summed) (order : AreInOrder
   -- a lent cell's value changes what it is worth so
   changed : (f : ℕ → ℕ) (o : Operation) (k : ℕ) (d : LentCell) → k < length lent → (get_or lent k d).mode ≡ Folds o
       → ((n : ℕ) (hs : List Summed) → IsOnlyBy hs o (get_or lent k d).cell → copy_among hs w (get_or lent k d).cell ≡ Some n
-      → (s : ℕ) → worth_over (folded w (get_or lent k d).cell (get_or lent k d).value hs) (get_or lent k d).cell s ≡ f (worth_over hs (get_or lent k d).cell s))
+      → (s : ℕ) → worth_over (copies_folded w (get_or lent k d).cell (get_or lent k d).value hs) (get_or lent k d).cell s ≡ f (worth_over hs (get_or lent k d).cell s))
       → (s : ℕ) → worth_over (all_back w lent gs) (get_or lent k d).cell s ≡ f (worth_over gs (get_or lent k d).cell s)
   changed f o k d within mode step s =
       let l = get_or lent k d in
@@ -125,16 +125,16 @@ module _ (w : ℕ) (lent : List LentCell) (gs : List Summed) (order : AreInOrder
   }
 
 stored-push : (lent : List LentCell) (x : LentCell) (before mid after : Cell → Option ℕ) → AreStored lent before mid → All (λ l. l.cell ≢ x.cell) lent
-    → after x.cell ≡ option_map (λ n. kept x.mode n x.value) (mid x.cell) → ((other : Cell) → x.cell ≢ other → after other ≡ mid other) → AreStored (lent ++ x ∷ []) before after
+    → after x.cell ≡ option_map (λ n. stored_kept x.mode n x.value) (mid x.cell) → ((other : Cell) → x.cell ≢ other → after other ≡ mid other) → AreStored (lent ++ x ∷ []) before after
 stored-push lent x before mid after soon apart now others = record {
-  lent_cells = All-push (λ l. after l.cell ≡ option_map (λ n. kept l.mode n l.value) (before l.cell)) lent x
+  lent_cells = All-push (λ l. after l.cell ≡ option_map (λ n. stored_kept l.mode n l.value) (before l.cell)) lent x
       (λ k d within. others (get_or lent k d).cell (λ same. apart k d within (sym same)) ∙ soon.lent_cells k d within)
-      (now ∙ ap (option_map (λ n. kept x.mode n x.value)) (soon.others x.cell (not_lent lent x.cell apart)));
+      (now ∙ ap (option_map (λ n. stored_kept x.mode n x.value)) (soon.others x.cell (not_lent lent x.cell apart)));
   others = λ other away. others other (λ same. away (Any-push (λ l. l.cell ≡ other) lent x same)) ∙ soon.others other (λ here. away (lent_push lent x other here));
 }
 
 pub stored-more : (lent : List LentCell) (k : ℕ) (x : LentCell) (before mid after : Cell → Option ℕ) → AreInOrder (uses_of lent) → k < length lent → x ≡ get_or lent k x → AreStored (take k lent) before mid
-    → after x.cell ≡ option_map (λ n. kept x.mode n x.value) (mid x.cell) → ((other : Cell) → x.cell ≢ other → after other ≡ mid other) → AreStored (take (k + 1) lent) before after
+    → after x.cell ≡ option_map (λ n. stored_kept x.mode n x.value) (mid x.cell) → ((other : Cell) → x.cell ≢ other → after other ≡ mid other) → AreStored (take (k + 1) lent) before after
 stored-more lent k x before mid after order within is soon now others =
     let more : take k lent ++ x ∷ [] ≡ take (k + 1) lent = ap (λ y. take k lent ++ y ∷ []) is ∙ sym (take_more lent k x within) in
     subst (λ ls. AreStored ls before after) more (stored-push (take k lent) x before mid after soon (others_before lent k x order within is) now others)

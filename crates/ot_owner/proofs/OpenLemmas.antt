@@ -20,11 +20,11 @@ use Rattle.ot_model.specs.declared.stmt.Mode.TheVariants.{Reads, Writes, Folds}
 use Rattle.ot_model.specs.declared.stmt.Use.{Use}
 use Rattle.ot_model.proofs.EqualLemmas.{cell-decides}
 use Rattle.ot_owner.specs.declared.lent.LentCell.{LentCell}
-use Rattle.ot_owner.specs.Worth.{taken_back, all_back, combined, worth_over, closed_over, AreJoined}
+use Rattle.ot_owner.specs.Worth.{taken_back, all_back, copies_combined, worth_over, closed_over, AreJoined}
 use Rattle.ot_owner.specs.Keeping.{IsRegular, HasCopies, IsByOwn, IsSound}
 use Rattle.ot_owner.specs.Lending.{use_of, uses_of}
 use Rattle.ot_owner.specs.Kept.{summed_of, summeds_of}
-use Rattle.ot_owner.specs.Owning.{Loan, IsFreeFor, Summed, is_of, place_in, names, IsNamed, IsSummed, IsSummedBy, IsOnlyBy, NoTwoShare, folds_in, copy_in, row_in, copies_at, copies_where, copies_in, copy_among, folded_in, folded, begun_row, begun_in, begun_for, without}
+use Rattle.ot_owner.specs.Owning.{Loan, IsFreeFor, Summed, is_of, place_in, names, IsNamed, IsSummed, IsSummedBy, IsOnlyBy, NoTwoShare, folds_in, copy_in, row_in, copies_at, copies_where, copies_in, copy_among, folded_in, copies_folded, begun_row, begun_in, begun_for, without}
 use Rattle.ot_owner.specs.declared.rows.Group.{Group}
 use Rattle.ot_owner.proofs.ApartLemmas.{no_two-begun, no_two-ended}
 use Rattle.ot_owner.proofs.CombineLemmas.{unit-small, join-small, combined-small, combined-swap}
@@ -42,14 +42,14 @@ pub worth-unsummed : (gs : List Summed) (c : Cell) → ¬ IsSummed gs c → (n :
 worth-unsummed [] c none n = refl
 worth-unsummed (g ∷ gs) c none n = by (names c g) refl (worth-unsummed gs c (λ (k, h, within, is, named). none (suc k, h, omega (arith, within), is, named)) n)
   where
-    by : (b : Bool) → names c g ≡ b → worth_over gs c n ≡ n → worth_over gs c (combined g.op n (copies_in c g)) ≡ n
+    by : (b : Bool) → names c g ≡ b → worth_over gs c n ≡ n → worth_over gs c (copies_combined g.op n (copies_in c g)) ≡ n
     by true named rest = absurd (none (0, g, omega arith, refl, named))
-    by false not rest = ap (λ xs. worth_over gs c (combined g.op n xs)) (unnamed c g not) ∙ rest
+    by false not rest = ap (λ xs. worth_over gs c (copies_combined g.op n xs)) (unnamed c g not) ∙ rest
 
 -- one group more
-pub worth-push : (gs : List Summed) (g : Summed) (c : Cell) (n : ℕ) → worth_over (gs ++ g ∷ []) c n ≡ combined g.op (worth_over gs c n) (copies_in c g)
+pub worth-push : (gs : List Summed) (g : Summed) (c : Cell) (n : ℕ) → worth_over (gs ++ g ∷ []) c n ≡ copies_combined g.op (worth_over gs c n) (copies_in c g)
 worth-push [] g c n = refl
-worth-push (h ∷ gs) g c n = worth-push gs g c (combined h.op n (copies_in c h))
+worth-push (h ∷ gs) g c n = worth-push gs g c (copies_combined h.op n (copies_in c h))
 
 -- where each number is worth the same
 pub same_worth : (one two : ℕ → ℕ) (o : Option ℕ) → ((n : ℕ) → one n ≡ two n) → option_map one o ≡ option_map two o
@@ -69,19 +69,19 @@ begun-uses : (w : ℕ) (b : Bool) (g : Summed) → (begun_if w b g).uses ≡ g.u
 begun-uses w true g = refl
 begun-uses w false g = refl
 
-begun-combined : (w : ℕ) (c : Cell) (g : Summed) (b : Bool) (n : ℕ) → n < 2 ^ 64 → IsRegular g → combined (begun_if w b g).op n (copies_in c (begun_if w b g)) ≡ combined g.op n (copies_in c g)
+begun-combined : (w : ℕ) (c : Cell) (g : Summed) (b : Bool) (n : ℕ) → n < 2 ^ 64 → IsRegular g → copies_combined (begun_if w b g).op n (copies_in c (begun_if w b g)) ≡ copies_combined g.op n (copies_in c g)
 begun-combined w c g false n small regular = refl
 begun-combined w c g true n small regular = by (place_in g.uses c)
   where
-    by : (o : Option ℕ) → combined g.op n (copies_where (updated g.rows w (begun_row g.op (length g.uses))) o) ≡ combined g.op n (copies_where g.rows o)
+    by : (o : Option ℕ) → copies_combined g.op n (copies_where (updated g.rows w (begun_row g.op (length g.uses))) o) ≡ copies_combined g.op n (copies_where g.rows o)
     by None = refl
     by (Some place) = combined-begun g.op n small g.rows w (length g.uses) place regular.small
 
 -- a number below 2^64 is so still once it is combined with the copies in a group
-group-small : (c : Cell) (g : Summed) (n : ℕ) → n < 2 ^ 64 → IsRegular g → combined g.op n (copies_in c g) < 2 ^ 64
+group-small : (c : Cell) (g : Summed) (n : ℕ) → n < 2 ^ 64 → IsRegular g → copies_combined g.op n (copies_in c g) < 2 ^ 64
 group-small c g n small regular = by (place_in g.uses c)
   where
-    by : (o : Option ℕ) → combined g.op n (copies_where g.rows o) < 2 ^ 64
+    by : (o : Option ℕ) → copies_combined g.op n (copies_where g.rows o) < 2 ^ 64
     by None = small
     by (Some place) = combined-small g.op n (copies_at g.rows place) small (copies-small g.rows place regular.small)
 
@@ -96,7 +96,7 @@ pub begun-worth : (w : ℕ) (uses : List Use) (gs : List Summed) (c : Cell) (n :
 begun-worth w uses [] c n small regular = refl
 begun-worth w uses (g ∷ gs) c n small regular =
     ap (worth_over (begun_for w uses gs) c) (begun-combined w c g (folds_in g.uses uses) n small (regular 0 g (omega arith)))
-    ∙ begun-worth w uses gs c (combined g.op n (copies_in c g)) (group-small c g n small (regular 0 g (omega arith))) (λ k d within. regular (suc k) d (omega (arith, within)))
+    ∙ begun-worth w uses gs c (copies_combined g.op n (copies_in c g)) (group-small c g n small (regular 0 g (omega arith))) (λ k d within. regular (suc k) d (omega (arith, within)))
 
 row-begun : (o : Operation) (rows : Rows) (w x q len : ℕ) → IsSome (copy_in q (row_in rows x)) → IsSome (copy_in q (row_in (updated rows w (begun_row o len)) x))
 row-begun o [] w x q len there = there
@@ -207,10 +207,10 @@ no_copies (suc n) p = no_copies n p
 pub opened-worth : (gs : List Summed) (g : Summed) (c : Cell) (n : ℕ) → g.rows ≡ replicate 17 None → worth_over (gs ++ g ∷ []) c n ≡ worth_over gs c n
 opened-worth [] g c n none = by (place_in g.uses c)
   where
-    by : (o : Option ℕ) → combined g.op n (copies_where g.rows o) ≡ n
+    by : (o : Option ℕ) → copies_combined g.op n (copies_where g.rows o) ≡ n
     by None = refl
-    by (Some p) = ap (combined g.op n) (ap (λ rows. copies_at rows p) none ∙ no_copies 17 p)
-opened-worth (h ∷ gs) g c n none = opened-worth gs g c (combined h.op n (copies_in c h)) none
+    by (Some p) = ap (copies_combined g.op n) (ap (λ rows. copies_at rows p) none ∙ no_copies 17 p)
+opened-worth (h ∷ gs) g c n none = opened-worth gs g c (copies_combined h.op n (copies_in c h)) none
 
 pub opened-still : (gs : List Summed) (g : Summed) (x : ℕ) (c : Cell) → IsSome (copy_among gs x c) → IsSome (copy_among (gs ++ g ∷ []) x c)
 opened-still [] g x c there = absurd (true≢false (sym there))
@@ -244,16 +244,16 @@ opened-regular group op uses written = record {
 
 -- the closed group's copies and others may be combined in either order, where both groups are by one operation
 closed-swap : (n : ℕ) (gs : List Summed) (c : Cell) (o : Operation) (s : ℕ) (xs : List ℕ) → All (λ g. g.group ≡ n → names c g ≡ true → g.op ≡ o) gs →
-    closed_over n gs c (combined o s xs) ≡ combined o (closed_over n gs c s) xs
+    closed_over n gs c (copies_combined o s xs) ≡ copies_combined o (closed_over n gs c s) xs
 closed-swap n [] c o s xs one = refl
 closed-swap n (g ∷ gs) c o s xs one = by (closed-swap n gs c o s xs (λ k d within. one (suc k) d (omega (arith, within)))) (g.group == n) refl
   where
-    here : g.group ≡ n → (b : Bool) → names c g ≡ b → combined g.op (combined o s xs) (copies_in c g) ≡ combined o (combined g.op s (copies_in c g)) xs
-    here is true named = subst (λ p. combined p (combined o s xs) (copies_in c g) ≡ combined o (combined p s (copies_in c g)) xs) (sym (one 0 g (omega arith) is named)) (combined-swap o s xs (copies_in c g))
-    here is false not = subst (λ ys. combined g.op (combined o s xs) ys ≡ combined o (combined g.op s ys) xs) (sym (unnamed c g not)) refl
+    here : g.group ≡ n → (b : Bool) → names c g ≡ b → copies_combined g.op (copies_combined o s xs) (copies_in c g) ≡ copies_combined o (copies_combined g.op s (copies_in c g)) xs
+    here is true named = subst (λ p. copies_combined p (copies_combined o s xs) (copies_in c g) ≡ copies_combined o (copies_combined p s (copies_in c g)) xs) (sym (one 0 g (omega arith) is named)) (combined-swap o s xs (copies_in c g))
+    here is false not = subst (λ ys. copies_combined g.op (copies_combined o s xs) ys ≡ copies_combined o (copies_combined g.op s ys) xs) (sym (unnamed c g not)) refl
 
-    by : closed_over n gs c (combined o s xs) ≡ combined o (closed_over n gs c s) xs → (b : Bool) → (g.group == n) ≡ b
-        → (if b then combined g.op (combined o s xs) (copies_in c g) else closed_over n gs c (combined o s xs)) ≡ combined o (if b then combined g.op s (copies_in c g) else closed_over n gs c s) xs
+    by : closed_over n gs c (copies_combined o s xs) ≡ copies_combined o (closed_over n gs c s) xs → (b : Bool) → (g.group == n) ≡ b
+        → (if b then copies_combined g.op (copies_combined o s xs) (copies_in c g) else closed_over n gs c (copies_combined o s xs)) ≡ copies_combined o (if b then copies_combined g.op s (copies_in c g) else closed_over n gs c s) xs
     by rest true is = here (eqb-true g.group n is) (names c g) refl
     by rest false not = rest
 
@@ -266,13 +266,13 @@ closed-worth n [] c s one = refl
 closed-worth n (g ∷ gs) c s one =
     by (λ t. closed-worth n gs c t (λ k d within is e named j h inside. one (suc k) d (omega (arith, within)) is e named (suc j) h (omega (arith, inside)))) (g.group == n)
   where
-    swapped : (b : Bool) → names c g ≡ b → closed_over n gs c (combined g.op s (copies_in c g)) ≡ combined g.op (closed_over n gs c s) (copies_in c g)
+    swapped : (b : Bool) → names c g ≡ b → closed_over n gs c (copies_combined g.op s (copies_in c g)) ≡ copies_combined g.op (closed_over n gs c s) (copies_in c g)
     swapped true named = closed-swap n gs c g.op s (copies_in c g) (λ k d within is there. sym (one (suc k) d (omega (arith, within)) is c there 0 g (omega arith) named))
-    swapped false not = subst (λ xs. closed_over n gs c (combined g.op s xs) ≡ combined g.op (closed_over n gs c s) xs) (sym (unnamed c g not)) refl
+    swapped false not = subst (λ xs. closed_over n gs c (copies_combined g.op s xs) ≡ copies_combined g.op (closed_over n gs c s) xs) (sym (unnamed c g not)) refl
 
-    by : ((t : ℕ) → worth_over (without n gs) c (closed_over n gs c t) ≡ worth_over gs c t) → (b : Bool) → worth_over (if b then gs else g ∷ without n gs) c (if b then combined g.op s (copies_in c g) else closed_over n gs c s) ≡ worth_over (g ∷ gs) c s
+    by : ((t : ℕ) → worth_over (without n gs) c (closed_over n gs c t) ≡ worth_over gs c t) → (b : Bool) → worth_over (if b then gs else g ∷ without n gs) c (if b then copies_combined g.op s (copies_in c g) else closed_over n gs c s) ≡ worth_over (g ∷ gs) c s
     by rest true = refl
-    by rest false = ap (worth_over (without n gs) c) (sym (swapped (names c g) refl)) ∙ rest (combined g.op s (copies_in c g))
+    by rest false = ap (worth_over (without n gs) c) (sym (swapped (names c g) refl)) ∙ rest (copies_combined g.op s (copies_in c g))
 
 pub worth-closed : (n : ℕ) (gs : List Summed) (c : Cell) (before after : Option ℕ) → NoTwoShare gs → after ≡ option_map (closed_over n gs c) before →
     option_map (worth_over (without n gs) c) after ≡ option_map (worth_over gs c) before
@@ -323,7 +323,7 @@ back-push w (l ∷ lent) x gs = back-push w lent x (taken_back w l gs)
 pub taken-still : (w : ℕ) (l : LentCell) (gs : List Summed) (x : ℕ) (c : Cell) → IsSome (copy_among gs x c) → IsSome (copy_among (taken_back w l gs) x c)
 taken-still w l gs x c there = by (is_fold l.mode)
   where
-    by : (b : Bool) → IsSome (copy_among (if b then folded w l.cell l.value gs else gs) x c)
+    by : (b : Bool) → IsSome (copy_among (if b then copies_folded w l.cell l.value gs else gs) x c)
     by true = still-some w l.value x l.cell c gs there
     by false = there
 
@@ -334,7 +334,7 @@ back-still w (l ∷ lent) gs x c there = back-still w lent (taken_back w l gs) x
 pub taken-only : (w : ℕ) (l : LentCell) (gs : List Summed) (o : Operation) (c : Cell) → IsOnlyBy gs o c → IsOnlyBy (taken_back w l gs) o c
 taken-only w l gs o c only = by (is_fold l.mode)
   where
-    by : (b : Bool) → IsOnlyBy (if b then folded w l.cell l.value gs else gs) o c
+    by : (b : Bool) → IsOnlyBy (if b then copies_folded w l.cell l.value gs else gs) o c
     by true = only-still w l.value l.cell c o gs only
     by false = only
 
@@ -357,7 +357,7 @@ folded-regular-one w v p g below regular = record {
     keeps-small None small = small
     keeps-small (Some copies) small = updated-small g.op v below copies p small
 
-folded-regular : (w v : ℕ) (c : Cell) (gs : List Summed) → v < 2 ^ 64 → All IsRegular gs → All IsRegular (folded w c v gs)
+folded-regular : (w v : ℕ) (c : Cell) (gs : List Summed) → v < 2 ^ 64 → All IsRegular gs → All IsRegular (copies_folded w c v gs)
 folded-regular w v c [] below all = all
 folded-regular w v c (g ∷ gs) below all =
     by (λ k d within. all (suc k) d (omega (arith, within))) (folded-regular w v c gs below (λ k d within. all (suc k) d (omega (arith, within)))) (place_in g.uses c)
@@ -365,14 +365,14 @@ folded-regular w v c (g ∷ gs) below all =
     first : IsRegular g
     first = all 0 g (omega arith)
 
-    by : All IsRegular gs → All IsRegular (folded w c v gs) → (o : Option ℕ) → All IsRegular (if is_some o then folded_in w v g o ∷ gs else g ∷ folded w c v gs)
-    by rest more None = All-cons IsRegular g (folded w c v gs) first more
+    by : All IsRegular gs → All IsRegular (copies_folded w c v gs) → (o : Option ℕ) → All IsRegular (if is_some o then folded_in w v g o ∷ gs else g ∷ copies_folded w c v gs)
+    by rest more None = All-cons IsRegular g (copies_folded w c v gs) first more
     by rest more (Some p) = All-cons IsRegular (folded_in w v g (Some p)) gs (folded-regular-one w v p g below first) rest
 
 taken-regular : (w : ℕ) (l : LentCell) (gs : List Summed) → l.value < 2 ^ 64 → All IsRegular gs → All IsRegular (taken_back w l gs)
 taken-regular w l gs below all = by (is_fold l.mode)
   where
-    by : (b : Bool) → All IsRegular (if b then folded w l.cell l.value gs else gs)
+    by : (b : Bool) → All IsRegular (if b then copies_folded w l.cell l.value gs else gs)
     by true = folded-regular w l.value l.cell gs below all
     by false = all
 
@@ -391,19 +391,19 @@ back-more w lent k x gs within is =
 -- the first of this number
 pub closing : (n k i : ℕ) (gs : List Group) → position_from (λ g. g.group == n) k gs ≡ Some i →
     (j : ℕ) × (i ≡ k + j) × (j < length gs) × (without n (summeds_of gs) ≡ summeds_of (remove gs j))
-    × ((c : Cell) (d : Group) (s : ℕ) → closed_over n (summeds_of gs) c s ≡ combined (get_or gs j d).op s (copies_in c (summed_of (get_or gs j d)))) × ((d : Group) → (get_or gs j d).group ≡ n)
+    × ((c : Cell) (d : Group) (s : ℕ) → closed_over n (summeds_of gs) c s ≡ copies_combined (get_or gs j d).op s (copies_in c (summed_of (get_or gs j d)))) × ((d : Group) → (get_or gs j d).group ≡ n)
 closing n k i [] is = absurd (true≢false (sym (ap is_some is)))
 closing n k i (g ∷ gs) is = by (closing n (k + 1) i gs) (g.group == n) refl
   where
-    by : (position_from (λ (h : Group). h.group == n) (k + 1) gs ≡ Some i → (j : ℕ) × (i ≡ k + 1 + j) × (j < length gs) × (without n (summeds_of gs) ≡ summeds_of (remove gs j)) × ((c : Cell) (d : Group) (s : ℕ) → closed_over n (summeds_of gs) c s ≡ combined (get_or gs j d).op s (copies_in c (summed_of (get_or gs j d)))) × ((d : Group) → (get_or gs j d).group ≡ n)) → (b : Bool) → (g.group == n) ≡ b → (j : ℕ) × (i ≡ k + j) × (j < suc (length gs)) × (without n (summeds_of (g ∷ gs)) ≡ summeds_of (remove (g ∷ gs) j))
-        × ((c : Cell) (d : Group) (s : ℕ) → closed_over n (summeds_of (g ∷ gs)) c s ≡ combined (get_or (g ∷ gs) j d).op s (copies_in c (summed_of (get_or (g ∷ gs) j d)))) × ((d : Group) → (get_or (g ∷ gs) j d).group ≡ n)
+    by : (position_from (λ (h : Group). h.group == n) (k + 1) gs ≡ Some i → (j : ℕ) × (i ≡ k + 1 + j) × (j < length gs) × (without n (summeds_of gs) ≡ summeds_of (remove gs j)) × ((c : Cell) (d : Group) (s : ℕ) → closed_over n (summeds_of gs) c s ≡ copies_combined (get_or gs j d).op s (copies_in c (summed_of (get_or gs j d)))) × ((d : Group) → (get_or gs j d).group ≡ n)) → (b : Bool) → (g.group == n) ≡ b → (j : ℕ) × (i ≡ k + j) × (j < suc (length gs)) × (without n (summeds_of (g ∷ gs)) ≡ summeds_of (remove (g ∷ gs) j))
+        × ((c : Cell) (d : Group) (s : ℕ) → closed_over n (summeds_of (g ∷ gs)) c s ≡ copies_combined (get_or (g ∷ gs) j d).op s (copies_in c (summed_of (get_or (g ∷ gs) j d)))) × ((d : Group) → (get_or (g ∷ gs) j d).group ≡ n)
     by later true met =
         let here : k ≡ i = same_Some k i (sym (ap (λ b. cond b (Some k) (position_from (λ (g : Group). g.group == n) (k + 1) gs)) met) ∙ is) in (
           0,
           omega (arith, here),
           omega arith,
           ap (λ b. if b then summeds_of gs else summed_of g ∷ without n (summeds_of gs)) met,
-          (λ c d s. ap (λ b. if b then combined g.op s (copies_in c (summed_of g)) else closed_over n (summeds_of gs) c s) met),
+          (λ c d s. ap (λ b. if b then copies_combined g.op s (copies_in c (summed_of g)) else closed_over n (summeds_of gs) c s) met),
           (λ d. is_number g.group n met),
         )
     by later false not =
@@ -412,7 +412,7 @@ closing n k i (g ∷ gs) is = by (closing n (k + 1) i gs) (g.group == n) refl
           omega (arith, at),
           omega (arith, within),
           ap (λ b. if b then summeds_of gs else summed_of g ∷ without n (summeds_of gs)) not ∙ ap (λ hs. summed_of g ∷ hs) rest,
-          (λ c d s. ap (λ b. if b then combined g.op s (copies_in c (summed_of g)) else closed_over n (summeds_of gs) c s) not ∙ closed c d s),
+          (λ c d s. ap (λ b. if b then copies_combined g.op s (copies_in c (summed_of g)) else closed_over n (summeds_of gs) c s) not ∙ closed c d s),
           number,
         )
 
@@ -420,7 +420,7 @@ closing n k i (g ∷ gs) is = by (closing n (k + 1) i gs) (g.group == n) refl
 pub record Closes (n : ℕ) (gs : List Group) (i : ℕ) : Type 0 where
   pub within : i < length gs
   pub rest : without n (summeds_of gs) ≡ summeds_of (remove gs i)
-  pub closed : (c : Cell) (d : Group) (s : ℕ) → closed_over n (summeds_of gs) c s ≡ combined (get_or gs i d).op s (copies_in c (summed_of (get_or gs i d)))
+  pub closed : (c : Cell) (d : Group) (s : ℕ) → closed_over n (summeds_of gs) c s ≡ copies_combined (get_or gs i d).op s (copies_in c (summed_of (get_or gs i d)))
   pub number : (d : Group) → (get_or gs i d).group ≡ n
 
 pub closing-at : (n i : ℕ) (gs xs : List Group) (o : Option ℕ) → xs ≡ gs → o ≡ position (λ (g : Group). g.group == n) xs → o ≡ Some i → Closes n gs i

@@ -17,7 +17,7 @@ use Rattle.std.specs.List.{position_from, All, remove}
 use Rattle.ot_model.proofs.EqualLemmas.{cell-decides}
 use Rattle.ot_model.proofs.OrderLemmas as uses
 use Rattle.ot_model.proofs.CellsLemmas.{set-updated, slice_get-updated, slice_get-updated-other}
-use Rattle.ot_owner.specs.Worth.{combined, combined_by}
+use Rattle.ot_owner.specs.Worth.{copies_combined, combined_by}
 use Rattle.ot_owner.specs.Owning.{is_of, copy_in, row_in, with_copy, copies_at, copies_where, folded_at, begun_row}
 use Rattle.ot_owner.specs.Kept.{row_of}
 use Rattle.ot_owner.specs.declared.rows.Row.{Row}
@@ -82,18 +82,18 @@ same-at (suc len) unit (suc place) = same-at len unit place
 
 -- a row that begins leaves what the cell is worth
 pub combined-begun : (o : Operation) (s : ℕ) → s < 2 ^ 64 → (rows : Rows) (worker len place : ℕ) → All IsSmall rows →
-    combined o s (copies_at (updated rows worker (begun_row o len)) place) ≡ combined o s (copies_at rows place)
+    copies_combined o s (copies_at (updated rows worker (begun_row o len)) place) ≡ copies_combined o s (copies_at rows place)
 combined-begun o s small [] worker len place all = refl
 combined-begun o s small (None ∷ rows) zero len place all = elim (same-at len (unit_of o) place) [
-  | inl none ↦ ap (λ c. combined o s (with_copy c (copies_at rows place))) none
-  | inr unit ↦ ap (λ c. combined o s (with_copy c (copies_at rows place))) unit ∙ ap (λ n. combined o n (copies_at rows place)) (join-unit o s small)
+  | inl none ↦ ap (λ c. copies_combined o s (with_copy c (copies_at rows place))) none
+  | inr unit ↦ ap (λ c. copies_combined o s (with_copy c (copies_at rows place))) unit ∙ ap (λ n. copies_combined o n (copies_at rows place)) (join-unit o s small)
 ]
 combined-begun o s small (Some copies ∷ rows) zero len place all = refl
 combined-begun o s small (row ∷ rows) (suc worker) len place all =
     by (copy_in place row) refl (copies_at (updated rows worker (begun_row o len)) place) (copies_at rows place)
     (λ n below. combined-begun o n below rows worker len place (λ k d within. all (suc k) d (omega (arith, within))))
   where
-    by : (c : Option ℕ) → copy_in place row ≡ c → (xs ys : List ℕ) → ((n : ℕ) → n < 2 ^ 64 → combined o n xs ≡ combined o n ys) → combined o s (with_copy c xs) ≡ combined o s (with_copy c ys)
+    by : (c : Option ℕ) → copy_in place row ≡ c → (xs ys : List ℕ) → ((n : ℕ) → n < 2 ^ 64 → copies_combined o n xs ≡ copies_combined o n ys) → copies_combined o s (with_copy c xs) ≡ copies_combined o s (with_copy c ys)
     by None is xs ys same = same s small
     by (Some x) is xs ys same = same (join_by o s x) (join-small o s x small (copy-small row place x (all 0 row (omega arith)) is))
 

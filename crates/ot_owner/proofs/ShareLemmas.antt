@@ -16,7 +16,7 @@ use Rattle.ot_model.specs.declared.stmt.Use.{Use}
 use Rattle.ot_model.proofs.EqualLemmas.{cell-decides}
 use Rattle.ot_owner.specs.declared.lent.LentCell.{LentCell}
 use Rattle.ot_owner.specs.Worth.{taken_back, all_back}
-use Rattle.ot_owner.specs.Owning.{Summed, is_of, place_in, names, IsNamed, IsSummed, IsSummedBy, IsOnlyBy, ShareNothing, NoTwoShare, folds_in, folded_in, folded, begun_in, begun_for, without}
+use Rattle.ot_owner.specs.Owning.{Summed, is_of, place_in, names, IsNamed, IsSummed, IsSummedBy, IsOnlyBy, ShareNothing, NoTwoShare, folds_in, folded_in, copies_folded, begun_in, begun_for, without}
 
 -- ---- where the groups are the same but for their rows
 
@@ -63,18 +63,18 @@ bares-begun w uses (g ∷ gs) = ap (λ h. h ∷ bares gs) (by (folds_in g.uses u
     by true = refl
     by false = refl
 
-bares-folded : (w v : ℕ) (c : Cell) (gs : List Summed) → bares gs ≡ bares (folded w c v gs)
+bares-folded : (w v : ℕ) (c : Cell) (gs : List Summed) → bares gs ≡ bares (copies_folded w c v gs)
 bares-folded w v c [] = refl
 bares-folded w v c (g ∷ gs) = by (place_in g.uses c) (bares-folded w v c gs)
   where
-    by : (o : Option ℕ) → bares gs ≡ bares (folded w c v gs) → bares (g ∷ gs) ≡ bares (if is_some o then folded_in w v g o ∷ gs else g ∷ folded w c v gs)
+    by : (o : Option ℕ) → bares gs ≡ bares (copies_folded w c v gs) → bares (g ∷ gs) ≡ bares (if is_some o then folded_in w v g o ∷ gs else g ∷ copies_folded w c v gs)
     by None rest = ap (λ hs. bare g ∷ hs) rest
     by (Some p) rest = refl
 
 bares-taken : (w : ℕ) (l : LentCell) (gs : List Summed) → bares gs ≡ bares (taken_back w l gs)
 bares-taken w l gs = by (is_fold l.mode)
   where
-    by : (b : Bool) → bares gs ≡ bares (if b then folded w l.cell l.value gs else gs)
+    by : (b : Bool) → bares gs ≡ bares (if b then copies_folded w l.cell l.value gs else gs)
     by true = bares-folded w l.value l.cell gs
     by false = refl
 

@@ -2,11 +2,11 @@
 ghost use Rattle.std.specs.Prelude.{◌≡◌, ◌≢◌, ◌<◌, ◌^◌, ◌==◌, IsSome, OnOk, All, true, option_map, position, vec_capacity, vec_len};
 ghost use Rattle.ot_model.specs.Cells.{cell_of, lengths, AreInOrder, is_fold};
 ghost use Rattle.ot_model.specs.declared.expr.Cell.{Cell};
-ghost use Rattle.ot_owner.specs.Worth.{kept, AreStored, taken_back, all_back, worth_over};
+ghost use Rattle.ot_owner.specs.Worth.{stored_kept, AreStored, taken_back, all_back, worth_over};
 ghost use Rattle.ot_owner.specs.Keeping.{HasRow, IsRegular};
 ghost use Rattle.ot_owner.specs.Kept.{summeds_of, mades_of, holder_from};
 ghost use Rattle.ot_owner.specs.Lending.{uses_of};
-ghost use Rattle.ot_owner.specs.Owning.{copy_among, folded, folds_in, begun_for};
+ghost use Rattle.ot_owner.specs.Owning.{copy_among, copies_folded, folds_in, begun_for};
 
 use crate::lent::LentCell;
 use crate::rows::Group;
@@ -90,7 +90,7 @@ pub(crate) fn begin_rows(groups: &mut Vec<Group>, uses: &[Use], worker: usize)
 /// Folds a number into a worker's copy of a cell, by the operation of its group.
 fn fold(groups: &mut Vec<Group>, worker: usize, cell: Cell, number: u64)
     requires { IsSome (copy_among (summeds_of groups.old.items) worker cell) }
-    ensures folded { summeds_of groups.new.items ≡ folded worker cell number (summeds_of groups.old.items) }
+    ensures folded { summeds_of groups.new.items ≡ copies_folded worker cell number (summeds_of groups.old.items) }
     ensures made { mades_of groups.new.items ≡ mades_of groups.old.items }
     ensures capacity { vec_capacity groups.new ≡ vec_capacity groups.old }
     ensures len { vec_len groups.new ≡ vec_len groups.old }
@@ -105,7 +105,7 @@ fn fold(groups: &mut Vec<Group>, worker: usize, cell: Cell, number: u64)
 fn give_one(cells: &mut Cells, groups: &mut Vec<Group>, worker: usize, copy: LentCell)
     requires there { IsSome (cell_of cells.old copy.cell) }
     requires row { is_fold copy.mode ≡ true → IsSome (copy_among (summeds_of groups.old.items) worker copy.cell) }
-    ensures stored { cell_of cells.new copy.cell ≡ option_map (λ stored. kept copy.mode stored copy.value) (cell_of cells.old copy.cell) }
+    ensures stored { cell_of cells.new copy.cell ≡ option_map (λ stored. stored_kept copy.mode stored copy.value) (cell_of cells.old copy.cell) }
     ensures others { (other : Cell) → copy.cell ≢ other → cell_of cells.new other ≡ cell_of cells.old other }
     ensures lengths { lengths cells.new ≡ lengths cells.old }
     ensures back { summeds_of groups.new.items ≡ taken_back worker copy (summeds_of groups.old.items) }

@@ -5,7 +5,7 @@ ghost use Rattle.ot_model.specs.Joining.{join_by};
 ghost use Rattle.ot_model.specs.declared.expr.Cell.{Cell};
 ghost use Rattle.ot_owner.specs.Owning.{is_of, copy_in, copies_at, copies_where, begun_row, place_in, folds_in, row_in, folded_in, begun_in, copies_in};
 ghost use Rattle.ot_owner.specs.Kept.{row_of, rows_of, summed_of, made_of};
-ghost use Rattle.ot_owner.specs.Worth.{combined_by, combined};
+ghost use Rattle.ot_owner.specs.Worth.{combined_by, copies_combined};
 
 use ot_model::fold::{Conjunction, Disjunction, Maximum, Minimum, Parity, Product, Sum};
 use ot_model::{Cell, Cells, Decl, Fold, Look, Mode, Monoid, Use};
@@ -153,7 +153,7 @@ impl Group {
 
     /// The number combined with all copies of a cell.
     pub(crate) fn worth(&self, cell: Cell, stored: u64) -> u64
-        ensures { result ≡ combined self.now.op stored (copies_in cell (summed_of self.now)) }
+        ensures { result ≡ copies_combined self.now.op stored (copies_in cell (summed_of self.now)) }
     {
         match self.place(cell) {
             Some(place) => total(&self.op, &self.rows, place, stored),
@@ -218,7 +218,7 @@ impl Group {
     /// Combines each cell that it names with all copies of it. The copies stay as they are.
     pub(crate) fn combine(&self, cells: &mut Cells)
         requires { All (λ u. IsSome (cell_of cells.old u.cell)) self.now.decl }
-        ensures combined { (cell : Cell) → cell_of cells.new cell ≡ option_map (λ stored. combined self.now.op stored (copies_in cell (summed_of self.now))) (cell_of cells.old cell) }
+        ensures combined { (cell : Cell) → cell_of cells.new cell ≡ option_map (λ stored. copies_combined self.now.op stored (copies_in cell (summed_of self.now))) (cell_of cells.old cell) }
         ensures lengths { lengths cells.new ≡ lengths cells.old }
     {
         let uses = self.decl.uses();

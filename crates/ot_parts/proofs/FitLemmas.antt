@@ -3,7 +3,7 @@ use Rattle.std.proofs.Common.{◌≡◌, ◌+◌, ◌≤◌, ◌^◌, ℕ, List,
 use Rattle.std.specs.Prelude.{IfSome, Option, Some, None, option_map}
 use Rattle.ot_model.specs.Tree.{E, Literal, CellAt, Apply, PickFrom, Set, Fold, If, Task, Wait, Group, Body, End, Next}
 use Rattle.ot_model.specs.Names.{ValueNamedIn, NamedIn}
-use Rattle.ot_parts.specs.Parts.{leading, behind, test_of}
+use Rattle.ot_parts.specs.Parts.{leading, after_parts, test_of}
 use Rattle.ot_parts.specs.Modes.{PicksFit, AssignsFit}
 
 pub value-fits : (lens : List ℕ) (e : E) → ValueNamedIn lens e → PicksFit e
@@ -23,7 +23,7 @@ assigns-fit lens (Next (Task d b) rest) h = tt
 assigns-fit lens (Next (Wait w) rest) h = tt
 assigns-fit lens (Next (Group o cs b) rest) h = tt
 
-pub test-fits : (lens : List ℕ) (b : Body) → NamedIn lens b → IfSome (test_of (behind b)) PicksFit
+pub test-fits : (lens : List ℕ) (b : Body) → NamedIn lens b → IfSome (test_of (after_parts b)) PicksFit
 test-fits lens End h = tt
 test-fits lens (Next (Set c e) rest) h = test-fits lens rest h.1
 test-fits lens (Next (Fold o c e) rest) h = test-fits lens rest h.1

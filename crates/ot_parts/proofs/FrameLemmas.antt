@@ -8,7 +8,7 @@ use Rattle.std.proofs.lemmas.List.{drop_all, drop_more}
 use Rattle.std.proofs.lemmas.Option.{get_or_from_slice_get, slice_get_within}
 use Rattle.ot_model.specs.Tree.{S, Set, Fold, If, Task, Wait, Group, Body, End, Next, append}
 use Rattle.ot_model.proofs.TreeLemmas as tree
-use Rattle.ot_parts.specs.Parts.{leading, behind, test_of, Meaning, IsPart, alone, is_control, condition_of, part_of, parts_of}
+use Rattle.ot_parts.specs.Parts.{leading, after_parts, test_of, Meaning, IsPart, alone, is_control, condition_of, part_of, parts_of}
 use Rattle.ot_parts.specs.Left.{frame_parts, outer_parts, parts_left, next_at, rest_left, comes, frame_steps, outer_steps, steps_left}
 use Rattle.ot_parts.specs.declared.frames.Frame.{Frame}
 use Rattle.ot_parts.specs.declared.frames.Frames.{Frames}
@@ -54,10 +54,10 @@ first-is m b = tree.append-append m.run (alone m.control) b
 pub leading-first : (m : Meaning) (b : Body) → IsPart m → leading (append (append m.run (alone m.control)) b) ≡ append m.run (leading (append (alone m.control) b))
 leading-first m b part = ap leading (first-is m b) ∙ leading-append m.run (append (alone m.control) b) part.0
 
-pub behind-first : (m : Meaning) (b : Body) → IsPart m → behind (append (append m.run (alone m.control)) b) ≡ behind (append (alone m.control) b)
-behind-first m b part = ap behind (first-is m b) ∙ behind-append m.run (append (alone m.control) b) part.0
+pub behind-first : (m : Meaning) (b : Body) → IsPart m → after_parts (append (append m.run (alone m.control)) b) ≡ after_parts (append (alone m.control) b)
+behind-first m b part = ap after_parts (first-is m b) ∙ behind-append m.run (append (alone m.control) b) part.0
 
-pub control-first : (x : S) (b : Body) → is_control x ≡ true → (leading (Next x b) ≡ End) × (behind (Next x b) ≡ Next x b) × (test_of (Next x b) ≡ condition_of (Some x))
+pub control-first : (x : S) (b : Body) → is_control x ≡ true → (leading (Next x b) ≡ End) × (after_parts (Next x b) ≡ Next x b) × (test_of (Next x b) ≡ condition_of (Some x))
 control-first (Set c e) b is = cc
 control-first (Fold o c e) b is = cc
 control-first (If e p q) b is = (refl, refl, refl)
@@ -73,7 +73,7 @@ nothing-first passed m b part none = on passed m.run m.control part.0 none
     on : (passed : Bool) (run : Body) (control : Option S) → leading run ≡ run → comes passed (let m : Meaning = record { run = run; control = control } in m) ≡ false
         → rest_left passed b ≡ rest_left passed (append (append run (alone control)) b)
     on passed run (Some x) only none = cc
-    on true run None only none = sym (ap (λ r. behind (append r b)) (tree.append-End run) ∙ behind-append run b only)
+    on true run None only none = sym (ap (λ r. after_parts (append r b)) (tree.append-End run) ∙ behind-append run b only)
     on false End None only none = refl
     on false (Next x run) None only none = cc
 

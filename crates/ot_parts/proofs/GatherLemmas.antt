@@ -5,7 +5,7 @@ use Rattle.std.proofs.lemmas.List.{drop_more}
 use Rattle.ot_model.specs.Tree.{S, Body, Next, append}
 use Rattle.ot_model.proofs.TreeLemmas as tree
 use Rattle.ot_parts.specs.Assigns.{assign_of, assigns_of}
-use Rattle.ot_parts.specs.Parts.{leading, behind, test_of, Meaning, IsPart, alone, is_control, condition_of, part_of, parts_of}
+use Rattle.ot_parts.specs.Parts.{leading, after_parts, test_of, Meaning, IsPart, alone, is_control, condition_of, part_of, parts_of}
 use Rattle.ot_parts.specs.Left.{PassesAll, StopsAt}
 use Rattle.ot_parts.specs.declared.assign.Assign.{Assign}
 use Rattle.ot_parts.specs.declared.part.Part.{Part}
@@ -24,7 +24,7 @@ copied xs more left i a x within is put same =
 -- ---- a part's run is gathered
 
 abbrev pub Gathered : (run whole : Body) → Body → Body → Type 0
-Gathered run whole left all = (append run (leading left) ≡ append whole (leading all)) × (behind left ≡ behind all)
+Gathered run whole left all = (append run (leading left) ≡ append whole (leading all)) × (after_parts left ≡ after_parts all)
 
 -- behind it is no control statement
 pub run-gathered : (m : Meaning) (run more whole left all : Body) → IsPart m → is_some m.control ≡ false → more ≡ append run m.run
@@ -33,7 +33,7 @@ run-gathered m run more whole left all part none put h =
     let no = no-control m.control none in (
       ap (λ r. append r (leading left)) put ∙ tree.append-append run m.run (leading left)
           ∙ ap (append run) (sym (leading-first m left part ∙ ap (λ c. append m.run (leading (append (alone c) left))) no)) ∙ h.0,
-      sym (behind-first m left part ∙ ap (λ c. behind (append (alone c) left)) no) ∙ h.1,
+      sym (behind-first m left part ∙ ap (λ c. after_parts (append (alone c) left)) no) ∙ h.1,
     )
   where
     no-control : (o : Option S) → is_some o ≡ false → o ≡ None
@@ -42,15 +42,15 @@ run-gathered m run more whole left all part none put h =
 
 -- behind it is one
 pub all-gathered : (m : Meaning) (run more whole left all : Body) → IsPart m → is_some m.control ≡ true → more ≡ append run m.run
-    → Gathered run whole (append (append m.run (alone m.control)) left) all → (more ≡ append whole (leading all)) × (condition_of m.control ≡ test_of (behind all))
+    → Gathered run whole (append (append m.run (alone m.control)) left) all → (more ≡ append whole (leading all)) × (condition_of m.control ≡ test_of (after_parts all))
 all-gathered m run more whole left all part some put h = on m.control refl some
   where
-    on : (o : Option S) → m.control ≡ o → is_some o ≡ true → (more ≡ append whole (leading all)) × (condition_of m.control ≡ test_of (behind all))
+    on : (o : Option S) → m.control ≡ o → is_some o ≡ true → (more ≡ append whole (leading all)) × (condition_of m.control ≡ test_of (after_parts all))
     on None is some = cc
     on (Some x) is some =
         let first = control-first x left (subst (λ o. IfSome o (λ x. is_control x ≡ true)) is part.1) in (
           put ∙ ap (append run) (sym (tree.append-End m.run) ∙ ap (append m.run) (sym first.0) ∙ ap (λ o. append m.run (leading (append (alone o) left))) (sym is) ∙ sym (leading-first m left part)) ∙ h.0,
-          ap condition_of is ∙ sym first.2 ∙ ap test_of (sym first.1 ∙ ap (λ o. behind (append (alone o) left)) (sym is) ∙ sym (behind-first m left part)) ∙ ap test_of h.1,
+          ap condition_of is ∙ sym first.2 ∙ ap test_of (sym first.1 ∙ ap (λ o. after_parts (append (alone o) left)) (sym is) ∙ sym (behind-first m left part)) ∙ ap test_of h.1,
         )
 
 -- the part at a place
@@ -65,9 +65,9 @@ at-part ps i p b within is =
 -- ---- body by body
 
 pub stopped : (ps qs : List Part) (whole more : Body) (m : Meaning) → StopsAt ps whole more m
-    → (more ≡ append whole (leading (parts_of (ps ++ qs)))) × (condition_of m.control ≡ test_of (behind (parts_of (ps ++ qs))))
+    → (more ≡ append whole (leading (parts_of (ps ++ qs)))) × (condition_of m.control ≡ test_of (after_parts (parts_of (ps ++ qs))))
 stopped ps qs whole more m h =
-    subst (λ b. (more ≡ append whole (leading b)) × (condition_of m.control ≡ test_of (behind b))) (sym (parts-append ps qs)) (h (parts_of qs))
+    subst (λ b. (more ≡ append whole (leading b)) × (condition_of m.control ≡ test_of (after_parts b))) (sym (parts-append ps qs)) (h (parts_of qs))
 
 pub passed : (ps qs : List Part) (whole more : Body) → PassesAll ps whole more → Gathered more whole (parts_of qs) (parts_of (ps ++ qs))
 passed ps qs whole more h =

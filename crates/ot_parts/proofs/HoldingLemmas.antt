@@ -9,7 +9,7 @@ use Rattle.ot_model.specs.declared.fold.Fold.{Fold as Operation}
 use Rattle.ot_model.specs.declared.stmt.Mode.{Mode}
 use Rattle.ot_model.specs.declared.stmt.Mode.TheVariants.{Reads, Writes, Folds}
 use Rattle.ot_model.specs.declared.stmt.Use.{Use}
-use Rattle.ot_parts.specs.Modes.{Declared, as_held, folds_to, held_as, held, noted, stronger, with_mode, added, strongest}
+use Rattle.ot_parts.specs.Modes.{Declared, as_held, folds_to, held_as, held_mode, mode_noted, stronger, with_mode, mode_added, strongest}
 use Rattle.ot_parts.proofs.FoldLemmas.{same_self}
 
 -- ---- use by use
@@ -71,7 +71,7 @@ held-with_mode : (own : Declared) (c : Cell) (s : Option Mode) (m : Mode) → he
 held-with_mode own c None m = refl
 held-with_mode own c (Some n) m = held-stronger own c n m
 
-held-one : (own : Declared) (c : Cell) (s : Option Mode) (u : Use) → noted own c (option_map (held_as own c) s) u ≡ option_map (held_as own c) (added c s u)
+held-one : (own : Declared) (c : Cell) (s : Option Mode) (u : Use) → mode_noted own c (option_map (held_as own c) s) u ≡ option_map (held_as own c) (mode_added c s u)
 held-one own c s u = by (same_cell u.cell c) refl
   where
     by : (b : Bool) → same_cell u.cell c ≡ b
@@ -81,10 +81,10 @@ held-one own c s u = by (same_cell u.cell c) refl
         ap (λ d. Some (with_mode (option_map (held_as own c) s) (held_as own d u.mode))) ((cell-decides u.cell c).0 is) ∙ ap Some (sym (held-with_mode own c s u.mode))
     by false is = refl
 
-held-from : (own : Declared) (c : Cell) (us : List Use) (s : Option Mode) → fold (noted own c) (option_map (held_as own c) s) us ≡ option_map (held_as own c) (fold (added c) s us)
+held-from : (own : Declared) (c : Cell) (us : List Use) (s : Option Mode) → fold (mode_noted own c) (option_map (held_as own c) s) us ≡ option_map (held_as own c) (fold (mode_added c) s us)
 held-from own c [] s = refl
-held-from own c (u ∷ us) s = ap (λ o. fold (noted own c) o us) (held-one own c s u) ∙ held-from own c us (added c s u)
+held-from own c (u ∷ us) s = ap (λ o. fold (mode_noted own c) o us) (held-one own c s u) ∙ held-from own c us (mode_added c s u)
 
 -- what touches hold
-pub held-strongest : (own : Declared) (us : List Use) (c : Cell) → held own us c ≡ option_map (held_as own c) (strongest us c)
+pub held-strongest : (own : Declared) (us : List Use) (c : Cell) → held_mode own us c ≡ option_map (held_as own c) (strongest us c)
 held-strongest own us c = held-from own c us None

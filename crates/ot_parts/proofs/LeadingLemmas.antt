@@ -5,7 +5,7 @@ use Rattle.std.proofs.lemmas.Grind.{common_steps}
 use Rattle.ot_model.specs.View.{expr_of}
 use Rattle.ot_model.specs.Tree.{Set, Fold, If, Task, Wait, Group, Body, End, Next, append}
 use Rattle.ot_parts.specs.Assigns.{assign_of, assigns_of}
-use Rattle.ot_parts.specs.Parts.{leading, behind, leading_len}
+use Rattle.ot_parts.specs.Parts.{leading, after_parts, leading_len}
 use Rattle.ot_parts.specs.declared.assign.Assign.{Assign}
 use Rattle.ot_parts.specs.declared.assign.Assign.TheVariants as v
 
@@ -23,7 +23,7 @@ leading-append (Next (Task d p) rest) b h = cc
 leading-append (Next (Wait w) rest) b h = cc
 leading-append (Next (Group o cs p) rest) b h = cc
 
-pub behind-append : (g b : Body) → leading g ≡ g → behind (append g b) ≡ behind b
+pub behind-append : (g b : Body) → leading g ≡ g → after_parts (append g b) ≡ after_parts b
 unfolding tail
 behind-append End b h = refl
 behind-append (Next (Set c e) rest) b h = behind-append rest b (ap tail h)
@@ -33,7 +33,7 @@ behind-append (Next (Task d p) rest) b h = cc
 behind-append (Next (Wait w) rest) b h = cc
 behind-append (Next (Group o cs p) rest) b h = cc
 
-pub leading-behind : (b : Body) → leading (behind b) ≡ End
+pub leading-behind : (b : Body) → leading (after_parts b) ≡ End
 leading-behind End = refl
 leading-behind (Next (Set c e) rest) = leading-behind rest
 leading-behind (Next (Fold o c e) rest) = leading-behind rest
@@ -42,7 +42,7 @@ leading-behind (Next (Task d p) rest) = refl
 leading-behind (Next (Wait w) rest) = refl
 leading-behind (Next (Group o cs p) rest) = refl
 
-pub behind-behind : (b : Body) → behind (behind b) ≡ behind b
+pub behind-behind : (b : Body) → after_parts (after_parts b) ≡ after_parts b
 behind-behind End = refl
 behind-behind (Next (Set c e) rest) = behind-behind rest
 behind-behind (Next (Fold o c e) rest) = behind-behind rest

@@ -6,7 +6,7 @@ use Rattle.std.proofs.lemmas.List.{drop_all}
 use Rattle.std.proofs.lemmas.Option.{same_Some, slice_get_cases}
 use Rattle.ot_model.specs.Tree.{S, Set, Fold, If, Task, Wait, Group, Body, End, Next, append}
 use Rattle.ot_model.proofs.TreeLemmas as tree
-use Rattle.ot_parts.specs.Parts.{leading, behind, test_of, control_next, past_control, branched, Meaning, IsPart, alone, branch_of, condition_at, condition_of, is_control, part_of, parts_of}
+use Rattle.ot_parts.specs.Parts.{leading, after_parts, test_of, control_next, past_control, branch_taken, Meaning, IsPart, alone, branch_of, condition_at, condition_of, is_control, part_of, parts_of}
 use Rattle.ot_parts.specs.Left.{IsHidden, IsShown, IsTrim, comes, next_at, outer_parts, parts_left, rest_left, shows}
 use Rattle.ot_parts.specs.declared.frames.Frames.{Frames}
 use Rattle.ot_parts.specs.declared.part.Part.{Part}
@@ -133,7 +133,7 @@ none-past (Next (Task d p) b) is = cc
 none-past (Next (Wait w) b) is = cc
 none-past (Next (Group o cs p) b) is = cc
 
-pub none-branched : (taken : Bool) (b : Body) → control_next b ≡ None → branched taken b ≡ b
+pub none-branched : (taken : Bool) (b : Body) → control_next b ≡ None → branch_taken taken b ≡ b
 none-branched taken End is = refl
 none-branched taken (Next (Set c e) b) is = refl
 none-branched taken (Next (Fold o c e) b) is = refl
@@ -142,7 +142,7 @@ none-branched taken (Next (Task d p) b) is = cc
 none-branched taken (Next (Wait w) b) is = cc
 none-branched taken (Next (Group o cs p) b) is = cc
 
-pub other-branched : (taken : Bool) (x : S) (b : Body) → branch_of taken (Some x) ≡ None → branched taken (Next x b) ≡ Next x b
+pub other-branched : (taken : Bool) (x : S) (b : Body) → branch_of taken (Some x) ≡ None → branch_taken taken (Next x b) ≡ Next x b
 other-branched taken (Set c e) b is = refl
 other-branched taken (Fold o c e) b is = refl
 other-branched taken (If e p q) b is = cc
@@ -150,7 +150,7 @@ other-branched taken (Task d p) b is = refl
 other-branched taken (Wait w) b is = refl
 other-branched taken (Group o cs p) b is = refl
 
-pub if-branched : (taken : Bool) (x : S) (a b : Body) → branch_of taken (Some x) ≡ Some a → branched taken (Next x b) ≡ append a b
+pub if-branched : (taken : Bool) (x : S) (a b : Body) → branch_of taken (Some x) ≡ Some a → branch_taken taken (Next x b) ≡ append a b
 if-branched taken (Set c e) a b is = cc
 if-branched taken (Fold o c e) a b is = cc
 if-branched taken (If e p q) a b is = ap (λ x. append x b) (same_Some _ _ is)
@@ -160,11 +160,11 @@ if-branched taken (Group o cs p) a b is = cc
 
 -- ---- the sets and folds that come first
 
-pub behind-left : (passed : Bool) (b : Body) → behind (rest_left passed b) ≡ behind b
+pub behind-left : (passed : Bool) (b : Body) → after_parts (rest_left passed b) ≡ after_parts b
 behind-left true b = behind-behind b
 behind-left false b = refl
 
-pub next-condition : (b : Body) → leading b ≡ End → condition_of (control_next b) ≡ test_of (behind b)
+pub next-condition : (b : Body) → leading b ≡ End → condition_of (control_next b) ≡ test_of (after_parts b)
 next-condition End h = refl
 next-condition (Next (Set c e) b) h = cc
 next-condition (Next (Fold o c e) b) h = cc
@@ -175,28 +175,28 @@ next-condition (Next (Group o cs p) b) h = refl
 
 -- a part whose run is all that comes first
 pub alone-control : (m : Meaning) (rest : Body) → IsPart m → is_some m.control ≡ true
-    → (m.run ≡ leading (append (append m.run (alone m.control)) rest)) × (condition_of m.control ≡ test_of (behind (append (append m.run (alone m.control)) rest)))
+    → (m.run ≡ leading (append (append m.run (alone m.control)) rest)) × (condition_of m.control ≡ test_of (after_parts (append (append m.run (alone m.control)) rest)))
 alone-control m rest part some = on m.control refl some
   where
     on : (o : Option S) → m.control ≡ o → is_some o ≡ true
-        → (m.run ≡ leading (append (append m.run (alone m.control)) rest)) × (condition_of m.control ≡ test_of (behind (append (append m.run (alone m.control)) rest)))
+        → (m.run ≡ leading (append (append m.run (alone m.control)) rest)) × (condition_of m.control ≡ test_of (after_parts (append (append m.run (alone m.control)) rest)))
     on None is some = cc
     on (Some x) is some =
         let first = control-first x rest (subst (λ o. IfSome o (λ x. is_control x ≡ true)) is part.1) in (
           sym (leading-first m rest part ∙ ap (λ o. append m.run (leading (append (alone o) rest))) is ∙ ap (append m.run) first.0 ∙ tree.append-End m.run),
-          ap condition_of is ∙ sym first.2 ∙ sym (ap test_of (behind-first m rest part ∙ ap (λ o. behind (append (alone o) rest)) is ∙ first.1)),
+          ap condition_of is ∙ sym first.2 ∙ sym (ap test_of (behind-first m rest part ∙ ap (λ o. after_parts (append (alone o) rest)) is ∙ first.1)),
         )
 
 pub alone-last : (m : Meaning) → IsPart m → is_some m.control ≡ false
-    → (m.run ≡ leading (append (append m.run (alone m.control)) End)) × (condition_of m.control ≡ test_of (behind (append (append m.run (alone m.control)) End)))
+    → (m.run ≡ leading (append (append m.run (alone m.control)) End)) × (condition_of m.control ≡ test_of (after_parts (append (append m.run (alone m.control)) End)))
 alone-last m part none = on m.control refl none
   where
     on : (o : Option S) → m.control ≡ o → is_some o ≡ false
-        → (m.run ≡ leading (append (append m.run (alone m.control)) End)) × (condition_of m.control ≡ test_of (behind (append (append m.run (alone m.control)) End)))
+        → (m.run ≡ leading (append (append m.run (alone m.control)) End)) × (condition_of m.control ≡ test_of (after_parts (append (append m.run (alone m.control)) End)))
     on (Some x) is none = cc
     on None is none = (
       sym (leading-first m End part ∙ ap (λ o. append m.run (leading (append (alone o) End))) is ∙ tree.append-End m.run),
-      ap condition_of is ∙ sym (ap test_of (behind-first m End part ∙ ap (λ o. behind (append (alone o) End)) is)),
+      ap condition_of is ∙ sym (ap test_of (behind-first m End part ∙ ap (λ o. after_parts (append (alone o) End)) is)),
     )
 
 -- the same of what is left
@@ -209,7 +209,7 @@ passed-leading true b now view is = ap leading (sym view) ∙ leading-behind b
 passed-leading false b now view is = cc
 
 abbrev pub IsAlone : Meaning → Body → Type 0
-IsAlone m now = (m.run ≡ leading now) × (condition_of m.control ≡ test_of (behind now))
+IsAlone m now = (m.run ≡ leading now) × (condition_of m.control ≡ test_of (after_parts now))
 
 pub control-left : (passed : Bool) (f : Frames) (now : Body) (p : Part) → rest_left passed (parts_of (parts_left f)) ≡ now → passed ≡ false → IsPart (part_of p) → next_at f.inner ≡ Some p
     → is_some (part_of p).control ≡ true → IsAlone (part_of p) now
@@ -248,19 +248,19 @@ past-shown passed f new b p view shown past =
     sym (control-past n.0 (parts_of (parts_left new)) n.3) ∙ ap past_control (sym n.2 ∙ view)
 
 pub other-shown : (taken passed : Bool) (f : Frames) (b : Body) (p : Part) → rest_left passed (parts_of (parts_left f)) ≡ b → IsShown passed f p → branch_of taken (part_of p).control ≡ None
-    → b ≡ branched taken b
+    → b ≡ branch_taken taken b
 other-shown taken passed f b p view shown other =
     let n = shown-next passed f p _ shown (next-parts f p shown.0) in
-    sym (ap (branched taken) (sym view ∙ n.2) ∙ other-branched taken n.0 _ (ap (branch_of taken) (sym n.1) ∙ other) ∙ sym n.2 ∙ view)
+    sym (ap (branch_taken taken) (sym view ∙ n.2) ∙ other-branched taken n.0 _ (ap (branch_of taken) (sym n.1) ∙ other) ∙ sym n.2 ∙ view)
 
 pub if-shown : (taken passed : Bool) (f new : Frames) (b : Body) (p : Part) (body : List Part) → rest_left passed (parts_of (parts_left f)) ≡ b → IsShown passed f p
     → branch_of taken (part_of p).control ≡ Some (parts_of body)
-    → ((q : Part) (ps : List Part) → next_at f.inner ≡ Some q → parts_left f ≡ q ∷ ps → parts_left new ≡ body ++ ps) → parts_of (parts_left new) ≡ branched taken b
+    → ((q : Part) (ps : List Part) → next_at f.inner ≡ Some q → parts_left f ≡ q ∷ ps → parts_left new ≡ body ++ ps) → parts_of (parts_left new) ≡ branch_taken taken b
 if-shown taken passed f new b p body view shown is gone =
     let left = next-parts f p shown.0 in
     let n = shown-next passed f p _ shown left in
     ap parts_of (gone p _ shown.0 left) ∙ parts-append body _
-    ∙ sym (ap (branched taken) (sym view ∙ n.2) ∙ if-branched taken n.0 (parts_of body) _ (ap (branch_of taken) (sym n.1) ∙ is))
+    ∙ sym (ap (branch_taken taken) (sym view ∙ n.2) ∙ if-branched taken n.0 (parts_of body) _ (ap (branch_of taken) (sym n.1) ∙ is))
 
 -- ---- a value behind a reference
 

@@ -16,7 +16,7 @@ use Rattle.ot_model.specs.declared.fold.Fold.TheVariants.{Plus}
 use Rattle.ot_model.specs.declared.stmt.Mode.{Mode}
 use Rattle.ot_model.specs.declared.stmt.Mode.TheVariants.{Reads, Writes, Folds}
 use Rattle.ot_model.specs.declared.stmt.Use.{Use}
-use Rattle.ot_parts.specs.Modes.{stronger, with_mode, added, strongest}
+use Rattle.ot_parts.specs.Modes.{stronger, with_mode, mode_added, strongest}
 use Rattle.ot_parts.proofs.FoldLemmas.{same_self, same_other}
 use Rattle.ot_parts.proofs.UseLemmas.{added-one}
 
@@ -74,7 +74,7 @@ with_mode-other : (o : Option Mode) (m n : Mode) → stronger (with_mode o m) n 
 with_mode-other None m n = stronger-comm m n
 with_mode-other (Some k) m n = stronger-other k m n
 
-added-other : (c : Cell) (o : Option Mode) (u v : Use) → added c (added c o u) v ≡ added c (added c o v) u
+added-other : (c : Cell) (o : Option Mode) (u v : Use) → mode_added c (mode_added c o u) v ≡ mode_added c (mode_added c o v) u
 added-other c o u v = by (same_cell u.cell c) (same_cell v.cell c) refl refl
   where
     by : (a b : Bool) → same_cell u.cell c ≡ a → same_cell v.cell c ≡ b →
@@ -85,9 +85,9 @@ added-other c o u v = by (same_cell u.cell c) (same_cell v.cell c) refl refl
     by false true one two = refl
     by false false one two = refl
 
-pub fold-added : (c : Cell) (o : Option Mode) (u : Use) (us : List Use) → fold (added c) (added c o u) us ≡ added c (fold (added c) o us) u
+pub fold-added : (c : Cell) (o : Option Mode) (u : Use) (us : List Use) → fold (mode_added c) (mode_added c o u) us ≡ mode_added c (fold (mode_added c) o us) u
 fold-added c o u [] = refl
-fold-added c o u (v ∷ us) = ap (λ q. fold (added c) q us) (added-other c o u v) ∙ fold-added c (added c o v) u us
+fold-added c o u (v ∷ us) = ap (λ q. fold (mode_added c) q us) (added-other c o u v) ∙ fold-added c (mode_added c o v) u us
 
 -- ---- uses in order
 
@@ -97,24 +97,24 @@ strongest-in_order (u ∷ us) c order =
     let none : mode_in us u.cell ≡ None = mode_in-none us u.cell (λ k d within same. precedes_apart u.cell (get_or us k d).cell
     (each_precedes (u ∷ us) order 0 (suc k) d (omega arith) (omega (arith, within))) (sym same)) in
     fold-added c None u us
-    ∙ ap (λ o. added c o u) (strongest-in_order us c (rest_in_order u us order))
+    ∙ ap (λ o. mode_added c o u) (strongest-in_order us c (rest_in_order u us order))
     ∙ sym (added-one u u.mode us (u ∷ us) (sym (ap (λ o. with_mode o u.mode) none)) (λ x. refl) c)
 
 -- ---- one use more
 
 -- it stands behind all others
-pub strongest-push : (us vs : List Use) (u : Use) (c : Cell) → strongest (us ++ (vs ++ u ∷ [])) c ≡ added c (strongest (us ++ vs) c) u
+pub strongest-push : (us vs : List Use) (u : Use) (c : Cell) → strongest (us ++ (vs ++ u ∷ [])) c ≡ mode_added c (strongest (us ++ vs) c) u
 strongest-push us vs u c =
-    ap (λ ws. strongest ws c) (sym (append_assoc us vs (u ∷ []))) ∙ fold-append (added c) None (us ++ vs) (u ∷ [])
+    ap (λ ws. strongest ws c) (sym (append_assoc us vs (u ∷ []))) ∙ fold-append (mode_added c) None (us ++ vs) (u ∷ [])
 
 -- it stands among those in order that come first
-pub strongest-front : (us vs ws : List Use) (u : Use) (c : Cell) → AreInOrder us → AreInOrder vs → mode_in vs c ≡ added c (mode_in us c) u →
-    strongest (vs ++ ws) c ≡ added c (strongest (us ++ ws) c) u
+pub strongest-front : (us vs ws : List Use) (u : Use) (c : Cell) → AreInOrder us → AreInOrder vs → mode_in vs c ≡ mode_added c (mode_in us c) u →
+    strongest (vs ++ ws) c ≡ mode_added c (strongest (us ++ ws) c) u
 strongest-front us vs ws u c before after is =
-    fold-append (added c) None vs ws
-    ∙ ap (λ o. fold (added c) o ws) (strongest-in_order vs c after ∙ is ∙ ap (λ o. added c o u) (sym (strongest-in_order us c before)))
+    fold-append (mode_added c) None vs ws
+    ∙ ap (λ o. fold (mode_added c) o ws) (strongest-in_order vs c after ∙ is ∙ ap (λ o. mode_added c o u) (sym (strongest-in_order us c before)))
     ∙ fold-added c (strongest us c) u ws
-    ∙ ap (λ o. added c o u) (sym (fold-append (added c) None us ws))
+    ∙ ap (λ o. mode_added c o u) (sym (fold-append (mode_added c) None us ws))
 
 -- ---- the same uses in another order
 

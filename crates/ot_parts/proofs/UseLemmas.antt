@@ -12,7 +12,7 @@ use Rattle.ot_model.specs.declared.stmt.Use.{Use}
 use Rattle.ot_model.proofs.EqualLemmas.{cell-decides}
 use Rattle.ot_model.proofs.OrderLemmas.{precedes_trans, precedes_apart, before_from_precedes, precedes_from_before, rest_in_order, each_precedes}
 use Rattle.ot_model.proofs.DeclaredLemmas.{after_more, neither_before}
-use Rattle.ot_parts.specs.Modes.{with_mode, added}
+use Rattle.ot_parts.specs.Modes.{with_mode, mode_added}
 
 -- ---- the place of a cell
 
@@ -131,7 +131,7 @@ same_other c d = by (same_cell c d) (same_cell d c) refl refl
     by false false not other = refl
 
 pub added-one : (u : Use) (m : Mode) (us vs : List Use) → m ≡ with_mode (mode_in us u.cell) u.mode → Sees us vs (record { cell = u.cell; mode = m }) →
-    (c : Cell) → mode_in vs c ≡ added c (mode_in us c) u
+    (c : Cell) → mode_in vs c ≡ mode_added c (mode_in us c) u
 added-one u m us vs is sees c =
     sees c ∙ ap (λ (b : Bool). if b then Some m else mode_in us c) (same_other c u.cell) ∙ by (same_cell u.cell c) refl
   where

@@ -3,7 +3,7 @@ use Rattle.std.proofs.Common.{◌≡◌, ◌<◌, ◌++◌, ℕ, ◌+◌, List, 
 use Rattle.std.specs.Prelude.{Bool, true, false, Option, None, Some, is_some}
 use Rattle.std.proofs.lemmas.List.{drop_more}
 use Rattle.ot_model.specs.Tree.{S, Set, Fold, If, Task, Wait, Group, Body, End, Next, append}
-use Rattle.ot_parts.specs.Parts.{leading, behind, Meaning, IsPart, alone, whole, part_of, parts_of, weight, weight_one}
+use Rattle.ot_parts.specs.Parts.{leading, after_parts, Meaning, IsPart, alone, whole, part_of, parts_of, weight, weight_one}
 use Rattle.ot_parts.specs.Left.{rest_left, frame_parts, outer_parts}
 use Rattle.ot_parts.specs.declared.frames.Frame.{Frame}
 use Rattle.ot_parts.specs.declared.part.Part.{Part}
@@ -49,7 +49,7 @@ weight-first ps i p within is =
     ap (λ l. weight (parts_of l)) (drop_more ps i p within ∙ ap (λ q. q ∷ drop (i + 1) ps) (sym is))
     ∙ weight-append (whole (part_of p)) (parts_of (drop (i + 1) ps))
 
-pub weight-behind : (b : Body) → weight (behind b) ≡ weight b
+pub weight-behind : (b : Body) → weight (after_parts b) ≡ weight b
 weight-behind End = refl
 weight-behind (Next (Set c e) rest) = let r = weight-behind rest in omega (arith, r)
 weight-behind (Next (Fold o c e) rest) = let r = weight-behind rest in omega (arith, r)

@@ -7,7 +7,7 @@ use Rattle.ot_parts.specs.declared.assign.Assign.TheVariants as v
 use Rattle.ot_model.specs.Cells.{mode_in}
 use Rattle.ot_model.specs.declared.expr.Cell.{Cell}
 use Rattle.ot_model.specs.declared.stmt.Use.{Use}
-use Rattle.ot_parts.specs.Modes.{strongest, Declared, held, piece_touches}
+use Rattle.ot_parts.specs.Modes.{strongest, Declared, held_mode, piece_touches}
 
 abbrev pub assign_of : Assign → S
 assign_of (v.Set c e) = Set c (expr_of e)
@@ -41,4 +41,4 @@ AreTouched assigns test uses = (c : Cell) → mode_in uses c ≡ strongest (piec
 
 -- the uses are of the same cells, each in the mode in which a piece of a body that declares this holds it
 abbrev pub AreHeldBy : Declared → Body → Option E → List Use → Type 0
-AreHeldBy own assigns test uses = (c : Cell) → mode_in uses c ≡ held own (piece_touches assigns test) c
+AreHeldBy own assigns test uses = (c : Cell) → mode_in uses c ≡ held_mode own (piece_touches assigns test) c

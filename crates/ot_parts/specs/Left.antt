@@ -2,7 +2,7 @@
 use Rattle.std.specs.Prelude.{◌≡◌, ℕ, ◌+◌, ◌-◌, ◌++◌, ◌&&◌, ◌||◌, Bool, true, false, not, List, [], ◌∷◌, drop, length, slice_get, is_some, Option, Some, MatchOption}
 use Rattle.std.specs.Arc.{arc_value}
 use Rattle.ot_model.specs.Tree.{Body, End, Next, append}
-use Rattle.ot_parts.specs.Parts.{leading, behind, test_of, Meaning, IsPart, part_of, parts_of, condition_of}
+use Rattle.ot_parts.specs.Parts.{leading, after_parts, test_of, Meaning, IsPart, part_of, parts_of, condition_of}
 use Rattle.ot_parts.specs.declared.frames.Frame.{Frame}
 use Rattle.ot_parts.specs.declared.frames.Frames.{Frames}
 use Rattle.ot_parts.specs.declared.part.Part.{Part}
@@ -25,7 +25,7 @@ next_at f = slice_get (arc_value f.body).items f.at
 
 -- what is left, with the sets and folds that come first passed or not
 abbrev pub rest_left : Bool → Body → Body
-rest_left true b = behind b
+rest_left true b = after_parts b
 rest_left false b = b
 
 abbrev pub has_some : Body → Bool
@@ -68,9 +68,9 @@ steps_left f = frame_steps f.inner + outer_steps f.outer.items
 -- all of these are runs alone, which were put behind what had been gathered
 abbrev pub PassesAll : List Part → (before after : Body) → Type 0
 PassesAll ps before after =
-    (b : Body) → (append after (leading b) ≡ append before (leading (append (parts_of ps) b))) × (behind (append (parts_of ps) b) ≡ behind b)
+    (b : Body) → (append after (leading b) ≡ append before (leading (append (parts_of ps) b))) × (after_parts (append (parts_of ps) b) ≡ after_parts b)
 
 -- the sets and folds up to this control statement were put behind what had been gathered
 abbrev pub StopsAt : List Part → (before after : Body) → Meaning → Type 0
 StopsAt ps before after m =
-    (b : Body) → (after ≡ append before (leading (append (parts_of ps) b))) × (condition_of m.control ≡ test_of (behind (append (parts_of ps) b)))
+    (b : Body) → (after ≡ append before (leading (append (parts_of ps) b))) × (condition_of m.control ≡ test_of (after_parts (append (parts_of ps) b)))

@@ -50,12 +50,12 @@ with_mode None mode = mode
 with_mode (Some earlier) mode = stronger earlier mode
 
 -- one touch more, as this cell sees it
-abbrev pub noted : Declared → Cell → Option Mode → Use → Option Mode
-noted own c earlier u = if same_cell u.cell c then Some (with_mode earlier (mode_held own u)) else earlier
+abbrev pub mode_noted : Declared → Cell → Option Mode → Use → Option Mode
+mode_noted own c earlier u = if same_cell u.cell c then Some (with_mode earlier (mode_held own u)) else earlier
 
 -- the mode in which these touches hold the cell, if one of them is of it
-abbrev pub held : Declared → List Use → Cell → Option Mode
-held own us c = fold (noted own c) None us
+abbrev pub held_mode : Declared → List Use → Cell → Option Mode
+held_mode own us c = fold (mode_noted own c) None us
 
 -- each section has indexes of 32 bits
 abbrev pub PicksFit : E → Type 0
@@ -72,12 +72,12 @@ AssignsFit b = Unit {0}
 -- Uses of cells, as they are collected for what a piece holds.
 
 -- one use more, as this cell sees it
-abbrev pub added : Cell → Option Mode → Use → Option Mode
-added c earlier u = if same_cell u.cell c then Some (with_mode earlier u.mode) else earlier
+abbrev pub mode_added : Cell → Option Mode → Use → Option Mode
+mode_added c earlier u = if same_cell u.cell c then Some (with_mode earlier u.mode) else earlier
 
 -- the strongest mode in which these uses have the cell, if one of them is of it
 abbrev pub strongest : List Use → Cell → Option Mode
-strongest us c = fold (added c) None us
+strongest us c = fold (mode_added c) None us
 
 -- all uses up to this place are of cells that come before this one, and no later ones are
 abbrev pub IsPlaceOf : List Use → Cell → ℕ → Type 0

@@ -14,10 +14,10 @@ leading (Next (Fold o c e) rest) = Next (Fold o c e) (leading rest)
 leading b = End
 
 -- what stands behind them
-abbrev pub behind : Body → Body
-behind (Next (Set c e) rest) = behind rest
-behind (Next (Fold o c e) rest) = behind rest
-behind b = b
+abbrev pub after_parts : Body → Body
+after_parts (Next (Set c e) rest) = after_parts rest
+after_parts (Next (Fold o c e) rest) = after_parts rest
+after_parts b = b
 
 -- how many they are
 abbrev pub leading_len : Body → ℕ
@@ -45,9 +45,9 @@ past_control (Next (Fold o c e) rest) = Next (Fold o c e) rest
 past_control (Next x rest) = rest
 
 -- the body with the branch that is taken in place of an `if` that comes next
-abbrev pub branched : Bool → Body → Body
-branched taken (Next (If e a b) rest) = append (if taken then a else b) rest
-branched taken b = b
+abbrev pub branch_taken : Bool → Body → Body
+branch_taken taken (Next (If e a b) rest) = append (if taken then a else b) rest
+branch_taken taken b = b
 
 -- The bodies that shared parts stand for: what ot_model's View says of statements, but that sets and folds come by runs.
 
@@ -66,23 +66,23 @@ abbrev pub whole : Meaning → Body
 whole m = append m.run (alone m.control)
 
 -- the body that parts stand for, one behind the other
-abbrev pub joined : List Meaning → Body
-joined [] = End
-joined (m ∷ ms) = append (whole m) (joined ms)
+abbrev pub parts_joined : List Meaning → Body
+parts_joined [] = End
+parts_joined (m ∷ ms) = append (whole m) (parts_joined ms)
 
 -- one part, the parts inside already seen
 abbrev pub part_step : Part-F Meaning → Meaning
 part_step (Part-F.End r) = record { run = r.assigns; control = None }
-part_step (Part-F.If r a b) = record { run = r.assigns; control = Some (If r.test (joined a.value.items) (joined b.value.items)) }
-part_step (Part-F.Task r d b) = record { run = r.assigns; control = Some (Task d.value (joined b.value.items)) }
+part_step (Part-F.If r a b) = record { run = r.assigns; control = Some (If r.test (parts_joined a.value.items) (parts_joined b.value.items)) }
+part_step (Part-F.Task r d b) = record { run = r.assigns; control = Some (Task d.value (parts_joined b.value.items)) }
 part_step (Part-F.Wait r w) = record { run = r.assigns; control = Some (Wait w) }
-part_step (Part-F.Group r o cs b) = record { run = r.assigns; control = Some (Group o cs.items (joined b.value.items)) }
+part_step (Part-F.Group r o cs b) = record { run = r.assigns; control = Some (Group o cs.items (parts_joined b.value.items)) }
 
 abbrev pub part_of : Part → Meaning
 part_of = fold-Part Meaning part_step
 
 abbrev pub parts_of : List Part → Body
-parts_of ps = joined (map part_of ps)
+parts_of ps = parts_joined (map part_of ps)
 
 -- the body that a shared list of parts stands for
 abbrev pub body_in : Arc (Vec Part Global) Global → Body

@@ -53,7 +53,7 @@ pub(crate) struct Frames {
 impl Frames {
     ghost use Rattle.ot_model.specs.Tree.{append};
     ghost use Rattle.ot_parts.specs.Assigns.{assigns_of};
-    ghost use Rattle.ot_parts.specs.Parts.{leading, behind, test_of, part_of, parts_of, condition_of, IsPart, weight};
+    ghost use Rattle.ot_parts.specs.Parts.{leading, after_parts, test_of, part_of, parts_of, condition_of, IsPart, weight};
     ghost use Rattle.ot_parts.specs.declared.part.Part.{Part};
 
     /// At the beginning of a body. It takes no memory.
@@ -161,8 +161,8 @@ impl Frames {
         run: &mut Vec<Assign>,
     ) -> Result<Option<&Part>, AllocError>
         ensures run { OnOk result (assigns_of run.new.items ≡ append (assigns_of run.old.items) (leading (parts_of (parts_left self.now)))) }
-        ensures condition { IfOk result (λ found. MatchOption found (test_of (behind (parts_of (parts_left self.now))) ≡ None)
-            (λ p. condition_of (part_of p.now).control ≡ test_of (behind (parts_of (parts_left self.now))))) }
+        ensures condition { IfOk result (λ found. MatchOption found (test_of (after_parts (parts_of (parts_left self.now))) ≡ None)
+            (λ p. condition_of (part_of p.now).control ≡ test_of (after_parts (parts_of (parts_left self.now))))) }
     {
         if let Some(part) = gather(alloc, &self.inner.body, self.inner.at, run)? {
             return Ok(Some(part));

@@ -3,7 +3,7 @@ ghost use Rattle.std.specs.List.{AllWithin};
 ghost use Rattle.ot_model.specs.Cells.{is_before, AreInOrder, mode_in};
 ghost use Rattle.ot_model.specs.declared.expr.Cell.{Cell};
 ghost use Rattle.ot_model.specs.declared.stmt.Mode.TheVariants.{Folds};
-ghost use Rattle.ot_parts.specs.Modes.{stronger, added, strongest, IsPlaceOf};
+ghost use Rattle.ot_parts.specs.Modes.{stronger, mode_added, strongest, IsPlaceOf};
 
 use ot_model::{Cell, Fold, Mode, Use};
 use std::alloc::{AllocError, Global};
@@ -47,7 +47,7 @@ impl Held {
     /// Adds a use. A cell that comes last is put at the end of the list, and the place of another is
     /// found by halving.
     pub(crate) fn add(&mut self, used: Use) -> Result<(), AllocError>
-        ensures { OnOk result ((c : Cell) → strongest self.new c ≡ added c (strongest self.old c) used) }
+        ensures { OnOk result ((c : Cell) → strongest self.new c ≡ mode_added c (strongest self.old c) used) }
     {
         let place = place_of(&self.list, used.cell);
         if self.list.len() - place > MOST_MOVED && self.list[place].cell != used.cell {
@@ -77,7 +77,7 @@ fn set_aside(list: &mut Vec<Use>, aside: &mut Vec<Use>, used: Use) -> Result<(),
     requires ordered { AreInOrder list.old.items }
     ensures ordered { AreInOrder list.new.items }
     ensures added { OnOk result ((c : Cell) → strongest (list.new.items ++ aside.new.items) c
-        ≡ added c (strongest (list.old.items ++ aside.old.items) c) used) }
+        ≡ mode_added c (strongest (list.old.items ++ aside.old.items) c) used) }
 {
     aside.push(used)?;
     if aside.len() > list.len() {
@@ -109,7 +109,7 @@ fn put(list: &mut Vec<Use>, place: usize, used: Use) -> Result<(), AllocError>
     requires ordered { AreInOrder list.old.items }
     requires place { IsPlaceOf list.old.items used.cell place }
     ensures ordered { AreInOrder list.new.items }
-    ensures added { OnOk result ((c : Cell) → mode_in list.new.items c ≡ added c (mode_in list.old.items c) used) }
+    ensures added { OnOk result ((c : Cell) → mode_in list.new.items c ≡ mode_added c (mode_in list.old.items c) used) }
 {
     if place < list.len() && list[place].cell == used.cell {
         list[place].mode = stronger(list[place].mode, used.mode);

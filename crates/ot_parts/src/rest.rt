@@ -40,7 +40,7 @@ impl Rest {
     ghost use Rattle.ot_model.specs.Cells.{AreInOrder};
     ghost use Rattle.ot_model.specs.View.{expr_of};
     ghost use Rattle.ot_parts.specs.Assigns.{assigns_of, AreHeldBy};
-    ghost use Rattle.ot_parts.specs.Parts.{leading, behind, test_of, control_next, past_control, branched, part_of, parts_of, condition_of, weight};
+    ghost use Rattle.ot_parts.specs.Parts.{leading, after_parts, test_of, control_next, past_control, branch_taken, part_of, parts_of, condition_of, weight};
 
     /// The whole body. It takes no memory.
     pub fn new(alloc: Global, body: Arc<Vec<Part>>) -> Rest
@@ -70,8 +70,8 @@ impl Rest {
     pub fn leading(&self, alloc: Global, own: Option<&Decl>) -> Result<Leading, AllocError>
         requires named { (lens : List ℕ) × NamedIn lens self.now }
         ensures assigns { IfOk result (λ l. l.assigns ≡ leading self.now) }
-        ensures condition { IfOk result (λ l. option_map expr_of l.condition ≡ test_of (behind self.now)) }
-        ensures held { IfOk result (λ l. AreHeldBy (option_map (λ o. o.now) own.entry) (leading self.now) (test_of (behind self.now)) (arc_value l.held)) }
+        ensures condition { IfOk result (λ l. option_map expr_of l.condition ≡ test_of (after_parts self.now)) }
+        ensures held { IfOk result (λ l. AreHeldBy (option_map (λ o. o.now) own.entry) (leading self.now) (test_of (after_parts self.now)) (arc_value l.held)) }
         ensures ordered { IfOk result (λ l. AreInOrder (arc_value l.held)) }
     {
         match self.alone() {
@@ -83,7 +83,7 @@ impl Rest {
     /// The part whose run and condition are all that comes first, if there is one.
     fn alone(&self) -> Option<&Part>
         ensures run { IfSome result (λ p. (part_of p.now).run ≡ leading self.now) }
-        ensures condition { IfSome result (λ p. condition_of (part_of p.now).control ≡ test_of (behind self.now)) }
+        ensures condition { IfSome result (λ p. condition_of (part_of p.now).control ≡ test_of (after_parts self.now)) }
     {
         if self.passed {
             return None;
@@ -99,8 +99,8 @@ impl Rest {
     fn joined(&self, alloc: Global, own: Option<&Decl>) -> Result<Leading, AllocError>
         requires named { (lens : List ℕ) × NamedIn lens self.now }
         ensures assigns { IfOk result (λ l. l.assigns ≡ leading self.now) }
-        ensures condition { IfOk result (λ l. option_map expr_of l.condition ≡ test_of (behind self.now)) }
-        ensures held { IfOk result (λ l. AreHeldBy (option_map (λ o. o.now) own.entry) (leading self.now) (test_of (behind self.now)) (arc_value l.held)) }
+        ensures condition { IfOk result (λ l. option_map expr_of l.condition ≡ test_of (after_parts self.now)) }
+        ensures held { IfOk result (λ l. AreHeldBy (option_map (λ o. o.now) own.entry) (leading self.now) (test_of (after_parts self.now)) (arc_value l.held)) }
         ensures ordered { IfOk result (λ l. AreInOrder (arc_value l.held)) }
     {
         let (run, condition) = self.gathered(alloc)?;
@@ -110,7 +110,7 @@ impl Rest {
     /// Copies of the sets and folds that come first, and of the condition behind them.
     fn gathered(&self, alloc: Global) -> Result<(Vec<Assign>, Option<Expr>), AllocError>
         ensures run { IfOk result (λ g. assigns_of g.0.items ≡ leading self.now) }
-        ensures condition { IfOk result (λ g. option_map expr_of g.1 ≡ test_of (behind self.now)) }
+        ensures condition { IfOk result (λ g. option_map expr_of g.1 ≡ test_of (after_parts self.now)) }
     {
         let mut run = Vec::new(alloc);
         if self.passed {
@@ -139,7 +139,7 @@ impl Rest {
 
     /// Passes the sets and folds that come first. It takes no memory.
     pub fn pass(&mut self)
-        ensures { self.new ≡ behind self.old }
+        ensures { self.new ≡ after_parts self.old }
     {
         self.frames.trim(true);
         self.passed = true;
@@ -158,7 +158,7 @@ impl Rest {
 
     /// Goes into one body of an `if` that comes next, if one does. Where memory is refused, it stays.
     pub fn branch(&mut self, taken: bool) -> Result<(), AllocError>
-        ensures branched { OnOk result (self.new ≡ branched taken self.old) }
+        ensures branched { OnOk result (self.new ≡ branch_taken taken self.old) }
         ensures same { OnErr result (self.new ≡ self.old) }
     {
         let Some(part) = self.frames.shown(self.passed) else {

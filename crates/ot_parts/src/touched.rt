@@ -6,7 +6,7 @@ ghost use Rattle.ot_model.specs.View.{expr_of};
 ghost use Rattle.ot_model.specs.declared.expr.Cell.{Cell};
 ghost use Rattle.ot_model.specs.declared.stmt.Mode.TheVariants.{Reads};
 ghost use Rattle.ot_parts.specs.Assigns.{assign_of, assigns_of};
-ghost use Rattle.ot_parts.specs.Modes.{added, strongest, PicksFit, AssignsFit, use_as, touches, test_touches, piece_touches};
+ghost use Rattle.ot_parts.specs.Modes.{mode_added, strongest, PicksFit, AssignsFit, use_as, touches, test_touches, piece_touches};
 
 use crate::assign::Assign;
 use crate::held::Held;
@@ -36,7 +36,7 @@ pub(crate) fn touched(
 fn note_test(held: &mut Held, condition: Option<&Expr>) -> Result<(), AllocError>
     requires test { IfSome condition (λ e. PicksFit (expr_of e.now)) }
     ensures { OnOk result ((c : Cell) → strongest held.new c
-        ≡ fold (added c) (strongest held.old c) (test_touches (option_map (λ e. expr_of e.now) condition.entry))) }
+        ≡ fold (mode_added c) (strongest held.old c) (test_touches (option_map (λ e. expr_of e.now) condition.entry))) }
 {
     match condition {
         None => Ok(()),
@@ -47,7 +47,7 @@ fn note_test(held: &mut Held, condition: Option<&Expr>) -> Result<(), AllocError
 fn note_assign(held: &mut Held, assign: &Assign) -> Result<(), AllocError>
     requires fits { AssignsFit (assigns_of (assign.now ∷ [])) }
     ensures { OnOk result ((c : Cell) → strongest held.new c
-        ≡ fold (added c) (strongest held.old c) (touches (assign_of assign.now))) }
+        ≡ fold (mode_added c) (strongest held.old c) (touches (assign_of assign.now))) }
 {
     match assign {
         Assign::Set(cell, value) => {
@@ -71,7 +71,7 @@ fn note_assign(held: &mut Held, assign: &Assign) -> Result<(), AllocError>
 fn note_reads(held: &mut Held, expr: &Expr) -> Result<(), AllocError>
     requires fits { PicksFit (expr_of expr.now) }
     ensures { OnOk result ((c : Cell) → strongest held.new c
-        ≡ fold (added c) (strongest held.old c) (map (use_as Reads) (cells_named (expr_of expr.now)))) }
+        ≡ fold (mode_added c) (strongest held.old c) (map (use_as Reads) (cells_named (expr_of expr.now)))) }
 {
     match expr {
         Expr::Number(_) => Ok(()),
@@ -93,7 +93,7 @@ fn note_reads(held: &mut Held, expr: &Expr) -> Result<(), AllocError>
 fn note_section(held: &mut Held, section: Section) -> Result<(), AllocError>
     requires fits { section.start + section.len ≤ 2 ^ 32 }
     ensures { OnOk result ((c : Cell) → strongest held.new c
-        ≡ fold (added c) (strongest held.old c) (map (use_as Reads) (map (cell_at section) (range_with_len 0 section.len)))) }
+        ≡ fold (mode_added c) (strongest held.old c) (map (use_as Reads) (map (cell_at section) (range_with_len 0 section.len)))) }
 {
     for step in 0..section.len {
         let cell = Cell {

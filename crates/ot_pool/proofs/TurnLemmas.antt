@@ -3,7 +3,7 @@ use Rattle.std.proofs.Common.{◌≡◌, inl, ℕ, refl, sym, subst, false}
 use Rattle.std.specs.Prelude.{Option, Some, None, Ok, Err}
 use Rattle.ot_check.specs.Jobs.{Spec, IsMeaning}
 use Rattle.ot_check.specs.declared.job.Outcome.{Outcome}
-use Rattle.ot_job.specs.Dealings.{Live, IsOf, NoneOut, state_of}
+use Rattle.ot_job.specs.Dealings.{Live, IsOf, NoneOut, live_state}
 use Rattle.ot_job.specs.declared.state.State.TheVariants.{Ended, Failed}
 use Rattle.ot_job.specs.Taken.{Came as Done}
 use Rattle.ot_job.specs.declared.piece.Refused.{Refused}
@@ -46,7 +46,7 @@ counts-none s now t done back why mid g is unset same refused before fails =
 
 -- the job that was taken out is of this spec
 pub collects-ended : (old new : Shared) (k : Ticket) (job : Live) (spec : Spec) (outcome : Outcome) → Leaves old k (Some (Ok job)) new → IsOf spec job
-    → state_of job ≡ Ended → NoneOut job → IsMeaning spec outcome → Collects old k.tenant spec (Some (Ok outcome)) new
+    → live_state job ≡ Ended → NoneOut job → IsMeaning spec outcome → Collects old k.tenant spec (Some (Ok outcome)) new
 collects-ended old new k job spec outcome leaves of state calm means = record {
   is_open = leaves.1.is_open;
   does = ((record { job = job; is = leaves.1.does.is; of = of }, state, calm), means, leaves.1.does.new_is);
@@ -55,7 +55,7 @@ collects-ended old new k job spec outcome leaves of state calm means = record {
 }
 
 pub collects-failed : (old new : Shared) (k : Ticket) (job : Live) (spec : Spec) → Leaves old k (Some (Ok job)) new → IsOf spec job
-    → state_of job ≡ Failed → NoneOut job → Collects old k.tenant spec (Some (Err refused.Memory)) new
+    → live_state job ≡ Failed → NoneOut job → Collects old k.tenant spec (Some (Err refused.Memory)) new
 collects-failed old new k job spec leaves of state calm = record {
   is_open = leaves.1.is_open;
   does = ((record { job = job; is = leaves.1.does.is; of = of }, state, calm), leaves.1.does.new_is);

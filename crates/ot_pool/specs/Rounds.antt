@@ -1,6 +1,6 @@
 -- What a worker's round does, and whom it wakes.
 use Rattle.std.specs.Prelude.{◌≡◌, ◌⊎◌, ◌&&◌, ℕ, Bool, true, false, not, Option, Some, None, option_map}
-use Rattle.ot_job.specs.Dealings.{state_of}
+use Rattle.ot_job.specs.Dealings.{live_state}
 use Rattle.ot_job.specs.Taken.{Came as Done, is_short}
 use Rattle.ot_hall.specs.Floors.{job_of, NothingAnywhere}
 use Rattle.ot_pool.specs.declared.hub.Claimed.{Claimed}
@@ -8,8 +8,8 @@ use Rattle.ot_pool.specs.declared.hub.Claimed.TheVariants as claimed
 use Rattle.ot_pool.specs.Shared.{ClaimsAny, ReturnsPiece, Shared, is_going}
 
 -- the pool is open, and the tenant has a job that isn't over
-abbrev pub is_pending : Shared → ℕ → Bool
-is_pending s t = not s.closed && is_going (option_map (λ j. state_of j) (job_of s.floor.jobs t))
+abbrev pub is_job_going : Shared → ℕ → Bool
+is_job_going s t = not s.closed && is_going (option_map (λ j. live_state j) (job_of s.floor.jobs t))
 
 -- ---- a worker's round
 
@@ -32,7 +32,7 @@ client_of (Some p) = Some p.0
 -- that client has no job any more that isn't over, or the pool is closed
 abbrev pub is_over : Option ℕ → Shared → Bool
 is_over None s = false
-is_over (Some t) s = not (is_pending s t)
+is_over (Some t) s = not (is_job_going s t)
 
 -- a claim aborted a job
 abbrev pub is_aborted : Claimed → Bool

@@ -2,7 +2,7 @@
 use Rattle.std.specs.Prelude.{◌≡◌, ◌+◌, ◌<◌, ◌^◌, ◌↔◌, ◌⊎◌, ℕ, List, length, replicate, Bool, true, false, Option, Some, None, option_map, Result, Ok, Err}
 use Rattle.ot_check.specs.Jobs.{Spec}
 use Rattle.ot_check.specs.declared.job.Outcome.{Outcome}
-use Rattle.ot_job.specs.Dealings.{Live, state_of}
+use Rattle.ot_job.specs.Dealings.{Live, live_state}
 use Rattle.ot_job.specs.declared.state.State.{State}
 use Rattle.ot_job.specs.declared.state.State.TheVariants.{Working, Failing}
 use Rattle.ot_job.specs.Taken.{Came as Done}
@@ -12,7 +12,7 @@ use Rattle.ot_book.specs.declared.executor.NotDone.TheVariants.{Memory, Closed, 
 use Rattle.ot_hall.specs.Floors.{job_of, Floor, new_floor, total_of, IsFree, IsWorking, NothingAt, RefusesIn, FailsIn, AbortsJob, ClaimsSome}
 use Rattle.ot_hall.specs.Floors as floors
 use Rattle.ot_hall.specs.declared.hall.Collected.TheVariants as collected
-use Rattle.ot_pool.specs.Tickets.{one_more, HasTicket, next_ticket, IsNewest}
+use Rattle.ot_pool.specs.Tickets.{one_ticket_more, HasTicket, next_ticket, IsNewest}
 use Rattle.ot_pool.specs.declared.tickets.Ticket.{Ticket}
 use Rattle.ot_pool.specs.declared.hub.Claimed.{Claimed}
 use Rattle.ot_pool.specs.declared.hub.Claimed.TheVariants as claimed
@@ -33,7 +33,7 @@ HasRoomForUnits f = total_of f + 20000 < 2 ^ 63
 
 -- What the type carries, of so many units in the ledger's book and so many tenants: the book has the total; where the mark isn't
 -- set there is room for one more piece; each tenant has its places.
-pub record IsKept (s : Shared) (units tenants : ℕ) : Type 0 where
+pub record IsInvariant (s : Shared) (units tenants : ℕ) : Type 0 where
   pub counted : units ≡ total_of s.floor
   pub room : s.closed ≡ false → HasRoomForUnits s.floor
   pub jobs_many : length s.floor.jobs ≡ tenants
@@ -52,17 +52,17 @@ pub record Turns (P : Floor → Floor → Type 0) (old new : Shared) : Type 0 wh
   pub still : new.closed ≡ false
 
 -- the mark isn't set, and the floor changes by one job more of the tenant
-pub record Begins (P : Floor → Floor → Type 0) (t : ℕ) (old new : Shared) : Type 0 where
+pub record BeginsShared (P : Floor → Floor → Type 0) (t : ℕ) (old new : Shared) : Type 0 where
   pub is_open : old.closed ≡ false
   pub does : P old.floor new.floor
-  pub numbered : new.numbers ≡ one_more old.numbers t
+  pub numbered : new.numbers ≡ one_ticket_more old.numbers t
   pub still : new.closed ≡ false
 
 -- ---- submit
 
 -- the tenant has a job of this spec that begins
 abbrev pub Submits : Shared → ℕ → Spec → Shared → Type 0
-Submits old t spec new = Begins (λ f g. floors.SubmitsFor f t spec g) t old new
+Submits old t spec new = BeginsShared (λ f g. floors.SubmitsFor f t spec g) t old new
 
 -- why a spec isn't taken
 abbrev pub RefusesSpec : Shared → ℕ → NotDone → Type 0
@@ -74,7 +74,7 @@ RefusesSpec old t Memory = (old.closed ≡ false) × IsFree old.floor t
 
 -- the tenant has this job, and whoever brought it has a ticket, which no other job has
 pub record Enters (old : Shared) (t : ℕ) (job : Live) (ticket : Ticket) (new : Shared) : Type 0 where
-  pub begins : Begins (λ f g. floors.EntersFor f t job g) t old new
+  pub begins : BeginsShared (λ f g. floors.EntersFor f t job g) t old new
   pub some : HasTicket old.numbers t
   pub ticket_is : ticket ≡ next_ticket old.numbers t
 
@@ -148,7 +148,7 @@ is_going _ = false
 
 -- the tenant has a job that isn't over
 abbrev pub IsGoing : Floor → ℕ → Type 0
-IsGoing f t = is_going (option_map (λ j. state_of j) (job_of f.jobs t)) ≡ true
+IsGoing f t = is_going (option_map (λ j. live_state j) (job_of f.jobs t)) ≡ true
 
 -- the ticket's job isn't there: it isn't its tenant's newest, or the tenant has none
 abbrev pub IsGone : Shared → Ticket → Type 0

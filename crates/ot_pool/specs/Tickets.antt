@@ -3,8 +3,8 @@ use Rattle.std.specs.Prelude.{◌≡◌, ◌+◌, ◌-◌, ◌<◌, ◌^◌, ℕ
 use Rattle.ot_pool.specs.declared.tickets.Ticket.{Ticket}
 
 -- the number of the tenant's newest job: a tenant's jobs are numbered from 1
-abbrev pub number_of : List ℕ → ℕ → ℕ
-number_of numbers t = slice_index_or numbers t 0
+abbrev pub ticket_number : List ℕ → ℕ → ℕ
+ticket_number numbers t = slice_index_or numbers t 0
 
 -- The last number, which no ticket has: all jobs of a tenant that come once it is reached have it.
 abbrev pub last_number : ℕ
@@ -15,17 +15,17 @@ abbrev pub after : ℕ → ℕ
 after n = if nat_lt n last_number then n + 1 else n
 
 -- with one job more of the tenant
-abbrev pub one_more : List ℕ → ℕ → List ℕ
-one_more numbers t = slice_set numbers t (after (number_of numbers t))
+abbrev pub one_ticket_more : List ℕ → ℕ → List ℕ
+one_ticket_more numbers t = slice_set numbers t (after (ticket_number numbers t))
 
 -- there is a ticket for the tenant's next job
 abbrev pub HasTicket : List ℕ → ℕ → Type 0
-HasTicket numbers t = number_of numbers t + 1 < last_number
+HasTicket numbers t = ticket_number numbers t + 1 < last_number
 
 -- that ticket
 abbrev pub next_ticket : List ℕ → ℕ → Ticket
-next_ticket numbers t = record { tenant = t; number = number_of numbers t + 1 }
+next_ticket numbers t = record { tenant = t; number = ticket_number numbers t + 1 }
 
 -- the ticket is that of its tenant's newest job
 abbrev pub IsNewest : List ℕ → Ticket → Type 0
-IsNewest numbers k = number_of numbers k.tenant ≡ k.number
+IsNewest numbers k = ticket_number numbers k.tenant ≡ k.number

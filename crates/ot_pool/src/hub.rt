@@ -63,7 +63,7 @@ impl Claimed {
 impl<L: Ledger> Model for Hub<L> {
     ghost use Rattle.std.specs.Coded.{codes};
     ghost use Rattle.ot_model.specs.Code.{body_code};
-    ghost use Rattle.ot_pool.specs.Shared.{Shared, IsKept};
+    ghost use Rattle.ot_pool.specs.Shared.{Shared, IsInvariant};
 
     ghost Value = { Shared };
 
@@ -71,7 +71,7 @@ impl<L: Ledger> Model for Hub<L> {
 
     ghost view = { λ h. record { floor = h.hall; numbers = h.numbers; closed = h.is_closed } };
 
-    ghost invariant = { λ h. IsKept (record { floor = h.hall; numbers = h.numbers; closed = h.is_closed }) h.book.total h.tenants };
+    ghost invariant = { λ h. IsInvariant (record { floor = h.hall; numbers = h.numbers; closed = h.is_closed }) h.book.total h.tenants };
 }
 
 impl<L: Ledger> Hub<L> {
@@ -238,7 +238,7 @@ impl<L: Ledger> Hub<L> {
 
     // Whether the tenant has a job that isn't over, in an open pool. Who asks takes no turn.
     pub(crate) fn is_pending(&self, tenant: u32) -> bool
-        ensures { result ≡ is_pending self.now tenant }
+        ensures { result ≡ is_job_going self.now tenant }
     {
         if self.is_closed {
             return false;
@@ -294,9 +294,9 @@ impl<L: Ledger> Hub<L> {
 }
 
 ghost use Rattle.ot_check.specs.Jobs.{IsMeaning, Spec};
-ghost use Rattle.ot_job.specs.Dealings.{Starts, IsOf, IsOver, state_of};
+ghost use Rattle.ot_job.specs.Dealings.{Starts, IsOf, IsOver, live_state};
 ghost use Rattle.ot_book.specs.declared.executor.NotDone.TheVariants.{Stranger};
-ghost use Rattle.ot_pool.specs.Rounds.{is_aborted, is_pending, is_short_piece};
+ghost use Rattle.ot_pool.specs.Rounds.{is_aborted, is_job_going, is_short_piece};
 ghost use Rattle.ot_pool.specs.Shared.{new_shared, Submits, Enters, RefusesSpec, RefusesJob, ClaimsAny, ReturnsPiece, Collects, Leaves, Shared, HasRoomForUnits};
 ghost use Rattle.ot_pool.specs.declared.tickets.Ticket.{Ticket};
 
@@ -304,7 +304,7 @@ ghost use Rattle.ot_pool.specs.declared.tickets.Ticket.{Ticket};
 /// that took the job out it is a collect. `Stranger` comes where the job is of another spec, which is let go then, and
 /// `Memory` where it has failed.
 pub(crate) fn outcome_of(job: Job, spec: &JobSpec) -> Result<Outcome, NotDone>
-    requires over { IsOver (state_of job) }
+    requires over { IsOver (live_state job) }
     ensures collected { (old new : Shared) (k : Ticket) → Leaves old k (Some (Ok job)) new → IsOf spec.now job → Collects old k.tenant spec.now (Some result) new }
     ensures strange { ¬ (IsOf spec.now job) → result ≡ Err Stranger }
     ensures meaning { IfOk result (λ outcome. IsMeaning spec.now outcome) }

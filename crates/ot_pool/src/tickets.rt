@@ -1,5 +1,5 @@
 ghost use Rattle.std.specs.Prelude.{◌≡◌, ◌↔◌, IsTrue, IfOk, MatchOption, replicate};
-ghost use Rattle.ot_pool.specs.Tickets.{number_of, after, one_more, HasTicket, next_ticket, IsNewest};
+ghost use Rattle.ot_pool.specs.Tickets.{ticket_number, after, one_ticket_more, HasTicket, next_ticket, IsNewest};
 
 use std::alloc::{AllocError, Global};
 use std::marker::Model;
@@ -49,7 +49,7 @@ impl Numbers {
 
     /// The number of the tenant's newest job.
     fn newest(&self, tenant: u32) -> u64
-        ensures { result ≡ number_of self.now tenant }
+        ensures { result ≡ ticket_number self.now tenant }
     {
         match self.newest.get(tenant as usize) {
             Some(number) => *number,
@@ -73,7 +73,7 @@ impl Numbers {
 
     /// The tenant has one job more.
     pub(crate) fn count(&mut self, tenant: u32)
-        ensures { self.new ≡ one_more self.old tenant }
+        ensures { self.new ≡ one_ticket_more self.old tenant }
     {
         if let Some(number) = self.newest.get_mut(tenant as usize) {
             *number = after(*number);

@@ -8,10 +8,10 @@ use Rattle.ot_program.specs.declared.fault.Refusal.{Refusal}
 use Rattle.ot_program.specs.declared.profile.Profile.{Profile}
 use Rattle.ot_program.specs.Accepted.{IsSmall}
 use Rattle.ot_program.specs.Copies.{Placed, copies, in_copy, in_order, statement_of}
-use Rattle.ot_program.specs.Faults.{no_list, list_faults, section_faults, nested}
+use Rattle.ot_program.specs.Faults.{no_list, list_faults, section_faults, faults_nested}
 use Rattle.ot_program.specs.Limits.{cells_in, tally, plus, total}
 use Rattle.ot_program.specs.Meanings.{items, section, profile_of}
-use Rattle.ot_program.specs.Programs.{told, told_or, expansion, program_copy, program_in, program_of}
+use Rattle.ot_program.specs.Programs.{fault_told, told_or, expansion, program_copy, program_in, program_of}
 use Rattle.ot_program.proofs.Named.{sections_named, copies_named}
 use Rattle.ot_program.proofs.CellCounts.{sections_long}
 use Rattle.ot_program.proofs.Shallow.{shallow_copies}
@@ -22,7 +22,7 @@ abbrev pub expansion_of : Arrays → Profile → Data → Data → Expanded
 expansion_of shape profile a b = expansion (map (section shape []) (items a)) (statement_of shape (program_copy profile a b))
 
 abbrev pub told_of : Arrays → Profile → Data → Data → Option Refusal
-told_of shape profile a b = told shape [] (in_copy (program_copy profile a b))
+told_of shape profile a b = fault_told shape [] (in_copy (program_copy profile a b))
 
 named_by : (shape : Arrays) → AreShort shape.arrays → (profile : Profile) (a b : Data) (o : Option Refusal) → told_of shape profile a b ≡ o
     → IfOk (told_or (expansion_of shape profile a b) o) (IsNamedIn (array_lengths shape))
@@ -31,7 +31,7 @@ named_by shape short profile a b None is =
     let ss = map (section shape []) (items a) in
     let ps = in_copy (program_copy profile a b) in
     let clean = clean_where shape nothing ps (sym (told-from shape [] ps) ∙ is) in
-    let parts = append-none (list_faults (section_faults shape []) a ++ no_list b) (nested 0) clean.0 in
+    let parts = append-none (list_faults (section_faults shape []) a ++ no_list b) (faults_nested 0) clean.0 in
     let list = append-none (list_faults (section_faults shape []) a) (no_list b) parts.0 in
     let body : AreClean shape (in_order (copies profile 1 b [])) = rw (append-nil (in_order (copies profile 1 b []))) at clean.1 in
     record {

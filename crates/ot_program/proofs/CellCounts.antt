@@ -10,7 +10,7 @@ use Rattle.ot_model.specs.declared.expr.Cell.{Cell}
 use Rattle.ot_model.specs.declared.expr.Section.{Section}
 use Rattle.ot_model.specs.declared.stmt.Use.{Use}
 use Rattle.ot_program.specs.Accepted.{named_in}
-use Rattle.ot_program.specs.Meanings.{placed, named_cells, mode_among, uses, Clause}
+use Rattle.ot_program.specs.Meanings.{cell_placed, named_cells, mode_among, uses, Clause}
 use Rattle.ot_program.specs.Limits.{cells_in}
 
 pub named-append : (ss ts : List S) → named_in (body_of (ss ++ ts)) ≡ named_in (body_of ss) + named_in (body_of ts)
@@ -37,15 +37,15 @@ length_if : {A : Type 0} (b : Bool) (xs ys : List A) (n : ℕ) → length xs ≤
 length_if true xs ys n h k = h
 length_if false xs ys n h k = k
 
-placed_long : (cells : List Cell) (c : Cell) → length (placed cells c) ≤ 1 + length cells
+placed_long : (cells : List Cell) (c : Cell) → length (cell_placed cells c) ≤ 1 + length cells
 placed_long [] c = omega arith
 placed_long (d ∷ ds) c =
-    length_if (is_before c d) (c ∷ d ∷ ds) (cond (same_cell c d) (d ∷ ds) (d ∷ placed ds c)) (1 + length (d ∷ ds)) (omega arith)
-    (length_if (same_cell c d) (d ∷ ds) (d ∷ placed ds c) (1 + length (d ∷ ds)) (omega arith) (omega (arith, placed_long ds c)))
+    length_if (is_before c d) (c ∷ d ∷ ds) (cond (same_cell c d) (d ∷ ds) (d ∷ cell_placed ds c)) (1 + length (d ∷ ds)) (omega arith)
+    (length_if (same_cell c d) (d ∷ ds) (d ∷ cell_placed ds c) (1 + length (d ∷ ds)) (omega arith) (omega (arith, placed_long ds c)))
 
-all_placed_long : (cells more : List Cell) → length (fold placed cells more) ≤ length cells + length more
+all_placed_long : (cells more : List Cell) → length (fold cell_placed cells more) ≤ length cells + length more
 all_placed_long cells [] = omega arith
-all_placed_long cells (c ∷ cs) = omega (arith, all_placed_long (placed cells c) cs, placed_long cells c)
+all_placed_long cells (c ∷ cs) = omega (arith, all_placed_long (cell_placed cells c) cs, placed_long cells c)
 
 -- a declaration has no more cells than its clauses name
 pub uses_few : (clauses : List Clause) → length (uses clauses) ≤ cells_in (map (λ c. c.section) clauses)

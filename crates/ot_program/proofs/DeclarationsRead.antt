@@ -12,8 +12,8 @@ use Rattle.ot_model.specs.declared.stmt.Use.{Use}
 use Rattle.ot_model.specs.Cells.{same_cell, is_before}
 use Rattle.ot_model.specs.Tree.{cells_of}
 use Rattle.ot_program.specs.declared.fault.Refusal.TheVariants.{MixedReduction}
-use Rattle.ot_program.specs.Meanings.{placed, named_cells, mode_among, is_mixed, uses, Clause}
-use Rattle.ot_program.specs.Faults.{unless, mixed}
+use Rattle.ot_program.specs.Meanings.{cell_placed, named_cells, mode_among, is_mixed, uses, Clause}
+use Rattle.ot_program.specs.Faults.{unless, faults_mixed}
 use Rattle.ot_program.specs.walk.Parts.{uses_of, declaration}
 use Rattle.ot_program.specs.walk.Namings.{cell_order, Named, name_cell, name_clause}
 use Rattle.ot_program.proofs.CellLists.{cell_of_key}
@@ -37,12 +37,12 @@ map_if : (b : Bool) (cs ds : List Cell) → map key (cond b cs ds) ≡ cond b (m
 map_if true cs ds = refl
 map_if false cs ds = refl
 
-keys_of_placed : (cs : List Cell) (c : Cell) → place (map key cs) (key c) ≡ map key (placed cs c)
+keys_of_placed : (cs : List Cell) (c : Cell) → place (map key cs) (key c) ≡ map key (cell_placed cs c)
 keys_of_placed [] c = refl
 keys_of_placed (d ∷ ds) c =
     place_by (nat_lt c.array d.array) (nat_eq c.array d.array) (nat_lt c.index d.index) (nat_eq c.index d.index)
     (key c ∷ key d ∷ map key ds) (key d ∷ map key ds) (key d ∷ place (map key ds) (key c))
-    ∙ rw (keys_of_placed ds c, map_if (is_before c d) (c ∷ d ∷ ds) (cond (same_cell c d) (d ∷ ds) (d ∷ placed ds c)), map_if (same_cell c d) (d ∷ ds) (d ∷ placed ds c)) refl
+    ∙ rw (keys_of_placed ds c, map_if (is_before c d) (c ∷ d ∷ ds) (cond (same_cell c d) (d ∷ ds) (d ∷ cell_placed ds c)), map_if (same_cell c d) (d ∷ ds) (d ∷ cell_placed ds c)) refl
 
 -- the cells of what was named
 record AreCells (named : Named) (cells : List Cell) : Type 0 where
@@ -50,25 +50,25 @@ record AreCells (named : Named) (cells : List Cell) : Type 0 where
   sorted : Sorted (keys_of named)
 
 cells_keys : (m : Mode) (cells : List Cell) (named : Named) (before : List Cell) → AreCells named before
-    → AreCells (fold (name_cell m) named cells) (fold placed before cells)
+    → AreCells (fold (name_cell m) named cells) (fold cell_placed before cells)
 cells_keys m [] named before h = h
 cells_keys m (c ∷ cs) named before h =
     let placed_key = keys_placed (key c) _ named in
-    cells_keys m cs (name_cell m named c) (placed before c) (record {
+    cells_keys m cs (name_cell m named c) (cell_placed before c) (record {
       keys = placed_key ∙ ap (λ (js : List (ℕ × ℕ)). place js (key c)) h.keys ∙ keys_of_placed before c;
       sorted = rw placed_key (sorted_placed (key c) (keys_of named) h.sorted);
     })
 
-fold-append : (cells xs ys : List Cell) → fold placed cells (xs ++ ys) ≡ fold placed (fold placed cells xs) ys
+fold-append : (cells xs ys : List Cell) → fold cell_placed cells (xs ++ ys) ≡ fold cell_placed (fold cell_placed cells xs) ys
 fold-append cells [] ys = refl
-fold-append cells (x ∷ xs) ys = fold-append (placed cells x) xs ys
+fold-append cells (x ∷ xs) ys = fold-append (cell_placed cells x) xs ys
 
 clauses_keys : (clauses : List Clause) (named : Named) (before : List Cell) → AreCells named before
-    → AreCells (fold name_clause named (map code_clause clauses)) (fold placed before (flat_map (λ clause. cells_of clause.section) clauses))
+    → AreCells (fold name_clause named (map code_clause clauses)) (fold cell_placed before (flat_map (λ clause. cells_of clause.section) clauses))
 clauses_keys [] named before h = h
 clauses_keys (c ∷ cs) named before h =
     rw (fold-append before (cells_of c.section) (flat_map (λ clause. cells_of clause.section) cs))
-    (clauses_keys cs (name_clause named (code_clause c)) (fold placed before (cells_of c.section))
+    (clauses_keys cs (name_clause named (code_clause c)) (fold cell_placed before (cells_of c.section))
     (cells_keys c.mode (cells_of c.section) named before h))
 
 -- ---- what stands at them
@@ -128,7 +128,7 @@ none_named : AreCells [] []
 unfolding Sorted
 none_named = record { keys = refl; sorted = tt }
 
-pub declared_read : (clauses : List Clause) → IsRead 7 (declaration (map code_clause clauses)) (uses clauses) (mixed clauses)
+pub declared_read : (clauses : List Clause) → IsRead 7 (declaration (map code_clause clauses)) (uses clauses) (faults_mixed clauses)
 declared_read clauses =
     let named = fold name_clause [] (map code_clause clauses) in
     let k = clauses_keys clauses [] [] none_named in

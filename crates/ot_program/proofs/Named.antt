@@ -20,8 +20,8 @@ use Rattle.ot_program.specs.declared.fault.Refusal.TheVariants.{Form, UnknownArr
 use Rattle.ot_program.specs.declared.profile.Profile.{Profile}
 use Rattle.ot_program.specs.declared.profile.Profile.TheVariants.{One, Two}
 use Rattle.ot_program.specs.Copies.{Text, SetText, AddText, FoldText, IfText, ForText, Turn, TaskText, WaitText, WaitForText, GroupText, GroupByText, ProgramText, NoForm, Copy, At, Copies, Done, Then, in_copy, in_order, statement, statement_of, statements_of}
-use Rattle.ot_program.specs.Meanings.{placed, named_cells, mode_among, uses, each, items, Bindings, size, op_of, mode_of, red_by, is_called, position_of, length_of, Clause, indexed, cell, section, value, clause, wait_clause, is_word}
-use Rattle.ot_program.specs.Faults.{unless, no_list, list_faults, deep, name_faults, size_faults, array_faults, indexed_faults, cell_faults, section_faults, value_faults, expression_faults, clause_faults, wait_clause_faults, fold_faults, nested, text_faults}
+use Rattle.ot_program.specs.Meanings.{cell_placed, named_cells, mode_among, uses, each, items, Bindings, size, op_of, mode_of, red_by, is_called, position_of, length_of, Clause, cell_indexed, cell, section, value, clause, wait_clause, is_word}
+use Rattle.ot_program.specs.Faults.{unless, no_list, list_faults, deep, name_faults, size_faults, array_faults, indexed_faults, cell_faults, section_faults, value_faults, expression_faults, clause_faults, wait_clause_faults, fold_faults, faults_nested, text_faults}
 use Rattle.ot_program.specs.Limits.{size_depth, depth_of}
 use Rattle.ot_program.proofs.Tallies.{append-none, unless-none, AreClean, clean-append}
 
@@ -50,7 +50,7 @@ array_there shape name clean =
 -- ---- cells and sections
 
 indexed_named : (shape : Arrays) (variables : Bindings) (name index : Data) → indexed_faults shape variables name index ≡ []
-    → IsInShape (array_lengths shape) (indexed shape variables name index)
+    → IsInShape (array_lengths shape) (cell_indexed shape variables name index)
 indexed_named shape variables name index clean =
     let parts = append-none (array_faults shape name ++ size_faults variables index) _ clean in
     let array = append-none (array_faults shape name) (size_faults variables index) parts.0 in
@@ -138,16 +138,16 @@ all_if P true xs ys h k = h
 all_if P false xs ys h k = k
 
 placed_named : (lens : List ℕ) (cells : List Cell) (c : Cell) → AllByRecursion (IsInShape lens) cells → IsInShape lens c
-    → AllByRecursion (IsInShape lens) (placed cells c)
+    → AllByRecursion (IsInShape lens) (cell_placed cells c)
 placed_named lens [] c h k = (k, tt)
 placed_named lens (d ∷ ds) c h k =
-    all_if (IsInShape lens) (is_before c d) (c ∷ d ∷ ds) (cond (same_cell c d) (d ∷ ds) (d ∷ placed ds c)) (k, h)
-    (all_if (IsInShape lens) (same_cell c d) (d ∷ ds) (d ∷ placed ds c) h (h.0, placed_named lens ds c h.1 k))
+    all_if (IsInShape lens) (is_before c d) (c ∷ d ∷ ds) (cond (same_cell c d) (d ∷ ds) (d ∷ cell_placed ds c)) (k, h)
+    (all_if (IsInShape lens) (same_cell c d) (d ∷ ds) (d ∷ cell_placed ds c) h (h.0, placed_named lens ds c h.1 k))
 
 all_placed_named : (lens : List ℕ) (cells more : List Cell) → AllByRecursion (IsInShape lens) cells → AllByRecursion (IsInShape lens) more
-    → AllByRecursion (IsInShape lens) (fold placed cells more)
+    → AllByRecursion (IsInShape lens) (fold cell_placed cells more)
 all_placed_named lens cells [] h k = h
-all_placed_named lens cells (c ∷ cs) h k = all_placed_named lens (placed cells c) cs (placed_named lens cells c h k.0) k.1
+all_placed_named lens cells (c ∷ cs) h k = all_placed_named lens (cell_placed cells c) cs (placed_named lens cells c h k.0) k.1
 
 uses_of_named : (lens : List ℕ) (clauses : List Clause) (cells : List Cell) → AllByRecursion (IsInShape lens) cells
     → AllByRecursion (λ (u : Use). IsInShape lens u.cell) (map (λ c. record { cell = c; mode = mode_among clauses c }) cells)
@@ -175,7 +175,7 @@ value_named shape short variables (array (item t (item a (item b no_items)))) cl
         (unless (is_some (op_of t)) Form ++ (value_faults shape variables a ++ value_faults shape variables b))) ≡ []
         → (value_faults shape variables a ≡ [] → ValueNamedIn (array_lengths shape) (value shape variables a))
         → (value_faults shape variables b ≡ [] → ValueNamedIn (array_lengths shape) (value shape variables b))
-        → ValueNamedIn (array_lengths shape) (cond c (CellAt (indexed shape variables a b)) (cond p (PickFrom (section shape variables a) (value shape variables b))
+        → ValueNamedIn (array_lengths shape) (cond c (CellAt (cell_indexed shape variables a b)) (cond p (PickFrom (section shape variables a) (value shape variables b))
         (Apply (unwrap_or (op_of t) Plus) (value shape variables a) (value shape variables b))))
     by true p clean one two = indexed_named shape variables a b clean
     by false true clean one two =
@@ -233,11 +233,11 @@ NamedIn-append lens (x ∷ xs) ys h k = (h.0, NamedIn-append lens xs ys h.1 k)
 
 -- the cells of a group
 grouped_named : (shape : Arrays) → AreShort shape.arrays → (level : ℕ) (variables : Bindings) (a b : Data)
-    → (list_faults (section_faults shape variables) a ++ no_list b) ++ nested level ≡ []
+    → (list_faults (section_faults shape variables) a ++ no_list b) ++ faults_nested level ≡ []
     → AreInShape (array_lengths shape) (flat_map cells_of (map (section shape variables) (items a)))
 grouped_named shape short level variables a b clean =
     let lens = array_lengths shape in
-    let parts = append-none (list_faults (section_faults shape variables) a ++ no_list b) (nested level) clean in
+    let parts = append-none (list_faults (section_faults shape variables) a ++ no_list b) (faults_nested level) clean in
     let list = append-none (list_faults (section_faults shape variables) a) (no_list b) parts.0 in
     let sections = map (section shape variables) (items a) in
     All-from_recursion (IsInShape lens) (flat_map cells_of sections)
@@ -257,7 +257,7 @@ statement_named shape short level variables (FoldText op a b) ss ts clean h k =
     let both = append-none (cell_faults shape variables a) (expression_faults shape variables b) parts.1 in
     ((cell_named shape variables a both.0, expression_named shape short variables b both.1), tt)
 statement_named shape short level variables (IfText a b c) ss ts clean h k =
-    let parts = append-none (expression_faults shape variables a ++ (no_list b ++ no_list c)) (nested level) clean in
+    let parts = append-none (expression_faults shape variables a ++ (no_list b ++ no_list c)) (faults_nested level) clean in
     let value = append-none (expression_faults shape variables a) (no_list b ++ no_list c) parts.0 in
     ((expression_named shape short variables a value.0, h, k), tt)
 statement_named shape short level variables (ForText a b c d) ss ts clean h k = h
@@ -273,7 +273,7 @@ statement_named shape short level variables (WaitForText a) ss ts clean h k =
 statement_named shape short level variables (GroupText a b) ss ts clean h k =
     ((grouped_named shape short level variables a b clean, h), tt)
 statement_named shape short level variables (GroupByText op a b) ss ts clean h k =
-    let parts = append-none (fold_faults op) ((list_faults (section_faults shape variables) a ++ no_list b) ++ nested level) clean in
+    let parts = append-none (fold_faults op) ((list_faults (section_faults shape variables) a ++ no_list b) ++ faults_nested level) clean in
     ((grouped_named shape short level variables a b parts.1, h), tt)
 statement_named shape short level variables (ProgramText a b) ss ts clean h k = h
 statement_named shape short level variables NoForm ss ts clean h k = tt

@@ -18,7 +18,7 @@ use Rattle.ot_program.specs.declared.fault.Refusal.TheVariants.{Form, Size, Unkn
 use Rattle.ot_program.specs.declared.profile.Profile.{Profile}
 use Rattle.ot_program.specs.declared.profile.Profile.TheVariants.{One, Two}
 use Rattle.ot_program.specs.Limits.{max_depth, size_depth, depth_of}
-use Rattle.ot_program.specs.Meanings.{each, items, Bindings, bound, sign_of, op_of, mode_of, red_by, in_range, exact, size, is_called, position_of, indexed, cell, section, value, clause, whole_number, is_name, is_word}
+use Rattle.ot_program.specs.Meanings.{each, items, Bindings, number_bound, sign_of, op_of, mode_of, red_by, in_range, exact, size, is_called, position_of, cell_indexed, cell, section, value, clause, whole_number, is_name, is_word}
 use Rattle.ot_program.specs.Faults.{unless, list_faults, deep, variable_faults, size_faults, array_faults, indexed_faults, cell_faults, section_faults, value_faults, expression_faults, clause_faults}
 use Rattle.ot_program.specs.walk.Reading.{◌>>=◌, both_of}
 use Rattle.ot_program.specs.walk.Sizes.{known_number, variable_of, number_size, size_operation, size_of, shallow}
@@ -33,10 +33,10 @@ known_number-reads : (o : Option ℕ) → Reads 1 (known_number o) (unwrap_or o 
 known_number-reads None = record { is = refl; up_to = omega arith }
 known_number-reads (Some n) = reads_right 1 n
 
-pub variable_reads : (variables : Bindings) (s : List ℕ) → Reads 1 (variable_of variables s) (unwrap_or (bound variables s) 0) (variable_faults variables s)
+pub variable_reads : (variables : Bindings) (s : List ℕ) → Reads 1 (variable_of variables s) (unwrap_or (number_bound variables s) 0) (variable_faults variables s)
 variable_reads variables s =
-    reads_word 1 (is_name s) (known_number (bound variables s)) (unwrap_or (bound variables s) 0) (unless (is_some (bound variables s)) Size)
-    (known_number-reads (bound variables s))
+    reads_word 1 (is_name s) (known_number (number_bound variables s)) (unwrap_or (number_bound variables s) 0) (unless (is_some (number_bound variables s)) Size)
+    (known_number-reads (number_bound variables s))
 
 -- ---- sizes
 
@@ -167,25 +167,25 @@ reads_kept {A} last more r test x y fs hs below h later then =
     (reads_made more test (λ u. x) y hs then)
 
 cell_at-reads : (shape : Arrays) (variables : Bindings) (name index : Data)
-    → Reads 5 (cell_at shape variables name index) (indexed shape variables name index) (indexed_faults shape variables name index)
+    → Reads 5 (cell_at shape variables name index) (cell_indexed shape variables name index) (indexed_faults shape variables name index)
 cell_at-reads shape variables name index =
     let r = array_of shape name in
     let s = size_of variables index in
     let known = known_array shape name in
     let i = size variables index in
     let test = nat_lt i known.len in
-    reads_then {A = KnownArray × ℕ} 2 5 (both_of r s) (λ p. cell_in p.0 p.1 >>= λ cell. shallow index >>= λ fits. Ok cell) (known, i) (indexed shape variables name index)
+    reads_then {A = KnownArray × ℕ} 2 5 (both_of r s) (λ p. cell_in p.0 p.1 >>= λ cell. shallow index >>= λ fits. Ok cell) (known, i) (cell_indexed shape variables name index)
     (array_faults shape name ++ size_faults variables index) (unless test OutOfRange ++ deep (size_depth index)) (omega arith)
     (reads_both 2 r s known i (array_faults shape name) (size_faults variables index) (array_reads shape name) (size_reads variables index))
     (append-from 2 (unless test OutOfRange) (deep (size_depth index)) (unless-from 2 test OutOfRange (omega arith)) (deep-from 2 (size_depth index) (omega arith)))
-    (reads_kept 3 5 (cell_in known i) (shallow index) (indexed shape variables name index) tt (unless test OutOfRange) (deep (size_depth index)) (omega arith)
-    (reads_test 3 test (indexed shape variables name index) OutOfRange (omega arith))
+    (reads_kept 3 5 (cell_in known i) (shallow index) (cell_indexed shape variables name index) tt (unless test OutOfRange) (deep (size_depth index)) (omega arith)
+    (reads_test 3 test (cell_indexed shape variables name index) OutOfRange (omega arith))
     (deep-from 3 (size_depth index) (omega arith)) (shallow_reads index))
 
 pub cell_reads : (shape : Arrays) (variables : Bindings) (d : Data)
     → Reads 5 (cell_of shape variables d) (cell shape variables d) (cell_faults shape variables d)
 cell_reads shape variables (array (item t (item a (item b no_items)))) =
-    reads_word 5 (is_word t (codes "c")) (cell_at shape variables a b) (indexed shape variables a b) (indexed_faults shape variables a b)
+    reads_word 5 (is_word t (codes "c")) (cell_at shape variables a b) (cell_indexed shape variables a b) (indexed_faults shape variables a b)
     (cell_at-reads shape variables a b)
 cell_reads shape variables _ = reads_no_form 5 _
 
@@ -250,8 +250,8 @@ pub value_reads : (shape : Arrays) (variables : Bindings) (d : Data)
 unfolding value_of value value_faults
 value_reads shape variables (number n) = literal_reads (whole_number n)
 value_reads shape variables (string s) =
-    reads_made 5 (variable_of variables s) (λ n. Literal n) (unwrap_or (bound variables s) 0) (variable_faults variables s)
-    (reads_later 1 5 (variable_of variables s) (unwrap_or (bound variables s) 0) (variable_faults variables s) (omega arith) (variable_reads variables s))
+    reads_made 5 (variable_of variables s) (λ n. Literal n) (unwrap_or (number_bound variables s) 0) (variable_faults variables s)
+    (reads_later 1 5 (variable_of variables s) (unwrap_or (number_bound variables s) 0) (variable_faults variables s) (omega arith) (variable_reads variables s))
 value_reads shape variables (array (item t (item a (item b no_items)))) =
     let one = value_of shape variables a in
     let two = value_of shape variables b in
@@ -262,11 +262,11 @@ value_reads shape variables (array (item t (item a (item b no_items)))) =
     let o = op_of t in
     reads_if 5 (is_word t (codes "c")) (cell_value (cell_at shape variables a b))
     (cond (is_word t (codes "pick")) (pick_of (section_of shape variables a) two) (operation o one two))
-    (CellAt (indexed shape variables a b))
+    (CellAt (cell_indexed shape variables a b))
     (cond (is_word t (codes "pick")) (PickFrom (section shape variables a) y) (Apply (unwrap_or o op.Plus) x y))
     (indexed_faults shape variables a b)
     (cond (is_word t (codes "pick")) (section_faults shape variables a ++ gs) (unless (is_some o) Form ++ (fs ++ gs)))
-    (reads_made 5 (cell_at shape variables a b) (λ c. CellAt c) (indexed shape variables a b) (indexed_faults shape variables a b)
+    (reads_made 5 (cell_at shape variables a b) (λ c. CellAt c) (cell_indexed shape variables a b) (indexed_faults shape variables a b)
     (cell_at-reads shape variables a b))
     (reads_if 5 (is_word t (codes "pick")) (pick_of (section_of shape variables a) two) (operation o one two)
     (PickFrom (section shape variables a) y) (Apply (unwrap_or o op.Plus) x y)

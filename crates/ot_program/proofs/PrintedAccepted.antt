@@ -16,11 +16,11 @@ use Rattle.ot_program.specs.declared.profile.Profile.{Profile}
 use Rattle.ot_program.specs.declared.profile.Profile.TheVariants.{One, Two}
 use Rattle.ot_program.specs.Accepted.{sum_one, sum_in, named_one, named_in, deepest_one, deepest, nesting_one, nesting, IsSmall}
 use Rattle.ot_program.specs.Copies.{Placed, copies, copy, in_copy, in_order, statements_of}
-use Rattle.ot_program.specs.Faults.{nested}
+use Rattle.ot_program.specs.Faults.{faults_nested}
 use Rattle.ot_program.specs.Limits.{max_nesting, max_depth, cells_in, Tally, tally, plus, total}
 use Rattle.ot_program.specs.Meanings.{each, Bindings, section}
 use Rattle.ot_program.specs.Printed.{sections_text, alone, as_clause, statement_text, body_text, program_text, IsFound, AreNamed, AreShows, IsStatement, IsBody}
-use Rattle.ot_program.specs.Programs.{told, program_copy, program_of}
+use Rattle.ot_program.specs.Programs.{fault_told, program_copy, program_of}
 use Rattle.ot_program.proofs.CellCounts.{sections_long}
 use Rattle.ot_program.proofs.PrintedBack.{section_back, value_back, sections_back, uses_back, wait_uses_back, body_back}
 use Rattle.ot_program.proofs.PrintedClean.{cell_clean, expression_clean, fold_clean, uses_clean, wait_uses_clean, cells_clean, shows_clean, mixed_clean}
@@ -33,7 +33,7 @@ clean-join : (shape : Arrays) (ps qs : List Placed) → AreClean shape ps → Ar
 clean-join shape [] qs h k = k
 clean-join shape (p ∷ ps) qs h k = (h.0, clean-join shape ps qs h.1 k)
 
-nested_clean : (level : ℕ) → level < max_nesting → nested level ≡ []
+nested_clean : (level : ℕ) → level < max_nesting → faults_nested level ≡ []
 nested_clean level low = rw (lt-ltb level max_nesting low) refl
 
 nesting_some : (b : Body) → 1 ≤ nesting b
@@ -218,11 +218,11 @@ printed_is_accepted shape profile shows b named there body inside small =
     ) in
     let sum : sum_from shape nothing (in_copy p) ≡ n =
     sum_is shape nothing (in_copy p) ∙ rw (shows_back shape named shows shown, append-nil (in_order cs), nothing-plus n) refl in
-    let none : told shape [] (in_copy p) ≡ None =
+    let none : fault_told shape [] (in_copy p) ≡ None =
     told-from shape [] (in_copy p) ∙ none_told shape nothing (in_copy p) clean (rw (← sum) at within) in
     by profile none (shows_back shape named shows shown) back
   where
-    by : (q : Profile) → told shape [] (in_copy (program_copy q (array (sections_text shape shows)) (array (body_text shape q b)))) ≡ None
+    by : (q : Profile) → fault_told shape [] (in_copy (program_copy q (array (sections_text shape shows)) (array (body_text shape q b)))) ≡ None
         → map (section shape []) (each (sections_text shape shows)) ≡ shows
         → body_of (statements_of shape (copies q 1 (array (body_text shape q b)) [])) ≡ b
         → program_of shape (program_text shape q shows b) ≡ Ok (record { shows = shows; body = b; statements = size b; tasks = tasks_in b })

@@ -23,7 +23,7 @@ use Rattle.ot_model.proofs.EqualLemmas.{cell-decides, mode-decides}
 use Rattle.ot_program.specs.declared.profile.Profile.{Profile}
 use Rattle.ot_program.specs.declared.profile.Profile.TheVariants.{One, Two}
 use Rattle.ot_program.specs.Meanings.{named_cells, names, mode_among, named_otherwise, is_mixed, uses, each, Bindings, is_called, length_of, Clause, is_name}
-use Rattle.ot_program.specs.Faults.{array_faults, size_faults, section_faults, cell_faults, value_faults, expression_faults, clause_faults, wait_clause_faults, fold_faults, mixed}
+use Rattle.ot_program.specs.Faults.{array_faults, size_faults, section_faults, cell_faults, value_faults, expression_faults, clause_faults, wait_clause_faults, fold_faults, faults_mixed}
 use Rattle.ot_program.specs.Limits.{max_depth, size_depth, depth_of}
 use Rattle.ot_program.specs.Printed.{IsFound, AreNamed, num, name_at, cell_text, section_text, value_text, alone, cells_text, sections_text, clause_text, uses_text, as_clause, IsCell, IsValue, AreCells, IsModeOf, AreUsesOf, IsWaitMode, AreWaitUses}
 use Rattle.ot_program.proofs.PrintedBack.{size_back, value_back, fold_back}
@@ -264,5 +264,5 @@ none_mixed : (us : List Use) → uses (map as_clause us) ≡ us → (cs : List C
 none_mixed us is [] = refl
 none_mixed us is (c ∷ cs) = rw (not_mixed us is c) (none_mixed us is cs)
 
-pub mixed_clean : (us : List Use) → uses (map as_clause us) ≡ us → mixed (map as_clause us) ≡ []
+pub mixed_clean : (us : List Use) → uses (map as_clause us) ≡ us → faults_mixed (map as_clause us) ≡ []
 mixed_clean us is = rw (none_mixed us is (named_cells (map as_clause us))) refl

@@ -6,7 +6,7 @@ use Rattle.ot_model.specs.Programs.{Arrays}
 use Rattle.ot_model.specs.Tree.{E, S, If, body_of}
 use Rattle.ot_program.specs.Accepted.{deepest, nesting}
 use Rattle.ot_program.specs.Copies.{SetText, AddText, FoldText, IfText, ForText, Turn, TaskText, WaitText, WaitForText, GroupText, GroupByText, NoForm, Copy, Copies, Done, at, turns, copies, copies_of, copy, in_copy, in_order, statement_of, statements_of}
-use Rattle.ot_program.specs.Faults.{no_list, list_faults, deep, name_faults, size_faults, cell_faults, section_faults, value_faults, expression_faults, clause_faults, fold_faults, mixed, nested}
+use Rattle.ot_program.specs.Faults.{no_list, list_faults, deep, name_faults, size_faults, cell_faults, section_faults, value_faults, expression_faults, clause_faults, fold_faults, faults_mixed, faults_nested}
 use Rattle.ot_program.specs.Limits.{max_nesting, max_depth, size_depth, depth_of}
 use Rattle.ot_program.specs.Meanings.{items, letters, Bindings, size as size_text, value, clause, is_word, is_one, is_two}
 use Rattle.ot_program.specs.declared.fault.Refusal.TheVariants.{TooLarge}
@@ -53,7 +53,7 @@ expression_shallow shape variables d clean =
     let depth = depth_of (value shape variables d) in
     leb-true depth max_depth (unless-none (nat_le depth max_depth) TooLarge (append-none (value_faults shape variables d) (deep depth) clean).1)
 
-nested_low : (level : ℕ) → nested level ≡ [] → level < max_nesting
+nested_low : (level : ℕ) → faults_nested level ≡ [] → level < max_nesting
 nested_low level clean = ltb-true level max_nesting (unless-none (nat_lt level max_nesting) TooLarge clean)
 
 -- ---- copies
@@ -127,12 +127,12 @@ mutual
       (shallow_test shape level (is_word t (codes "add")) add tasks (λ clean. shallow_plain level (depth_of e) _ low (value_of clean.0) refl refl)
       (shallow_test shape level (is_word t (codes "task")) task groups
       (λ clean.
-      let own = append-none (list_faults (clause_faults shape profile variables) a ++ no_list b) (nested level ++ mixed (map (clause shape profile variables) (items a))) clean.0 in
-      let lower = nested_low level (append-none (nested level) (mixed (map (clause shape profile variables) (items a))) own.1).0 in
+      let own = append-none (list_faults (clause_faults shape profile variables) a ++ no_list b) (faults_nested level ++ faults_mixed (map (clause shape profile variables) (items a))) clean.0 in
+      let lower = nested_low level (append-none (faults_nested level) (faults_mixed (map (clause shape profile variables) (items a))) own.1).0 in
       shallow_body level (statements_of shape cs) _ refl refl (shallow_copies shape profile (level + 1) b variables (omega (arith, lower)) (inside_clean shape cs clean.1)))
       (shallow_test shape level is_group group none
       (λ clean.
-      let lower = nested_low level (append-none (list_faults (section_faults shape variables) a ++ no_list b) (nested level) clean.0).1 in
+      let lower = nested_low level (append-none (list_faults (section_faults shape variables) a ++ no_list b) (faults_nested level) clean.0).1 in
       shallow_body level (statements_of shape cs) _ refl refl (shallow_copies shape profile (level + 1) b variables (omega (arith, lower)) (inside_clean shape cs clean.1)))
       (λ clean. shallow_none level low))))
   shallow_one shape profile level (array (item t (item a (item b (item c no_items))))) variables low =
@@ -151,12 +151,12 @@ mutual
       shallow_plain level (depth_of (value shape variables c)) _ low (expression_shallow shape variables c both.1) refl refl)
       (shallow_test shape level is_group group ifs
       (λ clean.
-      let parts = append-none (fold_faults a) ((list_faults (section_faults shape variables) b ++ no_list c) ++ nested level) clean.0 in
-      let lower = nested_low level (append-none (list_faults (section_faults shape variables) b ++ no_list c) (nested level) parts.1).1 in
+      let parts = append-none (fold_faults a) ((list_faults (section_faults shape variables) b ++ no_list c) ++ faults_nested level) clean.0 in
+      let lower = nested_low level (append-none (list_faults (section_faults shape variables) b ++ no_list c) (faults_nested level) parts.1).1 in
       shallow_body level (statements_of shape two) _ refl refl (shallow_copies shape profile (level + 1) c variables (omega (arith, lower)) (inside_clean shape two clean.1)))
       (shallow_test shape level (is_word t (codes "if")) (at level variables (IfText a b c) one two) none
       (λ clean.
-      let parts = append-none (expression_faults shape variables a ++ (no_list b ++ no_list c)) (nested level) clean.0 in
+      let parts = append-none (expression_faults shape variables a ++ (no_list b ++ no_list c)) (faults_nested level) clean.0 in
       let lower = nested_low level parts.1 in
       let own = append-none (expression_faults shape variables a) (no_list b ++ no_list c) parts.0 in
       let inside = clean-append shape (in_order one) (in_order two) clean.1 in
@@ -172,8 +172,8 @@ mutual
       shallow_test shape level (is_word t (codes "for")) (at level variables (ForText a b c d) one Done) (at level variables NoForm Done Done)
       (λ clean.
       let parts = append-none (name_faults a ++ ((size_faults variables b ++ size_faults variables c) ++ no_list d))
-      (nested level ++ (deep (size_depth b) ++ deep (size_depth c))) clean.0 in
-      let lower = nested_low level (append-none (nested level) (deep (size_depth b) ++ deep (size_depth c)) parts.1).0 in
+      (faults_nested level ++ (deep (size_depth b) ++ deep (size_depth c))) clean.0 in
+      let lower = nested_low level (append-none (faults_nested level) (deep (size_depth b) ++ deep (size_depth c)) parts.1).0 in
       shallow_turns shape level variables body low (λ k. shallow_copies shape profile (level + 1) d ((letters a, k) ∷ variables) (omega (arith, lower)))
       first many (inside_clean shape one clean.1))
       (λ clean. shallow_none level low)

@@ -14,11 +14,11 @@ use Rattle.ot_program.specs.declared.fault.Refusal.{Refusal}
 use Rattle.ot_program.specs.declared.fault.Refusal.TheVariants.{Form, Size, UnknownArray, OutOfRange, EmptySection, TooLarge, TooManyTasks, MixedReduction}
 use Rattle.ot_program.specs.declared.profile.Profile.{Profile}
 use Rattle.ot_program.specs.Meanings.{uses, items, letters, Bindings, size, Clause, cell, section, value, clause, wait_clause, is_name}
-use Rattle.ot_program.specs.Faults.{unless, no_list, list_faults, deep, name_faults, size_faults, cell_faults, section_faults, expression_faults, clause_faults, wait_clause_faults, mixed, nested, past_limits, rank, least}
+use Rattle.ot_program.specs.Faults.{unless, no_list, list_faults, deep, name_faults, size_faults, cell_faults, section_faults, expression_faults, clause_faults, wait_clause_faults, faults_mixed, faults_nested, past_limits, rank, least}
 use Rattle.ot_program.specs.Limits.{max_nesting, max_statements, max_turns, max_nodes, max_cells, size_depth, nodes_of, picked_of, cells_in, Tally, tally, plus}
 use Rattle.ot_program.specs.walk.Reading.{◌>>=◌, both_of}
 use Rattle.ot_program.specs.walk.Sizes.{size_of, shallow}
-use Rattle.ot_program.specs.walk.Counting.{counted, within_limits, with_expression, one_turn, one_task, deeper}
+use Rattle.ot_program.specs.walk.Counting.{more_counts, within_limits, with_expression, one_turn, one_task, deeper}
 use Rattle.ot_program.specs.walk.Parts.{cell_of, sections_of, expression_of, clauses_of, wait_clauses_of, declaration}
 use Rattle.ot_program.specs.walk.Statements.{Range, list_of, name_of, target_of, condition_of, declared_of, waited_of, grouped_of, range_of}
 use Rattle.ot_program.proofs.Coded.{code_clause, code_counts}
@@ -115,13 +115,13 @@ limits_read_then false false false false x y k is = record { is = refl; up_to = 
 -- one statement more that counts no task
 pub within_reads : (limit : ℕ) (n : Tally) (nodes cells : ℕ) → AreWithin limit n
     → let m = plus n (tally 1 0 0 nodes cells) in
-    Reads 5 (within_limits (counted (code_counts n) 1 nodes cells)) (code_counts m) (past_limits limit m)
+    Reads 5 (within_limits (more_counts (code_counts n) 1 nodes cells)) (code_counts m) (past_limits limit m)
 within_reads limit n nodes cells w =
     let turns : nat_le n.turns max_turns ≡ true = le-leb n.turns max_turns w.turns in
     let tasks : nat_le n.tasks limit ≡ true = le-leb n.tasks limit w.tasks in
     rw (add-zero n.turns, add-zero n.tasks, turns, tasks)
     (limits_read (nat_le (n.statements + 1) max_statements) (nat_le (n.nodes + nodes) max_nodes) (nat_le (n.cells + cells) max_cells)
-    (counted (code_counts n) 1 nodes cells))
+    (more_counts (code_counts n) 1 nodes cells))
 
 value_counted : (limit : ℕ) (n : Tally) (e : E) → AreWithin limit n
     → let m = plus n (tally 1 0 0 (nodes_of e) (picked_of e)) in
@@ -130,10 +130,10 @@ value_counted limit n e w = within_reads limit n (nodes_of e) (picked_of e) w
 
 pub task_reads : (limit : ℕ) (n : Tally) (cells : ℕ) → AreWithin limit n
     → let m = plus n (tally 1 1 0 0 cells) in
-    Reads 6 (within_limits (counted (code_counts n) 1 0 cells) >>= one_task limit) (code_counts m) (past_limits limit m)
+    Reads 6 (within_limits (more_counts (code_counts n) 1 0 cells) >>= one_task limit) (code_counts m) (past_limits limit m)
 task_reads limit n cells w =
     let turns : nat_le n.turns max_turns ≡ true = le-leb n.turns max_turns w.turns in
-    let m = counted (code_counts n) 1 0 cells in
+    let m = more_counts (code_counts n) 1 0 cells in
     let y : Counts = record m { tasks = m.tasks + 1 } in
     rw (add-zero n.turns, turns)
     (limits_read_then (nat_le (n.statements + 1) max_statements) (nat_le (n.nodes + 0) max_nodes) (nat_le (n.cells + cells) max_cells)
@@ -170,10 +170,10 @@ pub list_reads : (d : Data) → Reads 5 (list_of d) tt (no_list d)
 list_reads (array ds) = reads_right 5 tt
 list_reads _ = reads_no_form 5 tt
 
-deeper_reads : (level : ℕ) → Reads 5 (deeper level) tt (nested level)
+deeper_reads : (level : ℕ) → Reads 5 (deeper level) tt (faults_nested level)
 deeper_reads level = reads_test 5 (nat_lt level max_nesting) tt TooLarge (omega arith)
 
-nested-from : (level : ℕ) → AreFrom 5 (nested level)
+nested-from : (level : ℕ) → AreFrom 5 (faults_nested level)
 nested-from level = unless-from 5 (nat_lt level max_nesting) TooLarge (omega arith)
 
 -- of `set` and of a fold
@@ -197,22 +197,22 @@ target_reads shape variables a b n w =
 -- behind the parts that were read, the nesting, and then the counts
 behind_parts : {A B : Type 0} (r : Result A Refusal) (x : A) (fs : List Refusal) (level last : ℕ) (k : A → Result B Refusal) (y : B) (gs : List Refusal)
     → 5 ≤ last → Reads 5 r x fs → AreFrom 5 gs → Reads last (k x) y gs
-    → Reads last (r >>= λ p. deeper level >>= λ fits. k p) y (fs ++ (nested level ++ gs))
+    → Reads last (r >>= λ p. deeper level >>= λ fits. k p) y (fs ++ (faults_nested level ++ gs))
 behind_parts {A} {B} r x fs level last k y gs below parts later then =
-    reads_then {A = A} {B = B} 5 last r (λ p. deeper level >>= λ fits. k p) x y fs (nested level ++ gs) below parts
-    (append-from 5 (nested level) gs (nested-from level) later)
-    (reads_then {B = B} 5 last (deeper level) (λ fits. k x) tt y (nested level) gs below (deeper_reads level) later then)
+    reads_then {A = A} {B = B} 5 last r (λ p. deeper level >>= λ fits. k p) x y fs (faults_nested level ++ gs) below parts
+    (append-from 5 (faults_nested level) gs (nested-from level) later)
+    (reads_then {B = B} 5 last (deeper level) (λ fits. k x) tt y (faults_nested level) gs below (deeper_reads level) later then)
 
 -- of `if`
 pub condition_reads : (shape : Arrays) (variables : Bindings) (level : ℕ) (a b c : Data) (n : Tally) → AreWithin shape.tasks n
     → let m = plus n (tally 1 0 0 (nodes_of (value shape variables a)) (picked_of (value shape variables a))) in
     Reads 5 (condition_of shape variables level a b c (code_counts n)) (value shape variables a, code_counts m)
-    (((expression_faults shape variables a ++ (no_list b ++ no_list c)) ++ nested level) ++ past_limits shape.tasks m)
+    (((expression_faults shape variables a ++ (no_list b ++ no_list c)) ++ faults_nested level) ++ past_limits shape.tasks m)
 condition_reads shape variables level a b c n w =
     let e = value shape variables a in
     let m = plus n (tally 1 0 0 (nodes_of e) (picked_of e)) in
     let fs = expression_faults shape variables a ++ (no_list b ++ no_list c) in
-    rw (append_assoc fs (nested level) (past_limits shape.tasks m))
+    rw (append_assoc fs (faults_nested level) (past_limits shape.tasks m))
     (behind_parts {A = E × (⊤ × ⊤)} {B = E × Counts} (both_of (expression_of shape variables a) (both_of (list_of b) (list_of c))) (e, (tt, tt)) fs level 5
     (λ p. with_expression (code_counts n) p.0 >>= λ k. Ok (p.0, k)) (e, code_counts m) (past_limits shape.tasks m) (omega arith)
     (reads_both 5 (expression_of shape variables a) (both_of (list_of b) (list_of c)) e (tt, tt) (expression_faults shape variables a) (no_list b ++ no_list c)
@@ -225,21 +225,21 @@ condition_reads shape variables level a b c n w =
 pub grouped_reads : (shape : Arrays) (variables : Bindings) (level : ℕ) (a b : Data) (n : Tally) → AreWithin shape.tasks n
     → let m = plus n (tally 1 0 0 0 (cells_in (map (section shape variables) (items a)))) in
     Reads 5 (grouped_of shape variables level a b (code_counts n)) (flat_map cells_of (map (section shape variables) (items a)), code_counts m)
-    (((list_faults (section_faults shape variables) a ++ no_list b) ++ nested level) ++ past_limits shape.tasks m)
+    (((list_faults (section_faults shape variables) a ++ no_list b) ++ faults_nested level) ++ past_limits shape.tasks m)
 grouped_reads shape variables level a b n w =
     let ss = map (section shape variables) (items a) in
     let m = plus n (tally 1 0 0 0 (cells_in ss)) in
     let fs = list_faults (section_faults shape variables) a ++ no_list b in
-    rw (append_assoc fs (nested level) (past_limits shape.tasks m))
+    rw (append_assoc fs (faults_nested level) (past_limits shape.tasks m))
     (behind_parts {A = List Section × ⊤} {B = List Cell × Counts} (both_of (sections_of shape variables a) (list_of b)) (ss, tt) fs level 5
-    (λ p. within_limits (counted (code_counts n) 1 0 (cells_in p.0)) >>= λ k. Ok (flat_map cells_of p.0, k)) (flat_map cells_of ss, code_counts m) (past_limits shape.tasks m) (omega arith)
+    (λ p. within_limits (more_counts (code_counts n) 1 0 (cells_in p.0)) >>= λ k. Ok (flat_map cells_of p.0, k)) (flat_map cells_of ss, code_counts m) (past_limits shape.tasks m) (omega arith)
     (reads_both 5 (sections_of shape variables a) (list_of b) ss tt (list_faults (section_faults shape variables) a) (no_list b)
     (sections_reads shape variables a) (list_reads b))
     (past-from shape.tasks m)
-    (reads_made {A = Counts} {B = List Cell × Counts} 5 (within_limits (counted (code_counts n) 1 0 (cells_in ss))) (λ k. (flat_map cells_of ss, k)) (code_counts m) (past_limits shape.tasks m)
+    (reads_made {A = Counts} {B = List Cell × Counts} 5 (within_limits (more_counts (code_counts n) 1 0 (cells_in ss))) (λ k. (flat_map cells_of ss, k)) (code_counts m) (past_limits shape.tasks m)
     (within_reads shape.tasks n 0 (cells_in ss) w)))
 
-mixed-from : (k : ℕ) → k ≤ 7 → (clauses : List Clause) → AreFrom k (mixed clauses)
+mixed-from : (k : ℕ) → k ≤ 7 → (clauses : List Clause) → AreFrom k (faults_mixed clauses)
 mixed-from k below clauses = unless-from k _ MixedReduction (omega arith)
 
 sections_coded : (cs : List Clause) → map (λ c. c.section) (map code_clause cs) ≡ map (λ c. c.section) cs
@@ -256,7 +256,7 @@ pub declared_reads : (shape : Arrays) (profile : Profile) (variables : Bindings)
     → let cs = map (clause shape profile variables) (items a) in
     let m = plus n (tally 1 1 0 0 (cells_in (map (λ c. c.section) cs))) in
     Reads 7 (declared_of shape profile variables level a b (code_counts n)) (uses cs, code_counts m)
-    ((list_faults (clause_faults shape profile variables) a ++ no_list b) ++ (nested level ++ (past_limits shape.tasks m ++ mixed cs)))
+    ((list_faults (clause_faults shape profile variables) a ++ no_list b) ++ (faults_nested level ++ (past_limits shape.tasks m ++ faults_mixed cs)))
 declared_reads shape profile variables level a b n w =
     let cs = map (clause shape profile variables) (items a) in
     let ds = map code_clause cs in
@@ -265,15 +265,15 @@ declared_reads shape profile variables level a b n w =
     let fs = list_faults (clause_faults shape profile variables) a ++ no_list b in
     rw (← sections_coded cs)
     (behind_parts {A = List CodeClause × ⊤} {B = List Use × Counts} (both_of (clauses_of shape profile variables a) (list_of b)) (ds, tt) fs level 7
-    (λ p. within_limits (counted (code_counts n) 1 0 (cells_in (map (λ c. c.section) p.0))) >>= λ k. one_task shape.tasks k >>= λ j. declaration p.0 >>= λ us. Ok (us, j))
-    (uses cs, code_counts m) (past_limits shape.tasks m ++ mixed cs) (omega arith)
+    (λ p. within_limits (more_counts (code_counts n) 1 0 (cells_in (map (λ c. c.section) p.0))) >>= λ k. one_task shape.tasks k >>= λ j. declaration p.0 >>= λ us. Ok (us, j))
+    (uses cs, code_counts m) (past_limits shape.tasks m ++ faults_mixed cs) (omega arith)
     (reads_both 5 (clauses_of shape profile variables a) (list_of b) ds tt (list_faults (clause_faults shape profile variables) a) (no_list b)
     (clauses_reads shape profile variables a) (list_reads b))
-    (append-from 5 (past_limits shape.tasks m) (mixed cs) (past-from shape.tasks m) (mixed-from 5 (omega arith) cs))
-    (rw (← bind-assoc {C = List Use × Counts} (within_limits (counted (code_counts n) 1 0 cells)) (one_task shape.tasks) (λ j. declaration ds >>= λ us. Ok (us, j)))
-    (reads_then {A = Counts} {B = List Use × Counts} 6 7 (within_limits (counted (code_counts n) 1 0 cells) >>= one_task shape.tasks) (λ j. declaration ds >>= λ us. Ok (us, j)) (code_counts m) (uses cs, code_counts m)
-    (past_limits shape.tasks m) (mixed cs) (omega arith) (task_reads shape.tasks n cells w) (mixed-from 6 (omega arith) cs)
-    (reads_made {A = List Use} {B = List Use × Counts} 7 (declaration ds) (λ us. (us, code_counts m)) (uses cs) (mixed cs) (declared_read cs)))))
+    (append-from 5 (past_limits shape.tasks m) (faults_mixed cs) (past-from shape.tasks m) (mixed-from 5 (omega arith) cs))
+    (rw (← bind-assoc {C = List Use × Counts} (within_limits (more_counts (code_counts n) 1 0 cells)) (one_task shape.tasks) (λ j. declaration ds >>= λ us. Ok (us, j)))
+    (reads_then {A = Counts} {B = List Use × Counts} 6 7 (within_limits (more_counts (code_counts n) 1 0 cells) >>= one_task shape.tasks) (λ j. declaration ds >>= λ us. Ok (us, j)) (code_counts m) (uses cs, code_counts m)
+    (past_limits shape.tasks m) (faults_mixed cs) (omega arith) (task_reads shape.tasks n cells w) (mixed-from 6 (omega arith) cs)
+    (reads_made {A = List Use} {B = List Use × Counts} 7 (declaration ds) (λ us. (us, code_counts m)) (uses cs) (faults_mixed cs) (declared_read cs)))))
 
 -- of `wait` with clauses
 pub waited_reads : (shape : Arrays) (variables : Bindings) (a : Data) (n : Tally) → AreWithin shape.tasks n
@@ -285,17 +285,17 @@ waited_reads shape variables a n w =
     let ds = map code_clause cs in
     let cells = cells_in (map (λ c. c.section) ds) in
     let m = plus n (tally 1 0 0 0 cells) in
-    let none : past_limits shape.tasks m ++ mixed cs ≡ past_limits shape.tasks m =
+    let none : past_limits shape.tasks m ++ faults_mixed cs ≡ past_limits shape.tasks m =
     ap (λ ms. past_limits shape.tasks m ++ ms) (unmixed shape variables a) ∙ append-nil (past_limits shape.tasks m) in
     rw (← sections_coded cs, ← none)
     (reads_then {A = List CodeClause} {B = List Use × Counts} 5 7 (wait_clauses_of shape variables a)
-    (λ ds. within_limits (counted (code_counts n) 1 0 (cells_in (map (λ c. c.section) ds))) >>= λ j. declaration ds >>= λ us. Ok (us, j)) ds
-    (uses cs, code_counts m) (list_faults (wait_clause_faults shape variables) a) (past_limits shape.tasks m ++ mixed cs) (omega arith)
+    (λ ds. within_limits (more_counts (code_counts n) 1 0 (cells_in (map (λ c. c.section) ds))) >>= λ j. declaration ds >>= λ us. Ok (us, j)) ds
+    (uses cs, code_counts m) (list_faults (wait_clause_faults shape variables) a) (past_limits shape.tasks m ++ faults_mixed cs) (omega arith)
     (wait_clauses_reads shape variables a)
-    (append-from 5 (past_limits shape.tasks m) (mixed cs) (past-from shape.tasks m) (mixed-from 5 (omega arith) cs))
-    (reads_then {A = Counts} {B = List Use × Counts} 5 7 (within_limits (counted (code_counts n) 1 0 cells)) (λ j. declaration ds >>= λ us. Ok (us, j)) (code_counts m) (uses cs, code_counts m)
-    (past_limits shape.tasks m) (mixed cs) (omega arith) (within_reads shape.tasks n 0 cells w) (mixed-from 5 (omega arith) cs)
-    (reads_made {A = List Use} {B = List Use × Counts} 7 (declaration ds) (λ us. (us, code_counts m)) (uses cs) (mixed cs) (declared_read cs))))
+    (append-from 5 (past_limits shape.tasks m) (faults_mixed cs) (past-from shape.tasks m) (mixed-from 5 (omega arith) cs))
+    (reads_then {A = Counts} {B = List Use × Counts} 5 7 (within_limits (more_counts (code_counts n) 1 0 cells)) (λ j. declaration ds >>= λ us. Ok (us, j)) (code_counts m) (uses cs, code_counts m)
+    (past_limits shape.tasks m) (faults_mixed cs) (omega arith) (within_reads shape.tasks n 0 cells w) (mixed-from 5 (omega arith) cs)
+    (reads_made {A = List Use} {B = List Use × Counts} 7 (declaration ds) (λ us. (us, code_counts m)) (uses cs) (faults_mixed cs) (declared_read cs))))
 
 -- of `for`
 name_reads : (d : Data) → Reads 5 (name_of d) (letters d) (name_faults d)
@@ -307,7 +307,7 @@ range variables a b c = record { variable = letters a; first = size variables b;
 
 pub range_reads : (variables : Bindings) (level : ℕ) (a b c d : Data)
     → Reads 5 (range_of variables level a b c d) (range variables a b c)
-    ((name_faults a ++ ((size_faults variables b ++ size_faults variables c) ++ no_list d)) ++ (nested level ++ (deep (size_depth b) ++ deep (size_depth c))))
+    ((name_faults a ++ ((size_faults variables b ++ size_faults variables c) ++ no_list d)) ++ (faults_nested level ++ (deep (size_depth b) ++ deep (size_depth c))))
 range_reads variables level a b c d =
     let s = size_of variables b in
     let t = size_of variables c in

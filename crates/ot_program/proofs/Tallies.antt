@@ -8,7 +8,7 @@ use Rattle.ot_program.specs.declared.fault.Refusal.TheVariants.{TooLarge, TooMan
 use Rattle.ot_program.specs.Copies.{Placed}
 use Rattle.ot_program.specs.Faults.{unless, own_faults, past_limits}
 use Rattle.ot_program.specs.Limits.{max_statements, max_turns, max_nodes, max_cells, Tally, tally, plus, own_tally, total}
-use Rattle.ot_program.specs.Programs.{told}
+use Rattle.ot_program.specs.Programs.{fault_told}
 use Rattle.ot_program.proofs.Firsts.{earlier, first_of, foremost_is}
 
 -- ---- sums
@@ -68,7 +68,7 @@ abbrev pub told_from : Arrays → Tally → List Placed → Option Refusal
 told_from shape n [] = None
 told_from shape n (p ∷ ps) = option_or (first_of (faults_at shape n p)) (told_from shape (with_one shape n p) ps)
 
-pub told-from : (shape : Arrays) (before ps : List Placed) → told shape before ps ≡ told_from shape (total shape before) ps
+pub told-from : (shape : Arrays) (before ps : List Placed) → fault_told shape before ps ≡ told_from shape (total shape before) ps
 told-from shape before [] = refl
 told-from shape before (p ∷ ps) =
     rw (foremost_is (own_faults shape p ++ past_limits shape.tasks (total shape (before ++ p ∷ []))), told-from shape (before ++ p ∷ []) ps, total-one shape before p) refl

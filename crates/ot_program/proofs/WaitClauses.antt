@@ -10,7 +10,7 @@ use Rattle.ot_model.specs.declared.stmt.Mode.TheVariants.{Reads as AsRead, Write
 use Rattle.ot_program.specs.declared.fault.Refusal.TheVariants.{MixedReduction}
 use Rattle.ot_program.specs.declared.profile.Profile.TheVariants.{Two}
 use Rattle.ot_program.specs.Meanings.{names, named_cells, named_otherwise, is_mixed, each, items, Bindings, mode_of, Clause, section, wait_clause, is_word}
-use Rattle.ot_program.specs.Faults.{unless, list_faults, section_faults, wait_clause_faults, mixed}
+use Rattle.ot_program.specs.Faults.{unless, list_faults, section_faults, wait_clause_faults, faults_mixed}
 use Rattle.ot_program.specs.walk.Parts.{wait_clause_of, wait_clauses_of, section_of}
 use Rattle.ot_program.proofs.Coded.{code_clause}
 use Rattle.ot_program.proofs.Firsts.{Reads, reads_no_form, reads_each}
@@ -56,7 +56,7 @@ none-any : {A : Type 0} (test : A → Bool) → ((x : A) → test x ≡ false) �
 none-any test h [] = refl
 none-any test h (x ∷ xs) = rw (h x, none-any test h xs) refl
 
-pub unmixed : (shape : Arrays) (variables : Bindings) (d : Data) → mixed (map (wait_clause shape variables) (items d)) ≡ []
+pub unmixed : (shape : Arrays) (variables : Bindings) (d : Data) → faults_mixed (map (wait_clause shape variables) (items d)) ≡ []
 unmixed shape variables d =
     let cs = map (wait_clause shape variables) (items d) in
     ap (λ b. unless (not b) MixedReduction) (none-any (is_mixed cs) (λ c. none_mixed shape variables cs c (items d)) (named_cells cs))

@@ -14,12 +14,12 @@ use Rattle.ot_program.specs.declared.fault.Refusal.TheVariants.{Form}
 use Rattle.ot_program.specs.declared.profile.Profile.{Profile}
 use Rattle.ot_program.specs.Copies.{SetText, AddText, FoldText, IfText, ForText, Turn, TaskText, WaitText, WaitForText, GroupText, GroupByText, NoForm, Placed, Copy, Copies, Done, at, turns, copies, copies_of, copy, in_copy, in_order, statement_of, statements_of}
 use Rattle.ot_program.specs.Meanings.{uses, items, letters, fold_of, Bindings, size, cell, section, value, clause, wait_clause, is_word, is_one, is_two}
-use Rattle.ot_program.specs.Faults.{unless, no_list, list_faults, cell_faults, section_faults, expression_faults, clause_faults, mixed, nested, own_faults, past_limits}
+use Rattle.ot_program.specs.Faults.{unless, no_list, list_faults, cell_faults, section_faults, expression_faults, clause_faults, faults_mixed, faults_nested, own_faults, past_limits}
 use Rattle.ot_program.specs.Limits.{cells_in, Tally, tally, plus, with_value}
 use Rattle.ot_program.specs.Programs.{told_or}
 use Rattle.ot_program.specs.walk.Reading.{◌>>=◌}
-use Rattle.ot_program.specs.walk.Counting.{counted, within_limits, one_turn}
-use Rattle.ot_program.specs.walk.Statements.{Read, Reader, Range, refused, one_then, target_of, condition_of, declared_of, waited_of, grouped_of, range_of, by_operation, set_in, fold_in, wait_in, wait_for_in, with_body, group_in, if_in, for_in, turn, body_in, all_in, one_in}
+use Rattle.ot_program.specs.walk.Counting.{more_counts, within_limits, one_turn}
+use Rattle.ot_program.specs.walk.Statements.{Read, Reader, Range, reader_refused, one_then, target_of, condition_of, declared_of, waited_of, grouped_of, range_of, by_operation, set_in, fold_in, wait_in, wait_for_in, with_body, group_in, if_in, for_in, turn, body_in, all_in, one_in}
 use Rattle.ot_program.specs.walk.Statements as walk
 use Rattle.ot_program.proofs.Coded.{code_counts}
 use Rattle.ot_program.proofs.Firsts.{first_of, form-earlier, first-append}
@@ -140,13 +140,13 @@ meets_test : (shape : Arrays) (b : Bool) (f g : Reader) (c d : Copy) → MeetsCo
 meets_test shape true f g c d h k = h
 meets_test shape false f g c d h k = k
 
-meets_no_form : (shape : Arrays) (level : ℕ) (variables : Bindings) → MeetsCopy shape (refused Form) (at level variables NoForm Done Done)
+meets_no_form : (shape : Arrays) (level : ℕ) (variables : Bindings) → MeetsCopy shape (reader_refused Form) (at level variables NoForm Done Done)
 meets_no_form shape level variables n w = rw (form-earlier (first_of (past_limits shape.tasks (plus n nothing)))) refl
 
 meets_wait : (shape : Arrays) (level : ℕ) (variables : Bindings) → MeetsCopy shape wait_in (at level variables WaitText Done Done)
 meets_wait shape level variables n w =
     let p : Placed = record { level = level; variables = variables; text = WaitText } in
-    after_own {B = Counts} shape n p [] (Wait None ∷ []) (within_limits (counted (code_counts n) 1 0 0)) (code_counts (with_one shape n p)) (λ m. Ok (Wait None ∷ [], m))
+    after_own {B = Counts} shape n p [] (Wait None ∷ []) (within_limits (more_counts (code_counts n) 1 0 0)) (code_counts (with_one shape n p)) (λ m. Ok (Wait None ∷ [], m))
     ((within_reads shape.tasks n 0 0 w).is) (λ v. refl)
 
 meets_wait_for : (shape : Arrays) (level : ℕ) (variables : Bindings) (a : Data) → MeetsCopy shape (wait_for_in shape variables a) (at level variables (WaitForText a) Done Done)
@@ -178,7 +178,7 @@ meets_fold shape p a b op own counts n w =
 
 -- the two forms of `group`
 meets_group : (shape : Arrays) (p : Placed) (a b : Data) (inner : Reader) (qs : List Placed) (ss : List S) (op : Operation)
-    → own_faults shape p ≡ (list_faults (section_faults shape p.variables) a ++ no_list b) ++ nested p.level
+    → own_faults shape p ≡ (list_faults (section_faults shape p.variables) a ++ no_list b) ++ faults_nested p.level
     → tally_at shape p ≡ tally 1 0 0 0 (cells_in (map (section shape p.variables) (items a)))
     → Meets shape inner qs ss
     → Meets shape (group_in shape p.variables p.level a b inner op) (p ∷ (qs ++ []))
@@ -225,10 +225,10 @@ mutual
 
   walked_one : (shape : Arrays) (profile : Profile) (level : ℕ) (d : Data) (variables : Bindings) → MeetsCopy shape (one_in shape profile level d variables) (copy profile level d variables)
   walked_one shape profile level (array (item t no_items)) variables n w =
-      meets_test shape (is_word t (codes "wait")) wait_in (refused Form) (at level variables WaitText Done Done) (at level variables NoForm Done Done)
+      meets_test shape (is_word t (codes "wait")) wait_in (reader_refused Form) (at level variables WaitText Done Done) (at level variables NoForm Done Done)
       (meets_wait shape level variables) (meets_no_form shape level variables) n w
   walked_one shape profile level (array (item t (item a no_items))) variables n w =
-      meets_test shape (is_two profile && is_word t (codes "wait")) (wait_for_in shape variables a) (refused Form)
+      meets_test shape (is_two profile && is_word t (codes "wait")) (wait_for_in shape variables a) (reader_refused Form)
       (at level variables (WaitForText a) Done Done) (at level variables NoForm Done Done)
       (meets_wait_for shape level variables a) (meets_no_form shape level variables) n w
   walked_one shape profile level (array (item t (item a (item b no_items)))) variables n w =
@@ -246,7 +246,7 @@ mutual
       let pt : Placed = record { level = level; variables = variables; text = TaskText profile a b } in
       let pg : Placed = record { level = level; variables = variables; text = GroupText a b } in
       let is_group = is_one profile && is_word t (codes "group") in
-      let groups = cond is_group grouping (refused Form) in
+      let groups = cond is_group grouping (reader_refused Form) in
       let group_copy = cond is_group group none in
       let tasks = cond (is_word t (codes "task")) tasking groups in
       let task_copy = cond (is_word t (codes "task")) task group_copy in
@@ -259,9 +259,9 @@ mutual
       (meets_body shape pt (uses clauses) Task (declared_of shape profile variables level a b) inner (in_order cs) (statements_of shape cs)
       (λ m v. (declared_reads shape profile variables level a b m v).is
       ∙ ap (told_or (uses clauses, code_counts (with_one shape m pt)))
-      (first-turned (list_faults (clause_faults shape profile variables) a ++ no_list b) (nested level) (past_limits shape.tasks (with_one shape m pt)) (mixed clauses)))
+      (first-turned (list_faults (clause_faults shape profile variables) a ++ no_list b) (faults_nested level) (past_limits shape.tasks (with_one shape m pt)) (faults_mixed clauses)))
       (walked_body shape profile (level + 1) b variables))
-      (meets_test shape is_group grouping (refused Form) group none
+      (meets_test shape is_group grouping (reader_refused Form) group none
       (meets_group shape pg a b inner (in_order cs) (statements_of shape cs) Plus refl refl (walked_body shape profile (level + 1) b variables))
       (meets_no_form shape level variables)))) n w
   walked_one shape profile level (array (item t (item a (item b (item c no_items))))) variables n w =
@@ -281,17 +281,17 @@ mutual
       let cells = flat_map cells_of (map (section shape variables) (items b)) in
       let is_fold = is_two profile && is_word t (codes "fold") in
       let is_group = is_two profile && is_word t (codes "group") in
-      let ifs = cond (is_word t (codes "if")) (if_in own (body_in shape profile (level + 1) b variables) inner) (refused Form) in
+      let ifs = cond (is_word t (codes "if")) (if_in own (body_in shape profile (level + 1) b variables) inner) (reader_refused Form) in
       let if_copy = cond (is_word t (codes "if")) (at level variables (IfText a b c) one two) none in
       meets_test shape is_fold folding (cond is_group grouping ifs) fold (cond is_group group if_copy)
       (meets_by shape pf [] (fold_of a) (cell_faults shape variables b ++ expression_faults shape variables c) (fold_in shape variables b c)
       (λ op. Fold op (cell shape variables b) (value shape variables c) ∷ []) refl
       (λ op is. meets_fold shape pf b c op is refl))
       (meets_test shape is_group grouping ifs group if_copy
-      (meets_by shape pg (in_order two ++ []) (fold_of a) (sections ++ nested level) (group_in shape variables level b c inner)
+      (meets_by shape pg (in_order two ++ []) (fold_of a) (sections ++ faults_nested level) (group_in shape variables level b c inner)
       (λ op. Group op cells (body_of (statements_of shape two)) ∷ []) refl
       (λ op is. meets_group shape pg b c inner (in_order two) (statements_of shape two) op is refl (walked_body shape profile (level + 1) c variables)))
-      (meets_test shape (is_word t (codes "if")) (if_in own (body_in shape profile (level + 1) b variables) inner) (refused Form)
+      (meets_test shape (is_word t (codes "if")) (if_in own (body_in shape profile (level + 1) b variables) inner) (reader_refused Form)
       (at level variables (IfText a b c) one two) none
       (meets_if shape p (value shape variables a) own (body_in shape profile (level + 1) b variables) inner
       (in_order one) (in_order two) (statements_of shape one) (statements_of shape two)
@@ -299,7 +299,7 @@ mutual
       (walked_body shape profile (level + 1) b variables) (walked_body shape profile (level + 1) c variables))
       (meets_no_form shape level variables))) n w
   walked_one shape profile level (array (item t (item a (item b (item c (item d no_items)))))) variables n w =
-      meets_test shape (is_word t (codes "for")) (for_in variables (range_of variables level a b c d) (body_in shape profile (level + 1) d)) (refused Form)
+      meets_test shape (is_word t (codes "for")) (for_in variables (range_of variables level a b c d) (body_in shape profile (level + 1) d)) (reader_refused Form)
       (at level variables (ForText a b c d)
       (turns level variables (λ k. copies profile (level + 1) d ((letters a, k) ∷ variables)) (size variables b) (size variables c - size variables b)) Done)
       (at level variables NoForm Done Done)

@@ -6,7 +6,7 @@ use Rattle.std.specs.List.{list_any}
 use Rattle.serde_json.specs.Data.{Data, number, string, array, no_items, item}
 use Rattle.ot_model.specs.Programs.{Arrays}
 use Rattle.ot_program.specs.Copies.{Text, SetText, AddText, FoldText, IfText, ForText, Turn, TaskText, WaitText, WaitForText, GroupText, GroupByText, ProgramText, NoForm, Placed}
-use Rattle.ot_program.specs.Meanings.{named_cells, is_mixed, items, Bindings, bound, sign_of, in_range, exact, size, is_called, length_of, op_of, fold_of, value, mode_of, red_by, Clause, clause, whole_number, is_name, is_word}
+use Rattle.ot_program.specs.Meanings.{named_cells, is_mixed, items, Bindings, number_bound, sign_of, in_range, exact, size, is_called, length_of, op_of, fold_of, value, mode_of, red_by, Clause, clause, whole_number, is_name, is_word}
 use Rattle.ot_program.specs.Limits.{max_nesting, max_depth, max_statements, max_turns, max_nodes, max_cells, size_depth, depth_of, Tally}
 use Rattle.ot_program.specs.declared.fault.Refusal.{Refusal}
 use Rattle.ot_program.specs.declared.fault.Refusal.TheVariants.{Form, Size, UnknownArray, OutOfRange, EmptySection, TooLarge, TooManyTasks, MixedReduction}
@@ -40,7 +40,7 @@ name_faults (string s) = unless (is_name s) Form
 name_faults _ = Form ∷ []
 
 abbrev pub variable_faults : Bindings → List ℕ → List Refusal
-variable_faults variables s = unless (is_name s) Form ++ unless (is_some (bound variables s)) Size
+variable_faults variables s = unless (is_name s) Form ++ unless (is_some (number_bound variables s)) Size
 
 module _ (variables : Bindings) where
   -- each part of a size is exact and in its range
@@ -107,12 +107,12 @@ fold_faults op = unless (is_some (fold_of op)) Form
 
 -- ---- statements
 
-abbrev pub mixed : List Clause → List Refusal
-mixed clauses = unless (not (list_any (is_mixed clauses) (named_cells clauses))) MixedReduction
+abbrev pub faults_mixed : List Clause → List Refusal
+faults_mixed clauses = unless (not (list_any (is_mixed clauses) (named_cells clauses))) MixedReduction
 
 -- a body of a statement that stands in so many
-abbrev pub nested : ℕ → List Refusal
-nested level = unless (nat_lt level max_nesting) TooLarge
+abbrev pub faults_nested : ℕ → List Refusal
+faults_nested level = unless (nat_lt level max_nesting) TooLarge
 
 module _ (shape : Arrays) where
   abbrev pub text_faults : ℕ → Bindings → Text → List Refusal
@@ -120,20 +120,20 @@ module _ (shape : Arrays) where
   text_faults level variables (AddText a b) = cell_faults shape variables a ++ expression_faults shape variables b
   text_faults level variables (FoldText op a b) =
       fold_faults op ++ (cell_faults shape variables a ++ expression_faults shape variables b)
-  text_faults level variables (IfText a b c) = (expression_faults shape variables a ++ (no_list b ++ no_list c)) ++ nested level
+  text_faults level variables (IfText a b c) = (expression_faults shape variables a ++ (no_list b ++ no_list c)) ++ faults_nested level
   text_faults level variables (ForText a b c d) =
       (name_faults a ++ ((size_faults variables b ++ size_faults variables c) ++ no_list d))
-      ++ (nested level ++ (deep (size_depth b) ++ deep (size_depth c)))
+      ++ (faults_nested level ++ (deep (size_depth b) ++ deep (size_depth c)))
   text_faults level variables Turn = []
   text_faults level variables (TaskText profile a b) =
       (list_faults (clause_faults shape profile variables) a ++ no_list b)
-      ++ (nested level ++ mixed (map (clause shape profile variables) (items a)))
+      ++ (faults_nested level ++ faults_mixed (map (clause shape profile variables) (items a)))
   text_faults level variables WaitText = []
   text_faults level variables (WaitForText a) = list_faults (wait_clause_faults shape variables) a
-  text_faults level variables (GroupText a b) = (list_faults (section_faults shape variables) a ++ no_list b) ++ nested level
+  text_faults level variables (GroupText a b) = (list_faults (section_faults shape variables) a ++ no_list b) ++ faults_nested level
   text_faults level variables (GroupByText op a b) =
-      fold_faults op ++ ((list_faults (section_faults shape variables) a ++ no_list b) ++ nested level)
-  text_faults level variables (ProgramText a b) = (list_faults (section_faults shape variables) a ++ no_list b) ++ nested level
+      fold_faults op ++ ((list_faults (section_faults shape variables) a ++ no_list b) ++ faults_nested level)
+  text_faults level variables (ProgramText a b) = (list_faults (section_faults shape variables) a ++ no_list b) ++ faults_nested level
   text_faults level variables NoForm = Form ∷ []
 
   abbrev pub own_faults : Placed → List Refusal

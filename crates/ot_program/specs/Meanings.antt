@@ -104,9 +104,9 @@ abbrev pub Bindings : Type 0
 Bindings = List (List ℕ × ℕ)
 
 -- The number of a name. An inner variable hides an outer one of the same name.
-abbrev pub bound : Bindings → List ℕ → Option ℕ
-bound [] name = None
-bound (b ∷ outer) name = if bytes_eq b.0 name then Some b.1 else bound outer name
+abbrev pub number_bound : Bindings → List ℕ → Option ℕ
+number_bound [] name = None
+number_bound (b ∷ outer) name = if bytes_eq b.0 name then Some b.1 else number_bound outer name
 
 -- ---- sizes
 
@@ -125,7 +125,7 @@ module _ (variables : Bindings) where
   -- a number, a variable, or `[op, size, size]`
   unfoldable pub size : Data → ℕ
   size (number n) = unwrap_or (whole_number n) 0
-  size (string s) = unwrap_or (bound variables s) 0
+  size (string s) = unwrap_or (number_bound variables s) 0
   size (array (item t (item a (item b no_items)))) = unwrap_or (exact (sign_of t) (size a) (size b)) 0
   size _ = 0
 
@@ -148,12 +148,12 @@ pub record Clause : Type 0 where
 
 module _ (shape : Arrays) (variables : Bindings) where
   -- the cell of an array's name and an index
-  abbrev pub indexed : Data → Data → Cell
-  indexed name index = record { array = position_of shape name; index = size variables index }
+  abbrev pub cell_indexed : Data → Data → Cell
+  cell_indexed name index = record { array = position_of shape name; index = size variables index }
 
   -- `["c", name, size]`
   abbrev pub cell : Data → Cell
-  cell (array (item t (item a (item b no_items)))) = indexed a b
+  cell (array (item t (item a (item b no_items)))) = cell_indexed a b
   cell _ = record { array = 0; index = 0 }
 
   -- `[name, size, size]`
@@ -165,9 +165,9 @@ module _ (shape : Arrays) (variables : Bindings) where
   -- a number, a variable, a cell, `["pick", section, value]`, or `[op, value, value]`
   unfoldable pub value : Data → E
   value (number n) = Literal (unwrap_or (whole_number n) 0)
-  value (string s) = Literal (unwrap_or (bound variables s) 0)
+  value (string s) = Literal (unwrap_or (number_bound variables s) 0)
   value (array (item t (item a (item b no_items)))) =
-      if is_word t (codes "c") then CellAt (indexed a b) else
+      if is_word t (codes "c") then CellAt (cell_indexed a b) else
       (if is_word t (codes "pick") then PickFrom (section a) (value b) else
       Apply (unwrap_or (op_of t) Plus) (value a) (value b))
   value _ = Literal 0
@@ -208,13 +208,13 @@ profile_of t =
 -- ---- the cells, by array and then by index
 
 -- one more in its place, unless it is there
-abbrev pub placed : List Cell → Cell → List Cell
-placed [] c = c ∷ []
-placed (d ∷ ds) c = if is_before c d then c ∷ d ∷ ds else (if same_cell c d then d ∷ ds else d ∷ placed ds c)
+abbrev pub cell_placed : List Cell → Cell → List Cell
+cell_placed [] c = c ∷ []
+cell_placed (d ∷ ds) c = if is_before c d then c ∷ d ∷ ds else (if same_cell c d then d ∷ ds else d ∷ cell_placed ds c)
 
 -- the cells that clauses name, each once
 abbrev pub named_cells : List Clause → List Cell
-named_cells clauses = fold placed [] (flat_map (λ clause. cells_of clause.section) clauses)
+named_cells clauses = fold cell_placed [] (flat_map (λ clause. cells_of clause.section) clauses)
 
 -- ---- the modes
 

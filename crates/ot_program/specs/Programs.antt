@@ -27,9 +27,9 @@ module _ (shape : Arrays) where
   faults_behind before p = own_faults shape p ++ past_limits shape.tasks (total shape (before ++ p ∷ []))
 
   -- the first statement with a fault decides, and of its faults the first of the order
-  abbrev pub told : List Placed → List Placed → Option Refusal
-  told before [] = None
-  told before (p ∷ rest) = option_or (foremost (faults_behind before p)) (told (before ++ p ∷ []) rest)
+  abbrev pub fault_told : List Placed → List Placed → Option Refusal
+  fault_told before [] = None
+  fault_told before (p ∷ rest) = option_or (foremost (faults_behind before p)) (fault_told (before ++ p ∷ []) rest)
 
 -- ---- programs
 
@@ -49,7 +49,7 @@ abbrev pub program_in : Arrays → Option Profile → Data → Data → Result E
 program_in shape None shows body = Err Form
 program_in shape (Some profile) shows body =
     told_or (expansion (map (section shape []) (items shows)) (statement_of shape (program_copy profile shows body)))
-    (told shape [] (in_copy (program_copy profile shows body)))
+    (fault_told shape [] (in_copy (program_copy profile shows body)))
 
 -- `["program", [section, ..], body]` and `["program2", [section, ..], body]`
 abbrev pub program_of : Arrays → Data → Result Expanded Refusal

@@ -21,7 +21,7 @@ pub(crate) struct Counts {
 }
 
 impl Counts {
-    ghost use Rattle.ot_program.specs.walk.Counting.{no_counts, counted, within_limits, one_turn, one_task};
+    ghost use Rattle.ot_program.specs.walk.Counting.{no_counts, more_counts, within_limits, one_turn, one_task};
 
     pub(crate) fn none() -> Counts
         ensures { result ≡ no_counts }
@@ -37,7 +37,7 @@ impl Counts {
 
     /// The counts with so many statements, nodes and cells more, where none passes its limit.
     pub(crate) fn plus(self, statements: u32, nodes: u32, cells: u32) -> Result<Counts, Refusal>
-        ensures { result ≡ within_limits (counted self statements nodes cells) }
+        ensures { result ≡ within_limits (more_counts self statements nodes cells) }
     {
         let statements = u64::from(self.statements) + u64::from(statements);
         let nodes = u64::from(self.nodes) + u64::from(nodes);

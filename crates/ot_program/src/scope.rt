@@ -32,10 +32,10 @@ impl Variables<'_> {
     }
 }
 
-ghost use Rattle.ot_program.specs.Meanings.{bound};
+ghost use Rattle.ot_program.specs.Meanings.{number_bound};
 
 fn bound(variables: &Variables, name: &str) -> Option<u32>
-    ensures { result ≡ bound (bindings_of variables.now) name.now }
+    ensures { result ≡ number_bound (bindings_of variables.now) name.now }
 {
     match variables {
         Variables::None => None,

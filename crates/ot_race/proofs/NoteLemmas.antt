@@ -7,7 +7,7 @@ use Rattle.ot_model.specs.declared.stmt.Use.{Use}
 use Rattle.ot_race.specs.Ends.{going_on}
 use Rattle.ot_race.specs.Events.{Event, Begins, Awaits}
 use Rattle.ot_race.specs.Order.{Does}
-use Rattle.ot_race.specs.Siblings.{seen, IsLedTo, IsSeenBy, HaveEntered, HavePassed}
+use Rattle.ot_race.specs.Siblings.{siblings_seen, IsLedTo, IsSeenBy, HaveEntered, HavePassed}
 use Rattle.ot_race.specs.Standings.{pending_of}
 use Rattle.ot_race.specs.Stands.{SiblingsNote, PendingNote}
 use Rattle.ot_race.specs.declared.siblings.Siblings.{Siblings}
@@ -64,8 +64,8 @@ siblings_entered es n p t uses e ends old new at task deed x = record {
   ];
   entered = λ q c us u d led.
       let same = same_begin es n p t uses e at task deed q c us d in
-      subst (λ y. Contains (seen new y u) c) (sym same.parents)
-      (subst (λ y. Contains (seen new p u) y) (sym same.children) (x.entered u (subst (λ y. IsLedTo y u) same.declared led)));
+      subst (λ y. Contains (siblings_seen new y u) c) (sym same.parents)
+      (subst (λ y. Contains (siblings_seen new p u) y) (sym same.children) (x.entered u (subst (λ y. IsLedTo y u) same.declared led)));
 }
 
 pub siblings_passed : (es : List Event) (n me : ℕ) (uses : List Use) (e : Event) (ends : List ℕ) (old new : Siblings) → slice_get es n ≡ Some e

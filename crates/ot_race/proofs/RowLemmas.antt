@@ -11,7 +11,7 @@ use Rattle.ot_model.specs.declared.stmt.Mode.TheVariants.{Reads, Writes, Folds}
 use Rattle.ot_model.specs.declared.stmt.Use.{Use}
 use Rattle.ot_check.proofs.Cited.{cells_equal}
 use Rattle.ot_race.specs.Ends.{end_of, goes_on, going_on}
-use Rattle.ot_race.specs.Siblings.{is_write, seen_in, seen, seen_by_all, IsLedTo, IsSeenBy, IsElsewhere, HaveEntered, HavePassed}
+use Rattle.ot_race.specs.Siblings.{is_write, seen_in, siblings_seen, seen_by_all, IsLedTo, IsSeenBy, IsElsewhere, HaveEntered, HavePassed}
 use Rattle.ot_race.specs.declared.siblings.Row.{Row}
 use Rattle.ot_race.specs.declared.siblings.Siblings.{Siblings}
 
@@ -238,9 +238,9 @@ user_entered ends n child mode old new reads w u =
 
 -- one row was put in the place of another
 pub record RowPut (parent : ℕ) (cell : Cell) (old new : Siblings) (before behind : Row) : Type 0 where
-  pub others : (p : ℕ) (u : Use) → IsElsewhere parent cell p u → seen new p u ≡ seen old p u
-  pub was : (u : Use) → u.cell ≡ cell → seen old parent u ≡ seen_in before u.mode
-  pub is : (u : Use) → u.cell ≡ cell → seen new parent u ≡ seen_in behind u.mode
+  pub others : (p : ℕ) (u : Use) → IsElsewhere parent cell p u → siblings_seen new p u ≡ siblings_seen old p u
+  pub was : (u : Use) → u.cell ≡ cell → siblings_seen old parent u ≡ seen_in before u.mode
+  pub is : (u : Use) → u.cell ≡ cell → siblings_seen new parent u ≡ seen_in behind u.mode
 
 elsewhere : (parent p : ℕ) (cell : Cell) (u : Use) → ((p ≡ parent) × (u.cell ≡ cell)) ⊎ IsElsewhere parent cell p u
 elsewhere parent p cell u =
@@ -260,23 +260,23 @@ pub put_entered : (ends : List ℕ) (n parent child : ℕ) (used : Use) (old new
 put_entered ends n parent child used old new before behind put e = record {
   only = λ p c u h. elim (elsewhere parent p used.cell u) [
     | inl here ↦
-        let in-row : Contains (seen_in behind u.mode) c = subst (λ l. Contains l c) (put.is u here.1) (subst (λ q. Contains (seen new q u) c) here.0 h) in
+        let in-row : Contains (seen_in behind u.mode) c = subst (λ l. Contains l c) (put.is u here.1) (subst (λ q. Contains (siblings_seen new q u) c) here.0 h) in
         elim (e.only u.mode c in-row) [
-          | inl past ↦ inl (subst (λ q. Contains (seen old q u) c) (sym here.0) (subst (λ l. Contains l c) (sym (put.was u here.1)) past))
+          | inl past ↦ inl (subst (λ q. Contains (siblings_seen old q u) c) (sym here.0) (subst (λ l. Contains l c) (sym (put.was u here.1)) past))
           | inr more ↦ inr (here.0, more.0, record { one = used; there = one_used used; same = sym here.1; written = more.1 })
         ]
     | inr apart ↦ inl (subst (λ l. Contains l c) (put.others p u apart) h)
   ];
   kept = λ p c u h. elim (elsewhere parent p used.cell u) [
     | inl here ↦
-        let in-row : Contains (seen_in before u.mode) c = subst (λ l. Contains l c) (put.was u here.1) (subst (λ q. Contains (seen old q u) c) here.0 h) in
+        let in-row : Contains (seen_in before u.mode) c = subst (λ l. Contains l c) (put.was u here.1) (subst (λ q. Contains (siblings_seen old q u) c) here.0 h) in
         elim (e.kept u.mode c in-row) [
-          | inl left ↦ inl (subst (λ q. Contains (seen new q u) c) (sym here.0) (subst (λ l. Contains l c) (sym (put.is u here.1)) left))
+          | inl left ↦ inl (subst (λ q. Contains (siblings_seen new q u) c) (sym here.0) (subst (λ l. Contains l c) (sym (put.is u here.1)) left))
           | inr over ↦ inr (
             here.0,
             over.0,
             record { one = used; there = one_used used; same = sym here.1; sees = subst (λ l. Contains l c) (sym (put.was used refl)) over.1 },
-            subst (λ q. Contains (seen new q u) child) (sym here.0) (subst (λ l. Contains l child) (sym (put.is u here.1)) over.2),
+            subst (λ q. Contains (siblings_seen new q u) child) (sym here.0) (subst (λ l. Contains l child) (sym (put.is u here.1)) over.2),
           )
         ]
     | inr apart ↦ inl (subst (λ l. Contains l c) (sym (put.others p u apart)) h)
@@ -293,15 +293,15 @@ pub put_passed : (ends : List ℕ) (n parent : ℕ) (used : Use) (old new : Sibl
 put_passed ends n parent used old new before behind put only kept = record {
   only = λ p c u h. elim (elsewhere parent p used.cell u) [
     | inl here ↦
-        let in-row : Contains (seen_in behind u.mode) c = subst (λ l. Contains l c) (put.is u here.1) (subst (λ q. Contains (seen new q u) c) here.0 h) in
-        subst (λ q. Contains (seen old q u) c) (sym here.0) (subst (λ l. Contains l c) (sym (put.was u here.1)) (only u.mode c in-row))
+        let in-row : Contains (seen_in behind u.mode) c = subst (λ l. Contains l c) (put.is u here.1) (subst (λ q. Contains (siblings_seen new q u) c) here.0 h) in
+        subst (λ q. Contains (siblings_seen old q u) c) (sym here.0) (subst (λ l. Contains l c) (sym (put.was u here.1)) (only u.mode c in-row))
     | inr apart ↦ subst (λ l. Contains l c) (put.others p u apart) h
   ];
   kept = λ p c u h. elim (elsewhere parent p used.cell u) [
     | inl here ↦
-        let in-row : Contains (seen_in before u.mode) c = subst (λ l. Contains l c) (put.was u here.1) (subst (λ q. Contains (seen old q u) c) here.0 h) in
+        let in-row : Contains (seen_in before u.mode) c = subst (λ l. Contains l c) (put.was u here.1) (subst (λ q. Contains (siblings_seen old q u) c) here.0 h) in
         elim (kept u.mode c in-row) [
-          | inl left ↦ inl (subst (λ q. Contains (seen new q u) c) (sym here.0) (subst (λ l. Contains l c) (sym (put.is u here.1)) left))
+          | inl left ↦ inl (subst (λ q. Contains (siblings_seen new q u) c) (sym here.0) (subst (λ l. Contains l c) (sym (put.is u here.1)) left))
           | inr over ↦ inr (
             here.0,
             over.0,
@@ -317,9 +317,9 @@ put_passed ends n parent used old new before behind put only kept = record {
 abbrev pub some_use : Use
 some_use = record { cell = record { array = 0; index = 0 }; mode = Reads }
 
-pub seen_more : (s : Siblings) (p : ℕ) (us : List Use) (u : Use) → seen_by_all s p (us ++ u ∷ []) ≡ seen_by_all s p us ++ seen s p u
-seen_more s p [] u = append-nil (seen s p u)
-seen_more s p (v ∷ us) u = ap (λ l. seen s p v ++ l) (seen_more s p us u) ∙ sym (append_assoc (seen s p v) (seen_by_all s p us) (seen s p u))
+pub seen_more : (s : Siblings) (p : ℕ) (us : List Use) (u : Use) → seen_by_all s p (us ++ u ∷ []) ≡ seen_by_all s p us ++ siblings_seen s p u
+seen_more s p [] u = append-nil (siblings_seen s p u)
+seen_more s p (v ∷ us) u = ap (λ l. siblings_seen s p v ++ l) (seen_more s p us u) ∙ sym (append_assoc (siblings_seen s p v) (seen_by_all s p us) (siblings_seen s p u))
 
 led_weaker : (xs ys : List Use) (u : Use) → IsLedTo xs u → IsLedTo (xs ++ ys) u
 led_weaker xs ys u l = record { one = l.one; there = Contains-append_left xs ys l.one l.there; same = l.same; written = l.written }
@@ -359,7 +359,7 @@ more_entered ends n parent child xs ys old mid new a b = record {
               record { one = by.one; there = Contains-append_right xs ys by.one by.there; same = by.same; sees = first },
               over.3,
             )
-            | inr more ↦ inl (subst (λ x. Contains (seen new p u) x) (sym more.1) over.3)
+            | inr more ↦ inl (subst (λ x. Contains (siblings_seen new p u) x) (sym more.1) over.3)
           ]
     ]
     | inr over ↦ elim (b.kept p child u over.3) [

@@ -8,7 +8,7 @@ use Rattle.ot_model.specs.declared.stmt.Use.{Use}
 use Rattle.ot_race.specs.Ends.{HasEnded, AreEnds}
 use Rattle.ot_race.specs.Events.{Begins, Awaits, Event}
 use Rattle.ot_race.specs.Order.{Does}
-use Rattle.ot_race.specs.Siblings.{seen, seen_by_all, IsLedTo, HasDeclared, IsStoodFor, AreSiblings}
+use Rattle.ot_race.specs.Siblings.{siblings_seen, seen_by_all, IsLedTo, HasDeclared, IsStoodFor, AreSiblings}
 use Rattle.ot_race.specs.Standings.{kept_at, knows, last_of, pending_of, IsUpTo, IsWithin, AreKept, ArePending, IsOfListed, IsOfChild}
 use Rattle.ot_race.specs.Stands.{Stands, IsPassedBy, SiblingsNote, PendingNote}
 use Rattle.ot_sets.specs.Sets.{bit_in}
@@ -39,20 +39,20 @@ listed_of : (tasks : List Standing) (list : List ℕ) (t i : ℕ) → Contains l
 listed_of tasks list t i h k = let p = place_of list t h in record { place = p.0; task = t; late = omega arith; there = p.1; known = k }
 
 -- whom all these uses see
-seen_one : (s : Siblings) (p : ℕ) (us : List Use) (c : ℕ) → Contains (seen_by_all s p us) c → (u : Use) × Contains us u × Contains (seen s p u) c
+seen_one : (s : Siblings) (p : ℕ) (us : List Use) (c : ℕ) → Contains (seen_by_all s p us) c → (u : Use) × Contains us u × Contains (siblings_seen s p u) c
 seen_one s p [] c h = absurd (omega (arith, h.1))
 seen_one s p (u ∷ us) c h =
-    elim (Contains-append_cases (seen s p u) (seen_by_all s p us) c h) [
+    elim (Contains-append_cases (siblings_seen s p u) (seen_by_all s p us) c h) [
       | inl here ↦ (u, Contains-append_left (u ∷ []) us u (Contains-push [] u), here)
       | inr there ↦ let x = seen_one s p us c there in (x.0, Contains-append_right (u ∷ []) us x.0 x.1, x.2)
     ]
 
-seen_all : (s : Siblings) (p : ℕ) (us : List Use) (u : Use) (c : ℕ) → Contains us u → Contains (seen s p u) c → Contains (seen_by_all s p us) c
+seen_all : (s : Siblings) (p : ℕ) (us : List Use) (u : Use) (c : ℕ) → Contains us u → Contains (siblings_seen s p u) c → Contains (seen_by_all s p us) c
 seen_all s p [] u c h k = absurd (omega (arith, h.1))
 seen_all s p (v ∷ us) u c h k =
     elim (Contains-append_cases (v ∷ []) us u h) [
-      | inl here ↦ Contains-append_left (seen s p v) (seen_by_all s p us) c (subst (λ x. Contains (seen s p x) c) (sym (is_used v u here)) k)
-      | inr there ↦ Contains-append_right (seen s p v) (seen_by_all s p us) c (seen_all s p us u c there k)
+      | inl here ↦ Contains-append_left (siblings_seen s p v) (seen_by_all s p us) c (subst (λ x. Contains (siblings_seen s p x) c) (sym (is_used v u here)) k)
+      | inr there ↦ Contains-append_right (siblings_seen s p v) (seen_by_all s p us) c (seen_all s p us u c there k)
     ]
 
 -- ---- the children that are listed are those that are awaited
@@ -190,7 +190,7 @@ pending_more es n e tasks new ends g are-ends note a = record {
 -- whom a step no longer shows has ended, and one that is shown knows what it knew, or the parent does
 replaced : (es : List Event) (n : ℕ) (e : Event) (tasks new : List Standing) (s t : Siblings) → Grows es n e tasks new → AreSiblings es n tasks s
     → (p c : ℕ) (u : Use) → IsPassedBy es n p s t u c
-    → ((i : ℕ) → knows tasks c i ≡ true → knows new p i ≡ true) ⊎ ((x : ℕ) × Contains (seen t p u) x × ((i : ℕ) → knows tasks c i ≡ true → knows new x i ≡ true))
+    → ((i : ℕ) → knows tasks c i ≡ true → knows new p i ≡ true) ⊎ ((x : ℕ) × Contains (siblings_seen t p u) x × ((i : ℕ) → knows tasks c i ≡ true → knows new x i ≡ true))
 replaced es n e tasks new s t g a p c u by =
     let h : HasDeclared es n p by.sees.one c = a.sound p c by.sees.one by.sees.sees in
     elim by.by [
@@ -282,7 +282,7 @@ knower_there (st ∷ tasks) (suc t) i h = let l = knower_there tasks t i h in om
 pub doer_there : (es : List Event) (n : ℕ) (e : Event) (tasks : List Standing) → slice_get es n ≡ Some e → AreKept es (n + 1) tasks → e.task < length tasks
 doer_there es n e tasks at s = knower_there tasks e.task n ((known_up es n n e tasks at s).1 (inl refl))
 
-pub stands_none : (es : List Event) (s : Standings) → s.tasks.items ≡ [] → ((p : ℕ) (u : Use) → seen s.siblings p u ≡ []) → AreEnds es s.ends.items
+pub stands_none : (es : List Event) (s : Standings) → s.tasks.items ≡ [] → ((p : ℕ) (u : Use) → siblings_seen s.siblings p u ≡ []) → AreEnds es s.ends.items
     → Stands es 0 s
 stands_none es s none empty ends = record {
   kept = record {

@@ -27,14 +27,14 @@ phases_of h =
     record { mode = h.mode; last = h.last.items; tips = h.tips.items; before = h.before.items; tips_before = h.tips_before.items }
 
 -- the phases of a cell that wasn't touched
-abbrev pub untouched : Phases
-untouched = record { mode = Reads; last = []; tips = []; before = []; tips_before = [] }
+abbrev pub no_phases : Phases
+no_phases = record { mode = Reads; last = []; tips = []; before = []; tips_before = [] }
 
 abbrev pub row_of : Row → List Phases
 row_of row = map phases_of row.histories.items
 
 abbrev pub phases_at : List Row → Cell → Phases
-phases_at rows c = get_or (get_or (map row_of rows) c.array []) c.index untouched
+phases_at rows c = get_or (get_or (map row_of rows) c.array []) c.index no_phases
 
 -- the events that a touch in this mode is to be behind: where it conflicts with the last phase that phase, else the one before
 abbrev pub behind_of : Phases → Mode → List ℕ

@@ -47,12 +47,12 @@ seen_of_shelf None index parent mode = []
 seen_of_shelf (Some shelf) index parent mode = seen_at shelf index parent mode
 
 -- those whom a use sees in a child of this parent
-abbrev pub seen : Siblings → ℕ → Use → List ℕ
-seen s parent u = seen_of_shelf (slice_get s.shelves.items u.cell.array) u.cell.index parent u.mode
+abbrev pub siblings_seen : Siblings → ℕ → Use → List ℕ
+siblings_seen s parent u = seen_of_shelf (slice_get s.shelves.items u.cell.array) u.cell.index parent u.mode
 
 abbrev pub seen_by_all : Siblings → ℕ → List Use → List ℕ
 seen_by_all s parent [] = []
-seen_by_all s parent (u ∷ us) = seen s parent u ++ seen_by_all s parent us
+seen_by_all s parent (u ∷ us) = siblings_seen s parent u ++ seen_by_all s parent us
 
 -- another parent's row, or that of another cell
 abbrev pub IsElsewhere : ℕ → Cell → ℕ → Use → Type 0
@@ -60,8 +60,8 @@ IsElsewhere parent cell p u = (p ≢ parent) ⊎ (u.cell ≢ cell)
 
 -- a row is put in
 pub record IsPut (parent : ℕ) (cell : Cell) (row : Row) (old new : Siblings) : Type 0 where
-  pub here : (u : Use) → u.cell ≡ cell → seen new parent u ≡ seen_in row u.mode
-  pub others : (p : ℕ) (u : Use) → IsElsewhere parent cell p u → seen new p u ≡ seen old p u
+  pub here : (u : Use) → u.cell ≡ cell → siblings_seen new parent u ≡ seen_in row u.mode
+  pub others : (p : ℕ) (u : Use) → IsElsewhere parent cell p u → siblings_seen new p u ≡ siblings_seen old p u
 
 -- ---- what a step changes
 
@@ -77,20 +77,20 @@ pub record IsSeenBy (s : Siblings) (parent : ℕ) (uses : List Use) (cell : Cell
   pub one : Use
   pub there : Contains uses one
   pub same : one.cell ≡ cell
-  pub sees : Contains (seen s parent one) child
+  pub sees : Contains (siblings_seen s parent one) child
 
 -- A child has entered with these uses: it is seen where it is to be, and of those that were seen only some that have ended no
 -- longer are, whom it sees itself; it is seen in their place.
 pub record HaveEntered (ends : List ℕ) (n parent child : ℕ) (uses : List Use) (old new : Siblings) : Type 0 where
-  pub only : (p c : ℕ) (u : Use) → Contains (seen new p u) c → Contains (seen old p u) c ⊎ ((p ≡ parent) × (c ≡ child) × IsLedTo uses u)
-  pub kept : (p c : ℕ) (u : Use) → Contains (seen old p u) c → Contains (seen new p u) c
-      ⊎ ((p ≡ parent) × (goes_on ends n c ≡ false) × IsSeenBy old parent uses u.cell c × Contains (seen new p u) child)
-  pub entered : (u : Use) → IsLedTo uses u → Contains (seen new parent u) child
+  pub only : (p c : ℕ) (u : Use) → Contains (siblings_seen new p u) c → Contains (siblings_seen old p u) c ⊎ ((p ≡ parent) × (c ≡ child) × IsLedTo uses u)
+  pub kept : (p c : ℕ) (u : Use) → Contains (siblings_seen old p u) c → Contains (siblings_seen new p u) c
+      ⊎ ((p ≡ parent) × (goes_on ends n c ≡ false) × IsSeenBy old parent uses u.cell c × Contains (siblings_seen new p u) child)
+  pub entered : (u : Use) → IsLedTo uses u → Contains (siblings_seen new parent u) child
 
 -- A wait with these uses has passed: of those that were seen only some that have ended no longer are, whom it awaited.
 pub record HavePassed (ends : List ℕ) (n parent : ℕ) (uses : List Use) (old new : Siblings) : Type 0 where
-  pub only : (p c : ℕ) (u : Use) → Contains (seen new p u) c → Contains (seen old p u) c
-  pub kept : (p c : ℕ) (u : Use) → Contains (seen old p u) c → Contains (seen new p u) c
+  pub only : (p c : ℕ) (u : Use) → Contains (siblings_seen new p u) c → Contains (siblings_seen old p u) c
+  pub kept : (p c : ℕ) (u : Use) → Contains (siblings_seen old p u) c → Contains (siblings_seen new p u) c
       ⊎ ((p ≡ parent) × (goes_on ends n c ≡ false) × IsSeenBy old parent uses u.cell c)
 
 -- ---- what the rows are
@@ -106,9 +106,9 @@ pub record HasDeclared (es : List Event) (n parent : ℕ) (later : Use) (child :
 -- the child has ended, and its parent knows all that it knows, or another child that the use sees does
 pub record IsStoodFor (es : List Event) (n : ℕ) (tasks : List Standing) (s : Siblings) (parent : ℕ) (u : Use) (child : ℕ) : Type 0 where
   pub ended : HasEnded es n child
-  pub by : IsWithin tasks child parent ⊎ ((other : ℕ) × Contains (seen s parent u) other × IsWithin tasks child other)
+  pub by : IsWithin tasks child parent ⊎ ((other : ℕ) × Contains (siblings_seen s parent u) other × IsWithin tasks child other)
 
 -- a use sees such children alone, and each one that it doesn't see is stood for
 pub record AreSiblings (es : List Event) (n : ℕ) (tasks : List Standing) (s : Siblings) : Type 0 where
-  pub sound : (p c : ℕ) (u : Use) → Contains (seen s p u) c → HasDeclared es n p u c
-  pub all : (p c : ℕ) (u : Use) → HasDeclared es n p u c → Contains (seen s p u) c ⊎ IsStoodFor es n tasks s p u c
+  pub sound : (p c : ℕ) (u : Use) → Contains (siblings_seen s p u) c → HasDeclared es n p u c
+  pub all : (p c : ℕ) (u : Use) → HasDeclared es n p u c → Contains (siblings_seen s p u) c ⊎ IsStoodFor es n tasks s p u c

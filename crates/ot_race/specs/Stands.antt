@@ -4,7 +4,7 @@ use Rattle.ot_model.specs.declared.stmt.Use.{Use}
 use Rattle.ot_race.specs.Ends.{AreEnds, goes_on}
 use Rattle.ot_race.specs.Events.{Event, Begins, Awaits}
 use Rattle.ot_race.specs.Order.{Does}
-use Rattle.ot_race.specs.Siblings.{seen, IsLedTo, IsSeenBy, AreSiblings}
+use Rattle.ot_race.specs.Siblings.{siblings_seen, IsLedTo, IsSeenBy, AreSiblings}
 use Rattle.ot_race.specs.Standings.{pending_of, AreKept, ArePending}
 use Rattle.ot_race.specs.declared.order.Standings.{Standings}
 use Rattle.ot_race.specs.declared.siblings.Siblings.{Siblings}
@@ -21,13 +21,13 @@ pub record Stands (es : List Event) (n : ℕ) (s : Standings) : Type 0 where
 pub record IsPassedBy (es : List Event) (n parent : ℕ) (old new : Siblings) (u : Use) (c : ℕ) : Type 0 where
   pub uses : List Use
   pub sees : IsSeenBy old parent uses u.cell c
-  pub by : ((t : ℕ) × Does es t (Begins parent uses) n × Contains (seen new parent u) t) ⊎ Does es parent (Awaits (Some uses)) n
+  pub by : ((t : ℕ) × Does es t (Begins parent uses) n × Contains (siblings_seen new parent u) t) ⊎ Does es parent (Awaits (Some uses)) n
 
 -- event n is noted in the rows
 pub record SiblingsNote (es : List Event) (n : ℕ) (ends : List ℕ) (old new : Siblings) : Type 0 where
-  pub only : (p c : ℕ) (u : Use) → Contains (seen new p u) c → Contains (seen old p u) c ⊎ ((uses : List Use) × Does es c (Begins p uses) n × IsLedTo uses u)
-  pub kept : (p c : ℕ) (u : Use) → Contains (seen old p u) c → Contains (seen new p u) c ⊎ ((goes_on ends n c ≡ false) × IsPassedBy es n p old new u c)
-  pub entered : (p c : ℕ) (uses : List Use) (u : Use) → Does es c (Begins p uses) n → IsLedTo uses u → Contains (seen new p u) c
+  pub only : (p c : ℕ) (u : Use) → Contains (siblings_seen new p u) c → Contains (siblings_seen old p u) c ⊎ ((uses : List Use) × Does es c (Begins p uses) n × IsLedTo uses u)
+  pub kept : (p c : ℕ) (u : Use) → Contains (siblings_seen old p u) c → Contains (siblings_seen new p u) c ⊎ ((goes_on ends n c ≡ false) × IsPassedBy es n p old new u c)
+  pub entered : (p c : ℕ) (uses : List Use) (u : Use) → Does es c (Begins p uses) n → IsLedTo uses u → Contains (siblings_seen new p u) c
 
 -- event n is noted among the children that are pending
 pub record PendingNote (es : List Event) (n : ℕ) (ends : List ℕ) (old new : List Standing) : Type 0 where

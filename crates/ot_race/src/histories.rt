@@ -2,7 +2,7 @@
 ghost use Rattle.std.specs.Prelude.{◌≡◌, ◌≢◌, ◌<◌, OnOk, length, get_or, [], ℕ};
 ghost use Rattle.ot_model.specs.declared.expr.Cell.{Cell};
 ghost use Rattle.ot_race.specs.Missing.{IsMissing};
-ghost use Rattle.ot_race.specs.Histories.{row_of, phases_at, behind_of, HasThose, IsTouched, untouched};
+ghost use Rattle.ot_race.specs.Histories.{row_of, phases_at, behind_of, HasThose, IsTouched, no_phases};
 
 use crate::history::History;
 use ot_model::{Cell, Mode};
@@ -80,8 +80,8 @@ impl Row {
         event: u32,
         known: &Numbers,
     ) -> Result<(), AllocError>
-        ensures there { OnOk result (IsTouched (get_or (row_of self.old) index untouched) mode event known.now (get_or (row_of self.new) index untouched)) }
-        ensures others { OnOk result ((i : ℕ) → i ≢ index → get_or (row_of self.new) i untouched ≡ get_or (row_of self.old) i untouched) }
+        ensures there { OnOk result (IsTouched (get_or (row_of self.old) index no_phases) mode event known.now (get_or (row_of self.new) index no_phases)) }
+        ensures others { OnOk result ((i : ℕ) → i ≢ index → get_or (row_of self.new) i no_phases ≡ get_or (row_of self.old) i no_phases) }
     {
         self.reach(alloc, index)?;
         self.histories[index as usize].add(mode, event, known)
@@ -89,7 +89,7 @@ impl Row {
 
     /// Makes a history for the cell.
     fn reach(&mut self, alloc: Global, index: u32) -> Result<(), AllocError>
-        ensures same { (i : ℕ) → get_or (row_of self.new) i untouched ≡ get_or (row_of self.old) i untouched }
+        ensures same { (i : ℕ) → get_or (row_of self.new) i no_phases ≡ get_or (row_of self.old) i no_phases }
         ensures there { OnOk result (index < length self.new.histories.items) }
     {
         for _ in self.histories.len()..index as usize + 1 {

@@ -1,7 +1,7 @@
 //! What a judge keeps of a cell: the last two phases of its touches.
 ghost use Rattle.std.specs.Prelude.{◌≡◌, OnOk};
 ghost use Rattle.ot_race.specs.Missing.{IsMissing};
-ghost use Rattle.ot_race.specs.Histories.{phases_of, untouched, behind_of, HasThose, AreTips, IsTouched};
+ghost use Rattle.ot_race.specs.Histories.{phases_of, no_phases, behind_of, HasThose, AreTips, IsTouched};
 
 use ot_model::Mode;
 use ot_sets::Numbers;
@@ -26,7 +26,7 @@ pub(crate) struct History {
 impl History {
     /// No touch at all. It takes no memory.
     pub(crate) fn new(alloc: Global) -> History
-        ensures { phases_of result ≡ untouched }
+        ensures { phases_of result ≡ no_phases }
     {
         History {
             mode: Mode::Reads,

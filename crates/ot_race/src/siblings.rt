@@ -4,7 +4,7 @@ ghost use Rattle.ot_model.specs.Cells.{one_writes};
 ghost use Rattle.ot_model.specs.declared.stmt.Mode.{Mode};
 ghost use Rattle.ot_model.specs.declared.stmt.Use.{Use};
 ghost use Rattle.ot_race.specs.Ends.{goes_on};
-ghost use Rattle.ot_race.specs.Siblings.{is_write, seen_in, seen, seen_by_all, IsElsewhere, IsPut, HaveEntered, HavePassed};
+ghost use Rattle.ot_race.specs.Siblings.{is_write, seen_in, siblings_seen, seen_by_all, IsElsewhere, IsPut, HaveEntered, HavePassed};
 
 use crate::ends::keep_going_on;
 use crate::lanes::Shelf;
@@ -101,7 +101,7 @@ impl Row {
 impl Siblings {
     /// No row. It takes no memory.
     pub(crate) fn new(alloc: Global) -> Siblings
-        ensures { (parent : ℕ) (u : Use) → seen result parent u ≡ [] }
+        ensures { (parent : ℕ) (u : Use) → siblings_seen result parent u ≡ [] }
     {
         Siblings {
             shelves: Vec::new(alloc),
@@ -126,7 +126,7 @@ impl Siblings {
     }
 
     fn list_one(&self, parent: u32, used: Use, listed: &mut Vec<u32>) -> Result<(), AllocError>
-        ensures { OnOk result (listed.new.items ≡ listed.old.items ++ seen self.now parent used) }
+        ensures { OnOk result (listed.new.items ≡ listed.old.items ++ siblings_seen self.now parent used) }
     {
         match self.shelves.get(used.cell.array as usize) {
             Some(shelf) => shelf.list(used.cell.index, parent, used.mode, listed),
@@ -168,8 +168,8 @@ impl Siblings {
 
     /// Takes a row out.
     fn take(&mut self, alloc: Global, parent: u32, cell: Cell) -> Result<Row, AllocError>
-        ensures was { IfOk result (λ row. (u : Use) → u.cell ≡ cell → seen self.old parent u ≡ seen_in row u.mode) }
-        ensures others { OnOk result ((p : ℕ) (u : Use) → IsElsewhere parent cell p u → seen self.new p u ≡ seen self.old p u) }
+        ensures was { IfOk result (λ row. (u : Use) → u.cell ≡ cell → siblings_seen self.old parent u ≡ seen_in row u.mode) }
+        ensures others { OnOk result ((p : ℕ) (u : Use) → IsElsewhere parent cell p u → siblings_seen self.new p u ≡ siblings_seen self.old p u) }
     {
         self.reach(alloc, cell.array)?;
         self.shelves[cell.array as usize].take(alloc, cell.index, parent)
@@ -185,7 +185,7 @@ impl Siblings {
 
     /// Makes a shelf for the array.
     fn reach(&mut self, alloc: Global, array: u32) -> Result<(), AllocError>
-        ensures same { (p : ℕ) (u : Use) → seen self.new p u ≡ seen self.old p u }
+        ensures same { (p : ℕ) (u : Use) → siblings_seen self.new p u ≡ siblings_seen self.old p u }
         ensures there { OnOk result (array < length self.new.shelves.items) }
     {
         for _ in self.shelves.len()..array as usize + 1 {

@@ -23,12 +23,12 @@ use Rattle.ot_race_all.specs.declared.touched.Row.{Row}
 abbrev pub touches_of : Touches → List Touch
 touches_of t = t.touches.items
 
-abbrev pub row_of : Row → List (List Touch)
-row_of row = map touches_of row.cells.items
+abbrev pub row_of_touches : Row → List (List Touch)
+row_of_touches row = map touches_of row.cells.items
 
 -- the touches of a cell
 abbrev pub touches_at : List Row → Cell → List Touch
-touches_at rows c = get_or (get_or (map row_of rows) c.array []) c.index []
+touches_at rows c = get_or (get_or (map row_of_touches rows) c.array []) c.index []
 
 -- they are those of the first n events, and of those uses of the next that are passed
 abbrev pub AreTouches : List Event → ℕ → List Use → List Row → Type 0

@@ -1,7 +1,7 @@
 //! The touches of all cells.
 ghost use Rattle.std.specs.Prelude.{◌≡◌, ◌≢◌, ◌<◌, ◌++◌, ◌∷◌, OnOk, length, get_or, [], ℕ};
 ghost use Rattle.ot_model.specs.declared.expr.Cell.{Cell};
-ghost use Rattle.ot_race_all.specs.Found.{row_of, touches_of, touches_at};
+ghost use Rattle.ot_race_all.specs.Found.{row_of_touches, touches_of, touches_at};
 
 use ot_model::{Cell, Mode};
 use std::alloc::{AllocError, Global};
@@ -76,7 +76,7 @@ impl Touched {
 
 impl Row {
     fn of(&self, index: u32) -> &[Touch]
-        ensures { result.now ≡ get_or (row_of self.now) index [] }
+        ensures { result.now ≡ get_or (row_of_touches self.now) index [] }
     {
         match self.cells.get(index as usize) {
             Some(cell) => &cell.touches,
@@ -85,8 +85,8 @@ impl Row {
     }
 
     fn add(&mut self, alloc: Global, index: u32, touch: Touch) -> Result<(), AllocError>
-        ensures there { OnOk result (get_or (row_of self.new) index [] ≡ get_or (row_of self.old) index [] ++ touch ∷ []) }
-        ensures others { OnOk result ((i : ℕ) → i ≢ index → get_or (row_of self.new) i [] ≡ get_or (row_of self.old) i []) }
+        ensures there { OnOk result (get_or (row_of_touches self.new) index [] ≡ get_or (row_of_touches self.old) index [] ++ touch ∷ []) }
+        ensures others { OnOk result ((i : ℕ) → i ≢ index → get_or (row_of_touches self.new) i [] ≡ get_or (row_of_touches self.old) i []) }
     {
         self.reach(alloc, index)?;
         self.cells[index as usize].add(touch)
@@ -94,7 +94,7 @@ impl Row {
 
     /// Makes a place for the cell.
     fn reach(&mut self, alloc: Global, index: u32) -> Result<(), AllocError>
-        ensures same { (i : ℕ) → get_or (row_of self.new) i [] ≡ get_or (row_of self.old) i [] }
+        ensures same { (i : ℕ) → get_or (row_of_touches self.new) i [] ≡ get_or (row_of_touches self.old) i [] }
         ensures there { OnOk result (index < length self.new.cells.items) }
     {
         for _ in self.cells.len()..index as usize + 1 {

@@ -22,7 +22,7 @@ use Rattle.ot_race.proofs.HistoryLemmas.{more_touched, touched_cases, same_event
 use Rattle.ot_sets.specs.Sets.{has}
 use Rattle.ot_sets.specs.declared.numbers.Numbers.{Numbers}
 use Rattle.ot_race_locks.specs.OpenRaces.{Kind, IsDistinct, IsThere, HasMany, set_at}
-use Rattle.ot_race_locks.specs.Kinds.{kind, kind_of, IsRising, IsTip, IsBehindTip, AreGroups, AreAllGroups, groups_at, IsPut, HasGrown, IsNew, AreGrown, AreFull, HasBegun, Fits}
+use Rattle.ot_race_locks.specs.Kinds.{kind, kind_of, IsRising, IsTip, IsBehindTip, AreGroups, AreAllGroups, groups_at, TipIsPut, HasGrown, IsNew, AreGrown, AreFull, KindHasBegun, KindFits}
 use Rattle.ot_race_locks.specs.declared.group.Group.{Group}
 use Rattle.ot_race_locks.specs.declared.kept.Row.{Row}
 use Rattle.ot_race_locks.specs.declared.locks.Locks.{Locks}
@@ -54,7 +54,7 @@ kind_test g s mode h =
 
 -- ---- one touch more
 
-front_of : (old new : List ℕ) (n : ℕ) (known : Numbers) (put : IsPut old n known new) (e : ℕ) → Contains put.front e → Contains old e
+front_of : (old new : List ℕ) (n : ℕ) (known : Numbers) (put : TipIsPut old n known new) (e : ℕ) → Contains put.front e → Contains old e
 front_of old new n known put e l =
     elim put.was [
       | inl same ↦ subst (λ xs. Contains xs e) (sym same) l
@@ -69,7 +69,7 @@ rising_front xs ys h a b x y l at_a at_b = h a b x y l (more xs ys a x at_a) (mo
     more (z ∷ xs) ys zero x h = h
     more (z ∷ xs) ys (suc k) x h = more xs ys k x h
 
-rising_put : (old new : List ℕ) (n : ℕ) (known : Numbers) → IsRising old → ((e : ℕ) → Contains old e → e ≤ n) → IsPut old n known new → IsRising new
+rising_put : (old new : List ℕ) (n : ℕ) (known : Numbers) → IsRising old → ((e : ℕ) → Contains old e → e ≤ n) → TipIsPut old n known new → IsRising new
 rising_put old new n known h low put =
     let front : IsRising put.front = elim put.was [
       | inl same ↦ subst IsRising same h
@@ -343,7 +343,7 @@ grown_begun old new g own n known is more other = subst (AreGrown own n known ol
   it = (g, Contains-push old g, is.kind_is, subst (λ xs. Contains xs n) (sym is.tips) (Contains-push [] n));
 })
 
-pub fits_begun : (old new : List Group) (own : Kind) (n : ℕ) (known : Numbers) → (Contains (map kind_of old) own → ⊥) → (b : Bool) → HasBegun own n old new b
-    → Fits own n known old new b
+pub fits_begun : (old new : List Group) (own : Kind) (n : ℕ) (known : Numbers) → (Contains (map kind_of old) own → ⊥) → (b : Bool) → KindHasBegun own n old new b
+    → KindFits own n known old new b
 fits_begun old new it n known other true begun = grown_begun old new begun.0 it n known begun.1 begun.2 other
 fits_begun old new it n known other false full = record { many = full; other = other }

@@ -32,12 +32,12 @@ kind_of group = kind group.set group.mode
 abbrev pub groups_of : Line → List Group
 groups_of line = line.groups.items
 
-abbrev pub row_of : Row → List (List Group)
-row_of row = map groups_of row.lines.items
+abbrev pub kind_row : Row → List (List Group)
+kind_row row = map groups_of row.lines.items
 
 -- the groups of a cell
 abbrev pub groups_at : List Row → Cell → List Group
-groups_at rows c = get_or (get_or (map row_of rows) c.array []) c.index []
+groups_at rows c = get_or (get_or (map kind_row rows) c.array []) c.index []
 
 abbrev pub IsRising : List ℕ → Type 0
 IsRising xs = (a b x y : ℕ) → a < b → slice_get xs a ≡ Some x → slice_get xs b ≡ Some y → x ≤ y
@@ -102,7 +102,7 @@ IsRacing locks groups own known (Some e) = OneMissing locks groups own known e
 -- ---- what a touch changes
 
 -- the event is put behind tips, in place of the last one where that is in the set
-pub record IsPut (old : List ℕ) (event : ℕ) (known : Numbers) (new : List ℕ) : Type 0 where
+pub record TipIsPut (old : List ℕ) (event : ℕ) (known : Numbers) (new : List ℕ) : Type 0 where
   pub front : List ℕ
   pub is : new ≡ front ++ event ∷ []
   pub was : (old ≡ front) ⊎ ((last : ℕ) × (old ≡ front ++ last ∷ []) × (has known last ≡ true))
@@ -111,7 +111,7 @@ pub record IsPut (old : List ℕ) (event : ℕ) (known : Numbers) (new : List �
 pub record HasGrown (own : Kind) (event : ℕ) (known : Numbers) (old new : Group) : Type 0 where
   pub kind_was : kind_of old ≡ own
   pub kind_is : kind_of new ≡ own
-  pub put : IsPut old.tips.items event known new.tips.items
+  pub put : TipIsPut old.tips.items event known new.tips.items
 
 -- a group of this kind is new
 pub record IsNew (own : Kind) (event : ℕ) (new : Group) : Type 0 where
@@ -131,13 +131,13 @@ pub record AreFull (own : Kind) (groups : List Group) : Type 0 where
   pub other : Contains (map kind_of groups) own → ⊥
 
 -- the first touch of a kind, where there aren't too many
-abbrev pub HasBegun : Kind → ℕ → List Group → List Group → Bool → Type 0
-HasBegun own event old new true = (g : Group) × IsNew own event g × (new ≡ old ++ g ∷ [])
-HasBegun own event old new false = 64 ≤ length old
+abbrev pub KindHasBegun : Kind → ℕ → List Group → List Group → Bool → Type 0
+KindHasBegun own event old new true = (g : Group) × IsNew own event g × (new ≡ old ++ g ∷ [])
+KindHasBegun own event old new false = 64 ≤ length old
 
-abbrev pub Fits : Kind → ℕ → Numbers → List Group → List Group → Bool → Type 0
-Fits own event known old new true = AreGrown own event known old new
-Fits own event known old new false = AreFull own old
+abbrev pub KindFits : Kind → ℕ → Numbers → List Group → List Group → Bool → Type 0
+KindFits own event known old new true = AreGrown own event known old new
+KindFits own event known old new false = AreFull own old
 
 -- ---- the events so far
 

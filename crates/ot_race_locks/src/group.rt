@@ -2,7 +2,7 @@
 ghost use Rattle.std.specs.Prelude.{◌≡◌, ◌⊎◌, ◌==◌, ◌&&◌, OnOk, true, Contains};
 ghost use Rattle.ot_model.specs.Cells.{same_mode};
 ghost use Rattle.ot_sets.specs.Sets.{has};
-ghost use Rattle.ot_race_locks.specs.Kinds.{kind, kind_of, are_against, MissingFrom, IsPut, HasGrown};
+ghost use Rattle.ot_race_locks.specs.Kinds.{kind, kind_of, are_against, MissingFrom, TipIsPut, HasGrown};
 
 use crate::locks::Locks;
 use ot_model::Mode;
@@ -53,7 +53,7 @@ impl Group {
 
 /// Puts an event behind tips, in place of the last one where it is behind that.
 fn put(tips: &mut Vec<u32>, event: u32, known: &Numbers) -> Result<(), AllocError>
-    ensures { OnOk result (IsPut tips.old.items event known.now tips.new.items) }
+    ensures { OnOk result (TipIsPut tips.old.items event known.now tips.new.items) }
 {
     match tips.pop() {
         Some(last) if !known.has(last as usize) => tips.push(last)?,

@@ -1,7 +1,7 @@
 //! The touches of all cells.
 ghost use Rattle.std.specs.Prelude.{◌≡◌, ◌≢◌, ◌<◌, IfOk, OnOk, length, get_or, [], ℕ};
 ghost use Rattle.ot_model.specs.declared.expr.Cell.{Cell};
-ghost use Rattle.ot_race_locks.specs.Kinds.{kind, row_of, groups_at, Fits};
+ghost use Rattle.ot_race_locks.specs.Kinds.{kind, kind_row, groups_at, KindFits};
 
 use crate::group::Group;
 use crate::line::Line;
@@ -51,7 +51,7 @@ impl Kept {
         number: u32,
         known: &Numbers,
     ) -> Result<bool, AllocError>
-        ensures there { IfOk result (Fits (kind set mode) number known.now (groups_at self.old.rows.items cell) (groups_at self.new.rows.items cell)) }
+        ensures there { IfOk result (KindFits (kind set mode) number known.now (groups_at self.old.rows.items cell) (groups_at self.new.rows.items cell)) }
         ensures others { OnOk result ((c : Cell) → c ≢ cell → groups_at self.new.rows.items c ≡ groups_at self.old.rows.items c) }
     {
         self.reach(alloc, cell.array)?;
@@ -74,7 +74,7 @@ impl Kept {
 
 impl Row {
     fn of(&self, index: u32) -> &[Group]
-        ensures { result.now ≡ get_or (row_of self.now) index [] }
+        ensures { result.now ≡ get_or (kind_row self.now) index [] }
     {
         match self.lines.get(index as usize) {
             Some(line) => &line.groups,
@@ -91,8 +91,8 @@ impl Row {
         number: u32,
         known: &Numbers,
     ) -> Result<bool, AllocError>
-        ensures there { IfOk result (Fits (kind set mode) number known.now (get_or (row_of self.old) index []) (get_or (row_of self.new) index [])) }
-        ensures others { OnOk result ((i : ℕ) → i ≢ index → get_or (row_of self.new) i [] ≡ get_or (row_of self.old) i []) }
+        ensures there { IfOk result (KindFits (kind set mode) number known.now (get_or (kind_row self.old) index []) (get_or (kind_row self.new) index [])) }
+        ensures others { OnOk result ((i : ℕ) → i ≢ index → get_or (kind_row self.new) i [] ≡ get_or (kind_row self.old) i []) }
     {
         self.reach(alloc, index)?;
         self.lines[index as usize].add(alloc, set, mode, number, known)
@@ -100,7 +100,7 @@ impl Row {
 
     /// Makes a line for the cell.
     fn reach(&mut self, alloc: Global, index: u32) -> Result<(), AllocError>
-        ensures same { (i : ℕ) → get_or (row_of self.new) i [] ≡ get_or (row_of self.old) i [] }
+        ensures same { (i : ℕ) → get_or (kind_row self.new) i [] ≡ get_or (kind_row self.old) i [] }
         ensures there { OnOk result (index < length self.new.lines.items) }
     {
         for _ in self.lines.len()..index as usize + 1 {

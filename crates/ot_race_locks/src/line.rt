@@ -1,6 +1,6 @@
 //! The touches of a cell, by their kinds.
 ghost use Rattle.std.specs.Prelude.{◌≡◌, [], IfOk, Contains, MatchOption, map, Some, slice_get};
-ghost use Rattle.ot_race_locks.specs.Kinds.{kind, kind_of, groups_of, IsRising, IsFrom, IsRacing, HasBegun, Fits};
+ghost use Rattle.ot_race_locks.specs.Kinds.{kind, kind_of, groups_of, IsRising, IsFrom, IsRacing, KindHasBegun, KindFits};
 ghost use Rattle.ot_race_locks.specs.declared.group.Group.{Group};
 
 use crate::group::{Group, missing_from};
@@ -49,7 +49,7 @@ impl Line {
         number: u32,
         known: &Numbers,
     ) -> Result<bool, AllocError>
-        ensures { IfOk result (Fits (kind set mode) number known.now (groups_of self.old) (groups_of self.new)) }
+        ensures { IfOk result (KindFits (kind set mode) number known.now (groups_of self.old) (groups_of self.new)) }
     {
         let Some(place) = self.find(set, mode) else {
             return self.begin(alloc, set, mode, number);
@@ -65,7 +65,7 @@ impl Line {
         mode: Mode,
         number: u32,
     ) -> Result<bool, AllocError>
-        ensures { IfOk result (HasBegun (kind set mode) number (groups_of self.old) (groups_of self.new)) }
+        ensures { IfOk result (KindHasBegun (kind set mode) number (groups_of self.old) (groups_of self.new)) }
     {
         if self.groups.len() >= KINDS {
             return Ok(false);

@@ -7,7 +7,7 @@ use Rattle.ot_model.specs.Serial.{State, bump, either}
 use Rattle.ot_model.specs.declared.stmt.Mode.TheVariants.{Reads, Writes}
 use Rattle.ot_check.specs.Offences.{use_as, Declared}
 use Rattle.ot_race.specs.Events.{Way, event, Touches, Begins, Leaves, events, events_one, after, after_one}
-use Rattle.ot_race_ways.specs.Known.{known, may_read}
+use Rattle.ot_race_ways.specs.Known.{number_in_value, may_read}
 use Rattle.ot_race_ways.specs.Ways.{way_by, ways, ways_one, turn, turns, turns_one}
 use Rattle.ot_race_ways.specs.Numbered.{events_on, events_on_one, tasks_on, tasks_on_one, turns_on, turns_on_one, takes_first, left_for_second}
 use Rattle.ot_race_ways.proofs.BranchLemmas.{either_first, either_second, if_less, if_not_less, if_met, if_unmet, truth, taken_first, taken_second}
@@ -18,7 +18,7 @@ by_units numbers = way_by (λ s e. numbers s.units)
 
 -- the number of a condition in the statement executed as this one
 abbrev pub number_at : (ℕ → ℕ) → E → State → ℕ
-number_at numbers e s = unwrap_or (known e) (numbers s.units)
+number_at numbers e s = unwrap_or (number_in_value e) (numbers s.units)
 
 -- ---- statements executed are counted
 
@@ -89,7 +89,7 @@ mutual
   alike_one p q own me k (Fold o c e) s agree = record { events_same = refl; after_same = refl; turns_same = refl }
   alike_one p q own me k (If e a b) s agree =
       let here : number_at p e s ≡ number_at q e s =
-      ap (unwrap_or (known e)) (agree s.units (omega arith) (units_grow_one (by_units p) (If e a b) s)) in
+      ap (unwrap_or (number_in_value e)) (agree s.units (omega arith) (units_grow_one (by_units p) (If e a b) s)) in
       elim (cases_eq (number_at p e s) 0) [
         | inl is ↦ second_alike p q own me k e a b s is (sym here ∙ is)
             (alike p q own me (k + 1 + size a) b (bump 0 1 s)
@@ -148,43 +148,43 @@ no_more n = omega arith
 abbrev then_by : ℕ → ℕ → (ℕ → ℕ) → ℕ → ℕ
 then_by here number numbers t = if nat_lt here t then numbers t else number
 
-way_first : (n : ℕ) (own : Declared) (me k : ℕ) (e : E) (a b : Body) (s : State) → takes_first (known e) n (ways a) ≡ true
+way_first : (n : ℕ) (own : Declared) (me k : ℕ) (e : E) (a b : Body) (s : State) → takes_first (number_in_value e) n (ways a) ≡ true
     → HasWay n own me (k + 1) a (bump 0 1 s) → HasWayOne n own me k (If e a b) s
 way_first n own me k e a b s first h =
     let c = then_by s.units 1 h.numbers in
     let here : c s.units ≡ 1 = if_not_less s.units s.units _ _ (omega arith) in
-    let taken : number_at c e s ≢ 0 = taken_first (known e) (c s.units) n (ways a) first here in
+    let taken : number_at c e s ≢ 0 = taken_first (number_in_value e) (c s.units) n (ways a) first here in
     let l : Alike h.numbers c own me (k + 1) a (bump 0 1 s) =
     alike h.numbers c own me (k + 1) a (bump 0 1 s) (λ t from to. sym (if_less s.units t _ _ (omega (arith, from)))) in
     record {
       numbers = c;
       events_are = ap (λ es. event me k Touches (map (use_as Reads) (may_read e)) ∷ es)
           (either_first (number_at c e s) _ _ taken ∙ sym l.events_same ∙ h.events_are ∙ ap (events_on n own me (k + 1) a) (no_more s.tasks)
-          ∙ sym (if_met (takes_first (known e) n (ways a)) _ _ first));
+          ∙ sym (if_met (takes_first (number_in_value e) n (ways a)) _ _ first));
       tasks_are = ap (λ t. t.tasks) (either_first (number_at c e s) (after (by_units c) a (bump 0 1 s)) _ taken ∙ sym l.after_same) ∙ h.tasks_are
-          ∙ ap (λ t. t + tasks_on n a) (no_more s.tasks) ∙ ap (λ t. s.tasks + t) (sym (if_met (takes_first (known e) n (ways a)) _ _ first));
+          ∙ ap (λ t. t + tasks_on n a) (no_more s.tasks) ∙ ap (λ t. s.tasks + t) (sym (if_met (takes_first (number_in_value e) n (ways a)) _ _ first));
       turns_are = either_first (number_at c e s) (turn k true ∷ turns (by_units c) (k + 1) a (bump 0 1 s)) _ taken
-          ∙ ap (λ ts. turn k true ∷ ts) (sym l.turns_same ∙ h.turns_are) ∙ sym (if_met (takes_first (known e) n (ways a)) _ _ first);
+          ∙ ap (λ ts. turn k true ∷ ts) (sym l.turns_same ∙ h.turns_are) ∙ sym (if_met (takes_first (number_in_value e) n (ways a)) _ _ first);
     }
 
-way_second : (n : ℕ) (own : Declared) (me k : ℕ) (e : E) (a b : Body) (s : State) → takes_first (known e) n (ways a) ≡ false
-    → HasWay (left_for_second (known e) n (ways a)) own me (k + 1 + size a) b (bump 0 1 s) → HasWayOne n own me k (If e a b) s
+way_second : (n : ℕ) (own : Declared) (me k : ℕ) (e : E) (a b : Body) (s : State) → takes_first (number_in_value e) n (ways a) ≡ false
+    → HasWay (left_for_second (number_in_value e) n (ways a)) own me (k + 1 + size a) b (bump 0 1 s) → HasWayOne n own me k (If e a b) s
 way_second n own me k e a b s second h =
-    let left = left_for_second (known e) n (ways a) in
+    let left = left_for_second (number_in_value e) n (ways a) in
     let c = then_by s.units 0 h.numbers in
     let here : c s.units ≡ 0 = if_not_less s.units s.units _ _ (omega arith) in
-    let taken : number_at c e s ≡ 0 = taken_second (known e) (c s.units) n (ways a) second here in
+    let taken : number_at c e s ≡ 0 = taken_second (number_in_value e) (c s.units) n (ways a) second here in
     let l : Alike h.numbers c own me (k + 1 + size a) b (bump 0 1 s) =
     alike h.numbers c own me (k + 1 + size a) b (bump 0 1 s) (λ t from to. sym (if_less s.units t _ _ (omega (arith, from)))) in
     record {
       numbers = c;
       events_are = ap (λ es. event me k Touches (map (use_as Reads) (may_read e)) ∷ es)
           (either_second (number_at c e s) _ _ taken ∙ sym l.events_same ∙ h.events_are ∙ ap (events_on left own me (k + 1 + size a) b) (no_more s.tasks)
-          ∙ sym (if_unmet (takes_first (known e) n (ways a)) _ _ second));
+          ∙ sym (if_unmet (takes_first (number_in_value e) n (ways a)) _ _ second));
       tasks_are = ap (λ t. t.tasks) (either_second (number_at c e s) _ (after (by_units c) b (bump 0 1 s)) taken ∙ sym l.after_same) ∙ h.tasks_are
-          ∙ ap (λ t. t + tasks_on left b) (no_more s.tasks) ∙ ap (λ t. s.tasks + t) (sym (if_unmet (takes_first (known e) n (ways a)) _ _ second));
+          ∙ ap (λ t. t + tasks_on left b) (no_more s.tasks) ∙ ap (λ t. s.tasks + t) (sym (if_unmet (takes_first (number_in_value e) n (ways a)) _ _ second));
       turns_are = either_second (number_at c e s) _ (turn k false ∷ turns (by_units c) (k + 1 + size a) b (bump 0 1 s)) taken
-          ∙ ap (λ ts. turn k false ∷ ts) (sym l.turns_same ∙ h.turns_are) ∙ sym (if_unmet (takes_first (known e) n (ways a)) _ _ second);
+          ∙ ap (λ ts. turn k false ∷ ts) (sym l.turns_same ∙ h.turns_are) ∙ sym (if_unmet (takes_first (number_in_value e) n (ways a)) _ _ second);
     }
 
 way_next : (n : ℕ) (own : Declared) (me k : ℕ) (x : S) (rest : Body) (s : State) → (i : HasWayOne (n % ways_one x) own me k x s)
@@ -213,9 +213,9 @@ mutual
   pub way_of_one : (n : ℕ) (own : Declared) (me k : ℕ) (x : S) (s : State) → HasWayOne n own me k x s
   way_of_one n own me k (Set c e) s = record { numbers = λ t. 0; events_are = refl; tasks_are = refl; turns_are = refl }
   way_of_one n own me k (Fold o c e) s = record { numbers = λ t. 0; events_are = refl; tasks_are = refl; turns_are = refl }
-  way_of_one n own me k (If e a b) s = elim (truth (takes_first (known e) n (ways a))) [
+  way_of_one n own me k (If e a b) s = elim (truth (takes_first (number_in_value e) n (ways a))) [
     | inl first ↦ way_first n own me k e a b s first (way_of n own me (k + 1) a (bump 0 1 s))
-    | inr second ↦ way_second n own me k e a b s second (way_of (left_for_second (known e) n (ways a)) own me (k + 1 + size a) b (bump 0 1 s))
+    | inr second ↦ way_second n own me k e a b s second (way_of (left_for_second (number_in_value e) n (ways a)) own me (k + 1 + size a) b (bump 0 1 s))
   ]
   way_of_one n own me k (Task d b) s =
       let h = way_of n (Some d) (s.tasks + 1) (k + 1) b (bump 1 1 s) in

@@ -7,7 +7,7 @@ use Rattle.ot_model.specs.Tree.{E, Literal, CellAt, Apply, PickFrom, val, applie
 use Rattle.ot_model.specs.Serial.{either}
 use Rattle.ot_model.specs.declared.expr.Cell.{Cell}
 use Rattle.ot_check.proofs.Cited.{eq_apart, and_left, and_right, and_true}
-use Rattle.ot_race_ways.specs.Known.{names_none, known}
+use Rattle.ot_race_ways.specs.Known.{names_none, number_in_value}
 use Rattle.ot_race_ways.specs.Straight.{is_fixed, is_straight_if}
 use Rattle.ot_race_ways.specs.Ways.{ways_of_if}
 use Rattle.ot_race_ways.specs.Numbered.{takes_first, left_for_second}
@@ -53,7 +53,7 @@ unwrap_if true n m same = same refl
 unwrap_if false n m same = refl
 
 -- where it is known it is what the run has
-pub known_in_run : (look : Cell → Option ℕ) (e : E) → unwrap_or (known e) (val look e) ≡ val look e
+pub known_in_run : (look : Cell → Option ℕ) (e : E) → unwrap_or (number_in_value e) (val look e) ≡ val look e
 known_in_run look e = unwrap_if (names_none e) (val (λ c. None) e) (val look e) (same_number (λ c. None) look e)
 
 pub needs_none : (look : Cell → Option ℕ) (e : E) → names_none e ≡ true → HasAll look e
@@ -74,7 +74,7 @@ picks_none (PickFrom s e) h = cc
 abbrev pub number_of : E → ℕ
 number_of e = val (λ c. None) e
 
-pub known_number : (e : E) (n : ℕ) → names_none e ≡ true → unwrap_or (known e) n ≡ number_of e
+pub known_number : (e : E) (n : ℕ) → names_none e ≡ true → unwrap_or (number_in_value e) n ≡ number_of e
 known_number e n h = ap (λ b. unwrap_or (if b then Some (number_of e) else None) n) h
 
 -- ---- an `if` that is straight
@@ -83,10 +83,10 @@ knows : (b : Bool) (n : ℕ) (one two : Bool) → is_straight_if (if b then Some
 knows true n one two h = refl
 knows false n one two h = cc
 
-pub straight_knows : (e : E) (one two : Bool) → is_straight_if (known e) one two ≡ true → names_none e ≡ true
+pub straight_knows : (e : E) (one two : Bool) → is_straight_if (number_in_value e) one two ≡ true → names_none e ≡ true
 straight_knows e one two h = knows (names_none e) (number_of e) one two h
 
-pub straight_takes : (e : E) (one two : Bool) → is_straight_if (known e) one two ≡ true → either (number_of e) one two ≡ true
+pub straight_takes : (e : E) (one two : Bool) → is_straight_if (number_in_value e) one two ≡ true → either (number_of e) one two ≡ true
 straight_takes e one two h =
     ap (λ b. is_straight_if (if b then Some (number_of e) else None) one two) (sym (straight_knows e one two h)) ∙ h
 

@@ -13,7 +13,7 @@ use Rattle.ot_model.specs.declared.stmt.Mode.TheVariants.{Reads, Writes}
 use Rattle.ot_model.specs.declared.stmt.Use.{Use}
 use Rattle.ot_check.specs.Offences.{use_as, Declared}
 use Rattle.ot_race.specs.Events.{Event, event, Touches, Begins, Leaves}
-use Rattle.ot_race_ways.specs.Known.{known, may_read}
+use Rattle.ot_race_ways.specs.Known.{number_in_value, may_read}
 use Rattle.ot_race_ways.specs.Ways.{ways, ways_one, turn}
 use Rattle.ot_race_ways.specs.Numbered.{events_on, events_on_one, tasks_on, tasks_on_one, turns_on, turns_on_one, takes_first, left_for_second}
 use Rattle.ot_race_ways.specs.declared.verdict.Turn.{Turn}
@@ -84,45 +84,45 @@ tasks_loop t u all left w x more b split so_far is ways_are =
 
 pub if_first : (es more new : List Event) (own : Declared) (me k n : ℕ) (e : E) (a b : Body) (t u : ℕ) (uses : List Use) (s : S)
     → s ≡ If e a b → more ≡ es ++ event me k Touches uses ∷ [] → uses ≡ map (use_as Reads) (may_read e)
-    → new ≡ more ++ events_on n own me (k + 1) a u → u ≡ t → takes_first (known e) n (ways a) ≡ true → new ≡ es ++ events_on_one n own me k s t
+    → new ≡ more ++ events_on n own me (k + 1) a u → u ≡ t → takes_first (number_in_value e) n (ways a) ≡ true → new ≡ es ++ events_on_one n own me k s t
 if_first es more new own me k n e a b t u uses s is put reads ran same first =
-    let left = left_for_second (known e) n (ways a) in
+    let left = left_for_second (number_in_value e) n (ways a) in
     let taken : events_on n own me (k + 1) a u
-    ≡ (if takes_first (known e) n (ways a) then events_on n own me (k + 1) a t else events_on left own me (k + 1 + size a) b t) =
-    ap (events_on n own me (k + 1) a) same ∙ sym (if_met (takes_first (known e) n (ways a)) _ _ first) in
+    ≡ (if takes_first (number_in_value e) n (ways a) then events_on n own me (k + 1) a t else events_on left own me (k + 1 + size a) b t) =
+    ap (events_on n own me (k + 1) a) same ∙ sym (if_met (takes_first (number_in_value e) n (ways a)) _ _ first) in
     join_events es more new _ _ put ran ∙ ap (λ l. es ++ event me k Touches uses ∷ l) taken
-    ∙ ap (λ u. es ++ event me k Touches u ∷ (if takes_first (known e) n (ways a) then events_on n own me (k + 1) a t else events_on left own me (k + 1 + size a) b t)) reads
+    ∙ ap (λ u. es ++ event me k Touches u ∷ (if takes_first (number_in_value e) n (ways a) then events_on n own me (k + 1) a t else events_on left own me (k + 1 + size a) b t)) reads
     ∙ sym (ap (λ s. es ++ events_on_one n own me k s t) is)
 
 pub if_second : (es more new : List Event) (own : Declared) (me k n m place : ℕ) (e : E) (a b : Body) (t u : ℕ) (uses : List Use) (s : S)
     → s ≡ If e a b → more ≡ es ++ event me k Touches uses ∷ [] → uses ≡ map (use_as Reads) (may_read e)
-    → new ≡ more ++ events_on m own me place b u → u ≡ t → place ≡ k + 1 + size a → m ≡ left_for_second (known e) n (ways a)
-    → takes_first (known e) n (ways a) ≡ false → new ≡ es ++ events_on_one n own me k s t
+    → new ≡ more ++ events_on m own me place b u → u ≡ t → place ≡ k + 1 + size a → m ≡ left_for_second (number_in_value e) n (ways a)
+    → takes_first (number_in_value e) n (ways a) ≡ false → new ≡ es ++ events_on_one n own me k s t
 if_second es more new own me k n m place e a b t u uses s is put reads ran same place_is left_is second =
-    let left = left_for_second (known e) n (ways a) in
+    let left = left_for_second (number_in_value e) n (ways a) in
     let taken : events_on m own me place b u
-    ≡ (if takes_first (known e) n (ways a) then events_on n own me (k + 1) a t else events_on left own me (k + 1 + size a) b t) =
+    ≡ (if takes_first (number_in_value e) n (ways a) then events_on n own me (k + 1) a t else events_on left own me (k + 1 + size a) b t) =
     ap (events_on m own me place b) same ∙ ap (λ v. events_on v own me place b t) left_is ∙ ap (λ p. events_on left own me p b t) place_is
-    ∙ sym (if_unmet (takes_first (known e) n (ways a)) _ _ second) in
+    ∙ sym (if_unmet (takes_first (number_in_value e) n (ways a)) _ _ second) in
     join_events es more new _ _ put ran ∙ ap (λ l. es ++ event me k Touches uses ∷ l) taken
-    ∙ ap (λ u. es ++ event me k Touches u ∷ (if takes_first (known e) n (ways a) then events_on n own me (k + 1) a t else events_on left own me (k + 1 + size a) b t)) reads
+    ∙ ap (λ u. es ++ event me k Touches u ∷ (if takes_first (number_in_value e) n (ways a) then events_on n own me (k + 1) a t else events_on left own me (k + 1 + size a) b t)) reads
     ∙ sym (ap (λ s. es ++ events_on_one n own me k s t) is)
 
 pub turns_first : (ts more new : List Turn) (k n : ℕ) (first : Bool) (e : E) (a b : Body) (s : S) → s ≡ If e a b → more ≡ ts ++ turn k first ∷ []
-    → first ≡ true → new ≡ more ++ turns_on n (k + 1) a → takes_first (known e) n (ways a) ≡ true → new ≡ ts ++ turns_on_one n k s
+    → first ≡ true → new ≡ more ++ turns_on n (k + 1) a → takes_first (number_in_value e) n (ways a) ≡ true → new ≡ ts ++ turns_on_one n k s
 turns_first ts more new k n first e a b s is put told ran taken =
     join_events ts more new _ _ put ran ∙ ap (λ f. ts ++ turn k f ∷ turns_on n (k + 1) a) told
-    ∙ ap (λ l. ts ++ l) (sym (if_met (takes_first (known e) n (ways a)) (turn k true ∷ turns_on n (k + 1) a) _ taken))
+    ∙ ap (λ l. ts ++ l) (sym (if_met (takes_first (number_in_value e) n (ways a)) (turn k true ∷ turns_on n (k + 1) a) _ taken))
     ∙ sym (ap (λ s. ts ++ turns_on_one n k s) is)
 
 pub turns_second : (ts more new : List Turn) (k n m place : ℕ) (first : Bool) (e : E) (a b : Body) (s : S) → s ≡ If e a b → more ≡ ts ++ turn k first ∷ []
-    → first ≡ false → new ≡ more ++ turns_on m place b → place ≡ k + 1 + size a → m ≡ left_for_second (known e) n (ways a)
-    → takes_first (known e) n (ways a) ≡ false → new ≡ ts ++ turns_on_one n k s
+    → first ≡ false → new ≡ more ++ turns_on m place b → place ≡ k + 1 + size a → m ≡ left_for_second (number_in_value e) n (ways a)
+    → takes_first (number_in_value e) n (ways a) ≡ false → new ≡ ts ++ turns_on_one n k s
 turns_second ts more new k n m place first e a b s is put told ran place_is left_is taken =
-    let left = left_for_second (known e) n (ways a) in
+    let left = left_for_second (number_in_value e) n (ways a) in
     join_events ts more new _ _ put ran ∙ ap (λ f. ts ++ turn k f ∷ turns_on m place b) told
     ∙ ap (λ v. ts ++ turn k false ∷ turns_on v place b) left_is ∙ ap (λ p. ts ++ turn k false ∷ turns_on left p b) place_is
-    ∙ ap (λ l. ts ++ l) (sym (if_unmet (takes_first (known e) n (ways a)) _ (turn k false ∷ turns_on left (k + 1 + size a) b) taken))
+    ∙ ap (λ l. ts ++ l) (sym (if_unmet (takes_first (number_in_value e) n (ways a)) _ (turn k false ∷ turns_on left (k + 1 + size a) b) taken))
     ∙ sym (ap (λ s. ts ++ turns_on_one n k s) is)
 
 pub task_begins : (es more new : List Event) (own : Declared) (me k n child : ℕ) (d : List Use) (b : Body) (t u : ℕ) (uses : List Use) (s : S)

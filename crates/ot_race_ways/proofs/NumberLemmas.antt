@@ -8,7 +8,7 @@ use Rattle.ot_model.specs.Serial.{State, bump}
 use Rattle.ot_model.specs.declared.stmt.Mode.TheVariants.{Reads, Writes}
 use Rattle.ot_check.specs.Offences.{use_as, Declared}
 use Rattle.ot_race.specs.Events.{event, Touches, Begins, Leaves, events, events_one, after, after_one}
-use Rattle.ot_race_ways.specs.Known.{known, may_read}
+use Rattle.ot_race_ways.specs.Known.{number_in_value, may_read}
 use Rattle.ot_race_ways.specs.Ways.{way_by, ways, ways_one}
 use Rattle.ot_race_ways.specs.Numbered.{events_on, events_on_one, tasks_on, tasks_on_one, takes_first, left_for_second}
 use Rattle.ot_race_ways.proofs.BranchLemmas.{either_first, either_second, if_met, if_unmet, first_taken, first_below, number_of_second, second_taken, second_left, second_below}
@@ -28,39 +28,39 @@ pub record HasNumber (condition : State → E → ℕ) (own : Declared) (me k : 
 add_none : (n : ℕ) → n + 0 ≡ n
 add_none n = omega arith
 
-number_first : (condition : State → E → ℕ) (own : Declared) (me k : ℕ) (e : E) (a b : Body) (s : State) → unwrap_or (known e) (condition s e) ≢ 0
+number_first : (condition : State → E → ℕ) (own : Declared) (me k : ℕ) (e : E) (a b : Body) (s : State) → unwrap_or (number_in_value e) (condition s e) ≢ 0
     → HasNumber condition own me (k + 1) a (bump 0 1 s) → HasNumberOne condition own me k (If e a b) s
 number_first condition own me k e a b s taken h =
     let way = way_by condition in
-    let number = unwrap_or (known e) (condition s e) in
-    let first : takes_first (known e) h.n (ways a) ≡ true = first_taken (known e) (condition s e) h.n (ways a) taken h.below in
+    let number = unwrap_or (number_in_value e) (condition s e) in
+    let first : takes_first (number_in_value e) h.n (ways a) ≡ true = first_taken (number_in_value e) (condition s e) h.n (ways a) taken h.below in
     record {
       n = h.n;
-      below = first_below (known e) (condition s e) h.n (ways a) (ways b) taken h.below;
+      below = first_below (number_in_value e) (condition s e) h.n (ways a) (ways b) taken h.below;
       events_are = ap (λ es. event me k Touches (map (use_as Reads) (may_read e)) ∷ es)
           (either_first number _ _ taken ∙ h.events_are ∙ ap (events_on h.n own me (k + 1) a) (add_none s.tasks)
-          ∙ sym (if_met (takes_first (known e) h.n (ways a)) _ _ first));
+          ∙ sym (if_met (takes_first (number_in_value e) h.n (ways a)) _ _ first));
       tasks_are = ap (λ t. t.tasks) (either_first number (after way a (bump 0 1 s)) _ taken) ∙ h.tasks_are
-          ∙ ap (λ t. t + tasks_on h.n a) (add_none s.tasks) ∙ ap (λ t. s.tasks + t) (sym (if_met (takes_first (known e) h.n (ways a)) _ _ first));
+          ∙ ap (λ t. t + tasks_on h.n a) (add_none s.tasks) ∙ ap (λ t. s.tasks + t) (sym (if_met (takes_first (number_in_value e) h.n (ways a)) _ _ first));
     }
 
-number_second : (condition : State → E → ℕ) (own : Declared) (me k : ℕ) (e : E) (a b : Body) (s : State) → unwrap_or (known e) (condition s e) ≡ 0
+number_second : (condition : State → E → ℕ) (own : Declared) (me k : ℕ) (e : E) (a b : Body) (s : State) → unwrap_or (number_in_value e) (condition s e) ≡ 0
     → HasNumber condition own me (k + 1 + size a) b (bump 0 1 s) → HasNumberOne condition own me k (If e a b) s
 number_second condition own me k e a b s taken h =
     let way = way_by condition in
-    let number = unwrap_or (known e) (condition s e) in
-    let n = number_of_second (known e) (ways a) h.n in
-    let second : takes_first (known e) n (ways a) ≡ false = second_taken (known e) (condition s e) h.n (ways a) taken in
-    let left : h.n ≡ left_for_second (known e) n (ways a) = second_left (known e) h.n (ways a) in
+    let number = unwrap_or (number_in_value e) (condition s e) in
+    let n = number_of_second (number_in_value e) (ways a) h.n in
+    let second : takes_first (number_in_value e) n (ways a) ≡ false = second_taken (number_in_value e) (condition s e) h.n (ways a) taken in
+    let left : h.n ≡ left_for_second (number_in_value e) n (ways a) = second_left (number_in_value e) h.n (ways a) in
     record {
       n = n;
-      below = second_below (known e) (condition s e) h.n (ways a) (ways b) taken h.below;
+      below = second_below (number_in_value e) (condition s e) h.n (ways a) (ways b) taken h.below;
       events_are = ap (λ es. event me k Touches (map (use_as Reads) (may_read e)) ∷ es)
           (either_second number _ _ taken ∙ h.events_are ∙ ap (events_on h.n own me (k + 1 + size a) b) (add_none s.tasks)
-          ∙ ap (λ m. events_on m own me (k + 1 + size a) b s.tasks) left ∙ sym (if_unmet (takes_first (known e) n (ways a)) _ _ second));
+          ∙ ap (λ m. events_on m own me (k + 1 + size a) b s.tasks) left ∙ sym (if_unmet (takes_first (number_in_value e) n (ways a)) _ _ second));
       tasks_are = ap (λ t. t.tasks) (either_second number _ (after way b (bump 0 1 s)) taken) ∙ h.tasks_are
           ∙ ap (λ t. t + tasks_on h.n b) (add_none s.tasks) ∙ ap (λ m. s.tasks + tasks_on m b) left
-          ∙ ap (λ t. s.tasks + t) (sym (if_unmet (takes_first (known e) n (ways a)) _ _ second));
+          ∙ ap (λ t. s.tasks + t) (sym (if_unmet (takes_first (number_in_value e) n (ways a)) _ _ second));
     }
 
 number_next : (condition : State → E → ℕ) (own : Declared) (me k : ℕ) (x : S) (rest : Body) (s : State) → (i : HasNumberOne condition own me k x s)
@@ -89,7 +89,7 @@ mutual
   pub number_one : (condition : State → E → ℕ) (own : Declared) (me k : ℕ) (x : S) (s : State) → HasNumberOne condition own me k x s
   number_one condition own me k (Set c e) s = record { n = 0; below = omega arith; events_are = refl; tasks_are = refl }
   number_one condition own me k (Fold o c e) s = record { n = 0; below = omega arith; events_are = refl; tasks_are = refl }
-  number_one condition own me k (If e a b) s = elim (cases_eq (unwrap_or (known e) (condition s e)) 0) [
+  number_one condition own me k (If e a b) s = elim (cases_eq (unwrap_or (number_in_value e) (condition s e)) 0) [
     | inl taken ↦ number_second condition own me k e a b s taken (number condition own me (k + 1 + size a) b (bump 0 1 s))
     | inr taken ↦ number_first condition own me k e a b s taken (number condition own me (k + 1) a (bump 0 1 s))
   ]

@@ -16,7 +16,7 @@ use Rattle.ot_model.specs.declared.stmt.Use.{Use}
 use Rattle.ot_check.specs.Offences.{use_as, Declared}
 use Rattle.ot_check.proofs.Cited.{eq_apart}
 use Rattle.ot_race.specs.Events.{Way, event, Begins, Leaves, events, events_one, after, after_one, reads_now, this_way}
-use Rattle.ot_race_ways.specs.Known.{known, choices, may_read}
+use Rattle.ot_race_ways.specs.Known.{number_in_value, choices, may_read}
 use Rattle.ot_race_ways.specs.Ways.{way_by}
 use Rattle.ot_race_ways.proofs.BranchLemmas.{known_in_run}
 use Rattle.ot_race_order.proofs.LikeLemmas.{AreLike, like_itself, like_append, like_length, like_if, first_of_list, later_of_list}
@@ -69,9 +69,9 @@ reads_named lens look (Apply o a b) h c r = elim (Contains-append_cases (reads_n
   | inr two ↦ Contains-append_right (may_read a) (may_read b) c (reads_named lens look b h.1 c two)
 ]
 reads_named lens look (PickFrom s e) h c r = elim (Contains-append_cases (reads_now look e) (cell_at s (val look e % s.len) ∷ []) c r) [
-  | inl one ↦ Contains-append_right (choices s (known e)) (may_read e) c (reads_named lens look e h.1 c one)
-  | inr two ↦ Contains-append_left (choices s (known e)) (may_read e) c
-      (subst (Contains (choices s (known e))) (only (cell_at s (val look e % s.len)) c two) (chosen s (known e) (val look e) h.0.some (known_in_run look e)))
+  | inl one ↦ Contains-append_right (choices s (number_in_value e)) (may_read e) c (reads_named lens look e h.1 c one)
+  | inr two ↦ Contains-append_left (choices s (number_in_value e)) (may_read e) c
+      (subst (Contains (choices s (number_in_value e))) (only (cell_at s (val look e % s.len)) c two) (chosen s (number_in_value e) (val look e) h.0.some (known_in_run look e)))
 ]
 
 uses_within : (lens : List ℕ) (look : Cell → Option ℕ) (e : E) (more : List Use) → ValueNamedIn lens e → (u : Use)
@@ -110,8 +110,8 @@ may_named (Apply o a b) c r = elim (Contains-append_cases (may_read a) (may_read
   | inl one ↦ Contains-append_left (cells_named a) (cells_named b) c (may_named a c one)
   | inr two ↦ Contains-append_right (cells_named a) (cells_named b) c (may_named b c two)
 ]
-may_named (PickFrom s e) c r = elim (Contains-append_cases (choices s (known e)) (may_read e) c r) [
-  | inl one ↦ Contains-append_left (cells_of s) (cells_named e) c (choice_named s (known e) c one)
+may_named (PickFrom s e) c r = elim (Contains-append_cases (choices s (number_in_value e)) (may_read e) c r) [
+  | inl one ↦ Contains-append_left (cells_of s) (cells_named e) c (choice_named s (number_in_value e) c one)
   | inr two ↦ Contains-append_right (cells_of s) (cells_named e) c (may_named e c two)
 ]
 
@@ -129,9 +129,9 @@ mutual
   after_one_same (Fold o c e) s = refl
   after_one_same (If e a b) s =
       let n = val (cell_of s.cells) e in
-      let same : n ≡ unwrap_or (known e) n = sym (known_in_run (cell_of s.cells) e) in
+      let same : n ≡ unwrap_or (number_in_value e) n = sym (known_in_run (cell_of s.cells) e) in
       ap (λ m. either m (after this_way a (bump 0 1 s)) (after this_way b (bump 0 1 s))) same
-      ∙ ap (λ t. either (unwrap_or (known e) n) t (after this_way b (bump 0 1 s))) (after_same a (bump 0 1 s)) ∙ ap (either (unwrap_or (known e) n) (after run_as_way a (bump 0 1 s))) (after_same b (bump 0 1 s))
+      ∙ ap (λ t. either (unwrap_or (number_in_value e) n) t (after this_way b (bump 0 1 s))) (after_same a (bump 0 1 s)) ∙ ap (either (unwrap_or (number_in_value e) n) (after run_as_way a (bump 0 1 s))) (after_same b (bump 0 1 s))
   after_one_same (Task d b) s = after_same b (bump 1 1 s)
   after_one_same (Wait w) s = refl
   after_one_same (Group o cs b) s = after_same b (bump 0 1 s)

@@ -13,7 +13,7 @@ use Rattle.ot_race.specs.Races.{NothingRaces}
 use Rattle.ot_race_order.specs.Orders.{ordered_by}
 use Rattle.ot_race_order.specs.declared.order.Order.{Order}
 use Rattle.ot_check.proofs.Cited.{eq_apart}
-use Rattle.ot_race_ways.specs.Known.{names_none, known, choices, may_read}
+use Rattle.ot_race_ways.specs.Known.{names_none, number_in_value, choices, may_read}
 use Rattle.ot_race_ways.specs.Straight.{is_fixed, is_straight, is_straight_one}
 use Rattle.ot_race_ways.specs.Verdicts.{NoWayRaces}
 use Rattle.ot_race_ways.specs.Ways.{way_by}
@@ -79,7 +79,7 @@ mutual
       let none : names_none e ≡ true = straight_knows e (is_straight a) (is_straight b) h in
       let body : either (number_of e) (is_straight a) (is_straight b) ≡ true = straight_takes e (is_straight a) (is_straight b) h in
       let run : val (cell_of s.cells) e ≡ number_of e = same_number (cell_of s.cells) (λ c. None) e none in
-      let on : unwrap_or (known e) (condition t e) ≡ number_of e = known_number e (condition t e) none in
+      let on : unwrap_or (number_in_value e) (condition t e) ≡ number_of e = known_number e (condition t e) none in
       let one = events this_way own me (k + 1) a (bump 0 1 s) in
       let two = events this_way own me (k + 1 + size a) b (bump 0 1 s) in
       let reads = ap (λ cs. event me k Touches (map (use_as Reads) cs) ∷ either (val (cell_of s.cells) e) one two)
@@ -90,17 +90,17 @@ mutual
             let i = same condition own me (k + 1 + size a) b (bump 0 1 s) (bump 0 1 t) (sym (either_second (number_of e) _ _ is) ∙ body) (more_tasks s.tasks t.tasks 0 tasks) in
             record {
               events_same = reads ∙ ap (λ es. test ∷ es) (either_second (val (cell_of s.cells) e) one two (run ∙ is) ∙ i.events_same
-                  ∙ sym (either_second (unwrap_or (known e) (condition t e)) (events way own me (k + 1) a (bump 0 1 t)) _ (on ∙ is)));
+                  ∙ sym (either_second (unwrap_or (number_in_value e) (condition t e)) (events way own me (k + 1) a (bump 0 1 t)) _ (on ∙ is)));
               tasks_same = ap (λ t. t.tasks) (either_second (val (cell_of s.cells) e) (after this_way a (bump 0 1 s)) _ (run ∙ is)) ∙ i.tasks_same
-                  ∙ sym (ap (λ t. t.tasks) (either_second (unwrap_or (known e) (condition t e)) (after way a (bump 0 1 t)) (after way b (bump 0 1 t)) (on ∙ is)));
+                  ∙ sym (ap (λ t. t.tasks) (either_second (unwrap_or (number_in_value e) (condition t e)) (after way a (bump 0 1 t)) (after way b (bump 0 1 t)) (on ∙ is)));
             }
         | inr apart ↦
             let i = same condition own me (k + 1) a (bump 0 1 s) (bump 0 1 t) (sym (either_first (number_of e) _ _ apart) ∙ body) (more_tasks s.tasks t.tasks 0 tasks) in
             record {
               events_same = reads ∙ ap (λ es. test ∷ es) (either_first (val (cell_of s.cells) e) one two (λ z. apart (sym run ∙ z)) ∙ i.events_same
-                  ∙ sym (either_first (unwrap_or (known e) (condition t e)) _ (events way own me (k + 1 + size a) b (bump 0 1 t)) (λ z. apart (sym on ∙ z))));
+                  ∙ sym (either_first (unwrap_or (number_in_value e) (condition t e)) _ (events way own me (k + 1 + size a) b (bump 0 1 t)) (λ z. apart (sym on ∙ z))));
               tasks_same = ap (λ t. t.tasks) (either_first (val (cell_of s.cells) e) _ (after this_way b (bump 0 1 s)) (λ z. apart (sym run ∙ z))) ∙ i.tasks_same
-                  ∙ sym (ap (λ t. t.tasks) (either_first (unwrap_or (known e) (condition t e)) (after way a (bump 0 1 t)) (after way b (bump 0 1 t)) (λ z. apart (sym on ∙ z))));
+                  ∙ sym (ap (λ t. t.tasks) (either_first (unwrap_or (number_in_value e) (condition t e)) (after way a (bump 0 1 t)) (after way b (bump 0 1 t)) (λ z. apart (sym on ∙ z))));
             }
       ]
   same_one condition own me k (Task d b) s t h tasks =

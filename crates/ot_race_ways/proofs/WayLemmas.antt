@@ -4,7 +4,7 @@ use Rattle.std.proofs.lemmas.Bool.{cases_eq}
 use Rattle.std.specs.Prelude.{nat_lt, Option, Some, None, min}
 use Rattle.std.proofs.Math.Nat.{mul-pos, le-mul_of_pos_right}
 use Rattle.ot_model.specs.Tree.{E, S, Set, Fold, If, Task, Wait, Group, Body, End, Next}
-use Rattle.ot_race_ways.specs.Known.{known}
+use Rattle.ot_race_ways.specs.Known.{number_in_value}
 use Rattle.ot_race_ways.specs.Numbered.{takes_first, left_for_second}
 use Rattle.ot_race_ways.specs.Ways.{ways, ways_one, ways_of_if}
 use Rattle.ot_race_ways.proofs.BranchLemmas.{either_first, either_second}
@@ -20,7 +20,7 @@ mutual
   pub some_way_one : (x : S) → 0 < ways_one x
   some_way_one (Set c e) = omega arith
   some_way_one (Fold o c e) = omega arith
-  some_way_one (If e a b) = some_of_if (known e) (ways a) (ways b) (some_way a) (some_way b)
+  some_way_one (If e a b) = some_of_if (number_in_value e) (ways a) (ways b) (some_way a) (some_way b)
   some_way_one (Task d b) = some_way b
   some_way_one (Wait w) = omega arith
   some_way_one (Group o cs b) = some_way b
@@ -76,7 +76,7 @@ counted_few w n is few = omega (arith, is, few)
 
 -- ---- an `if` with so many ways through its bodies
 
-pub few_of_if : (e : E) (a b : Body) (x : S) → x ≡ If e a b → ways_one x < 1025 → ways_of_if (known e) (ways a) (ways b) < 1025
+pub few_of_if : (e : E) (a b : Body) (x : S) → x ≡ If e a b → ways_one x < 1025 → ways_of_if (number_in_value e) (ways a) (ways b) < 1025
 few_of_if e a b x is few = subst (λ n. n < 1025) (ap ways_one is) few
 
 -- where they are few it doesn't matter that those of its first body are counted up to 1025

@@ -12,8 +12,8 @@ names_none (Apply o a b) = names_none a && names_none b
 names_none (PickFrom s e) = false
 
 -- the number of a value that names no cell
-abbrev pub known : E → Option ℕ
-known e = if names_none e then Some (val (λ c. None) e) else None
+abbrev pub number_in_value : E → Option ℕ
+number_in_value e = if names_none e then Some (val (λ c. None) e) else None
 
 -- the cells that a pick may choose: the one at its value where that is known, or else each of its section
 abbrev pub choices : Section → Option ℕ → List Cell
@@ -25,4 +25,4 @@ abbrev pub may_read : E → List Cell
 may_read (Literal n) = []
 may_read (CellAt c) = c ∷ []
 may_read (Apply o a b) = may_read a ++ may_read b
-may_read (PickFrom s e) = choices s (known e) ++ may_read e
+may_read (PickFrom s e) = choices s (number_in_value e) ++ may_read e

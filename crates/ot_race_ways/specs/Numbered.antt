@@ -5,7 +5,7 @@ use Rattle.ot_model.specs.Tree.{S, Set, Fold, If, Task, Wait, Group, Body, End, 
 use Rattle.ot_model.specs.declared.stmt.Mode.TheVariants.{Reads, Writes}
 use Rattle.ot_check.specs.Offences.{use_as, Declared}
 use Rattle.ot_race.specs.Events.{Event, event, Touches, Begins, Awaits, Leaves, fold_as}
-use Rattle.ot_race_ways.specs.Known.{known, may_read}
+use Rattle.ot_race_ways.specs.Known.{number_in_value, may_read}
 use Rattle.ot_race_ways.specs.Ways.{ways, ways_one, turn}
 use Rattle.ot_race_ways.specs.declared.verdict.Turn.{Turn}
 
@@ -27,7 +27,7 @@ abbrev mutual
   pub tasks_on_one : ℕ → S → ℕ
   tasks_on_one n (Set c e) = 0
   tasks_on_one n (Fold o c e) = 0
-  tasks_on_one n (If e a b) = if takes_first (known e) n (ways a) then tasks_on n a else tasks_on (left_for_second (known e) n (ways a)) b
+  tasks_on_one n (If e a b) = if takes_first (number_in_value e) n (ways a) then tasks_on n a else tasks_on (left_for_second (number_in_value e) n (ways a)) b
   tasks_on_one n (Task d b) = 1 + tasks_on n b
   tasks_on_one n (Wait w) = 0
   tasks_on_one n (Group o cs b) = tasks_on n b
@@ -40,7 +40,7 @@ abbrev mutual
   pub turns_on_one : ℕ → ℕ → S → List Turn
   turns_on_one n k (Set c e) = []
   turns_on_one n k (Fold o c e) = []
-  turns_on_one n k (If e a b) = if takes_first (known e) n (ways a) then turn k true ∷ turns_on n (k + 1) a else turn k false ∷ turns_on (left_for_second (known e) n (ways a)) (k + 1 + size a) b
+  turns_on_one n k (If e a b) = if takes_first (number_in_value e) n (ways a) then turn k true ∷ turns_on n (k + 1) a else turn k false ∷ turns_on (left_for_second (number_in_value e) n (ways a)) (k + 1 + size a) b
   turns_on_one n k (Task d b) = turns_on n (k + 1) b
   turns_on_one n k (Wait w) = []
   turns_on_one n k (Group o cs b) = turns_on n (k + 1) b
@@ -56,7 +56,7 @@ abbrev mutual
   events_on_one n own me k (Fold o c e) tasks = event me k Touches (map (use_as Reads) (may_read e) ++ use_as (fold_as own o c) c ∷ []) ∷ []
   events_on_one n own me k (If e a b) tasks =
       event me k Touches (map (use_as Reads) (may_read e))
-      ∷ (if takes_first (known e) n (ways a) then events_on n own me (k + 1) a tasks else events_on (left_for_second (known e) n (ways a)) own me (k + 1 + size a) b tasks)
+      ∷ (if takes_first (number_in_value e) n (ways a) then events_on n own me (k + 1) a tasks else events_on (left_for_second (number_in_value e) n (ways a)) own me (k + 1 + size a) b tasks)
   events_on_one n own me k (Task d b) tasks = event (tasks + 1) k (Begins me d) [] ∷ events_on n (Some d) (tasks + 1) (k + 1) b (tasks + 1)
   events_on_one n own me k (Wait w) tasks = event me k (Awaits w) [] ∷ []
   events_on_one n own me k (Group o cs b) tasks =

@@ -3,7 +3,7 @@
 use Rattle.std.specs.Prelude.{ℕ, nat_lt, Bool, true, false, ◌&&◌, Option, Some, None}
 use Rattle.ot_model.specs.Serial.{either}
 use Rattle.ot_model.specs.Tree.{E, Literal, CellAt, Apply, PickFrom, S, Set, Fold, If, Task, Wait, Group, Body, End, Next}
-use Rattle.ot_race_ways.specs.Known.{names_none, known}
+use Rattle.ot_race_ways.specs.Known.{names_none, number_in_value}
 
 -- whether a value reads the same cells whatever they hold: no pick is in it but one whose value names no cell, from a section of some
 abbrev pub is_fixed : E → Bool
@@ -22,7 +22,7 @@ abbrev mutual
   pub is_straight_one : S → Bool
   is_straight_one (Set c e) = is_fixed e
   is_straight_one (Fold o c e) = is_fixed e
-  is_straight_one (If e a b) = is_straight_if (known e) (is_straight a) (is_straight b)
+  is_straight_one (If e a b) = is_straight_if (number_in_value e) (is_straight a) (is_straight b)
   is_straight_one (Task d b) = is_straight b
   is_straight_one (Wait w) = true
   is_straight_one (Group o cs b) = is_straight b

@@ -3,13 +3,13 @@ use Rattle.std.specs.Prelude.{ℕ, ◌+◌, ◌*◌, ◌++◌, Bool, true, false
 use Rattle.ot_model.specs.Tree.{E, S, Set, Fold, If, Task, Wait, Group, Body, End, Next, size, size_one}
 use Rattle.ot_model.specs.Serial.{State, bump, either}
 use Rattle.ot_race.specs.Events.{Way, after_one}
-use Rattle.ot_race_ways.specs.Known.{known, may_read}
+use Rattle.ot_race_ways.specs.Known.{number_in_value, may_read}
 use Rattle.ot_race_ways.specs.declared.verdict.Turn.{Turn}
 
 -- The way on which conditions have these numbers, whatever the cells hold; one that names no cell has its own. A value reads each
 -- cell that it may read: a pick whose value names no cell one, and another its whole section.
 abbrev pub way_by : (State → E → ℕ) → Way
-way_by condition = record { condition = λ s e. unwrap_or (known e) (condition s e); reads = λ s e. may_read e }
+way_by condition = record { condition = λ s e. unwrap_or (number_in_value e) (condition s e); reads = λ s e. may_read e }
 
 -- how many ways there are through an `if` with so many through its bodies; one whose condition is known takes the body that it says
 abbrev pub ways_of_if : Option ℕ → ℕ → ℕ → ℕ
@@ -21,7 +21,7 @@ abbrev mutual
   pub ways_one : S → ℕ
   ways_one (Set c e) = 1
   ways_one (Fold o c e) = 1
-  ways_one (If e a b) = ways_of_if (known e) (ways a) (ways b)
+  ways_one (If e a b) = ways_of_if (number_in_value e) (ways a) (ways b)
   ways_one (Task d b) = ways b
   ways_one (Wait w) = 1
   ways_one (Group o cs b) = ways b

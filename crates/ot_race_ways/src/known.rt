@@ -2,13 +2,13 @@
 ghost use Rattle.std.specs.Prelude.{◌≡◌, ◌==◌, not, true, false, ◌<◌, None};
 ghost use Rattle.ot_model.specs.View.{expr_of};
 ghost use Rattle.ot_model.specs.Tree.{val};
-ghost use Rattle.ot_race_ways.specs.Known.{known, names_none};
+ghost use Rattle.ot_race_ways.specs.Known.{number_in_value, names_none};
 
 use ot_model::{Cell, Expr, Look, value};
 
 /// The number of a value that names no cell. Whatever cells hold, it is the same. Of any other value it is None.
 pub fn known_number(expr: &Expr) -> Option<u64>
-    ensures { result ≡ known (expr_of expr.now) }
+    ensures { result ≡ number_in_value (expr_of expr.now) }
 {
     if names_none(expr) {
         Some(number_of(expr))

@@ -3,7 +3,7 @@ use Rattle.std.proofs.Common.{◌≡◌, ◌≢◌, ℕ, suc, ◌+◌, ◌<◌, 
 use Rattle.std.specs.Prelude.{All, Option, Some, None, Result, Ok, Err, ⊤, OnOk, OnErr, IfOk, IfErr}
 use Rattle.std.specs.Io.KnownBytes.{Appends, Consumes, IsAtEnd}
 use Rattle.std.proofs.KnownBytes.{Appends-nil}
-use Rattle.ot_lines.specs.Lines.{Flow, next_count, count_after, Hearing, HasNoEnd, opened, IsIdle, ended, IsLine, Went, Through, Ends, Listens, Stops as StopsAt}
+use Rattle.ot_lines.specs.Lines.{Flow, next_count, count_after, Hearing, HasNoEnd, hearing_opened, IsIdle, lines_ended, IsLine, Went, Through, Ends, Listens, Stops as StopsAt}
 use Rattle.ot_lines.specs.declared.lines.LineFault.{LineFault}
 use Rattle.ot_lines.specs.declared.lines.LineFault.TheVariants as lines
 use Rattle.ot_lines.specs.declared.listener.Ended.{Ended}
@@ -105,7 +105,7 @@ module _ {A : Type 0} (contents : A → Option (List ℕ)) (failures : A → ℕ
 
   -- line after line
   pub went_going : (first : Register) (start : Option (List ℕ)) → first.pending ≡ None → (lines : List (List ℕ)) → All (IsLine max_line) lines → (old : Register) (a : A) (new : Register) (b : A) →
-      Went Took old a lines new b → (bytes : List ℕ) → Going first start bytes [] old (contents a) → Going first start (bytes ++ ended lines) [] new (contents b)
+      Went Took old a lines new b → (bytes : List ℕ) → Going first start bytes [] old (contents a) → Going first start (bytes ++ lines_ended lines) [] new (contents b)
   went_going first start closed [] are old a new b went bytes going =
       subst (λ bs. Going first start bs [] new (contents b)) (sym (append-nil bytes))
       (subst (λ n. Going first start bytes [] n (contents b)) (sym went.0) (subst (λ s. Going first start bytes [] old (contents s)) (sym went.1) going))
@@ -115,7 +115,7 @@ module _ {A : Type 0} (contents : A → Option (List ℕ)) (failures : A → ℕ
       let begun = going_piece line going is.clean (omega (arith, is.short)) in
       let taken = took.goes first start (bytes ++ line) closed begun in
       subst (λ bs. Going first start bs [] new (contents b))
-      (append_assoc (bytes ++ line) (10 ∷ []) (ended lines) ∙ append_assoc bytes line (10 ∷ ended lines))
+      (append_assoc (bytes ++ line) (10 ∷ []) (lines_ended lines) ∙ append_assoc bytes line (10 ∷ lines_ended lines))
       (went_going first start closed lines rest mid more new b later ((bytes ++ line) ++ 10 ∷ []) taken)
 
   pub went_failures : (lines : List (List ℕ)) (old : Register) (a : A) (new : Register) (b : A) → Went Took old a lines new b → failures b ≡ failures a
@@ -124,7 +124,7 @@ module _ {A : Type 0} (contents : A → Option (List ℕ)) (failures : A → ℕ
 
   -- the session goes on over the lines that were taken
   pub through_going : {to : Hearing} {f h : Flow} {first new : Register} {a b : A} {rest : List ℕ} {n m : ℕ} → first.pending ≡ None →
-      (t : Through Took (opened session_bounds) f first a to h new b rest n m) → Going first (contents a) (ended t.lines) [] new (contents b)
+      (t : Through Took (hearing_opened session_bounds) f first a to h new b rest n m) → Going first (contents a) (lines_ended t.lines) [] new (contents b)
   through_going {first = first} {new = new} {a = a} {b = b} closed t =
       went_going first (contents a) closed t.lines t.are first a new b t.went [] (going_nothing first (contents a))
 
@@ -139,9 +139,9 @@ module _ {A : Type 0} (contents : A → Option (List ℕ)) (failures : A → ℕ
 
   -- all that was read was heard, and the session goes on
   serves_all : {to : Hearing} {f h : Flow} {first new : Register} {a b : A} {n m : ℕ} (result : Result End FrontFault) → first.pending ≡ None →
-      Through Took (opened session_bounds) f first a to h new b to.line n m → HasNoEnd to.line → IsIdle to → IsIdleEnd result → Serves first new f.ahead h.ahead h.latest (contents a) (contents b) result
+      Through Took (hearing_opened session_bounds) f first a to h new b to.line n m → HasNoEnd to.line → IsIdle to → IsIdleEnd result → Serves first new f.ahead h.ahead h.latest (contents a) (contents b) result
   serves_all {to} {f} {h} {first} {new} {a} {b} result closed t clean idle ends =
-      let bytes = ended t.lines ++ to.line in
+      let bytes = lines_ended t.lines ++ to.line in
       let top : to.longest ≡ 65536 = t.passes.longest in
       let going = going_piece to.line (through_going closed t) clean (omega (arith, idle.short, top)) in
       let reads : Consumes f.ahead h.ahead bytes =
@@ -152,11 +152,11 @@ module _ {A : Type 0} (contents : A → Option (List ℕ)) (failures : A → ℕ
 
   -- it stopped at the first byte too many
   serves_long : {to : Hearing} {f h : Flow} {first new : Register} {a b : A} (now : Option (List ℕ)) (result : Result End FrontFault) → first.pending ≡ None → Stops result →
-      (s : Ends Took (opened session_bounds) f first a to h new b (Ok ended_as.Long)) → Session first new (ended s.through.lines ++ to.line) (contents a) now result →
+      (s : Ends Took (hearing_opened session_bounds) f first a to h new b (Ok ended_as.Long)) → Session first new (lines_ended s.through.lines ++ to.line) (contents a) now result →
       Serves first new f.ahead h.ahead h.latest (contents a) now result
   serves_long {to} {f} {h} {first} {new} {a} {b} now result closed stops s session =
       let t = s.through in
-      let lines = ended t.lines in
+      let lines = lines_ended t.lines in
       let long : length to.line ≡ suc 65536 = s.is.0 ∙ ap suc t.passes.longest in
       let last = last_of to.line 65536 long in
       let front = take 65536 to.line in
@@ -167,8 +167,8 @@ module _ {A : Type 0} (contents : A → Option (List ℕ)) (failures : A → ℕ
       (subst (λ bs. Consumes f.ahead h.ahead (bs ++ to.ahead)) bytes (consumed f.ahead h.ahead to.ahead (lines ++ to.line) t.passes.heard))
       (subst (λ bs. Session first new bs (contents a) now result) bytes session) (le_refl (next_number new))
 
-  pub served_long : {to : Hearing} {f h : Flow} {first new : Register} {a b c : A} (r : Result End FrontFault) → first.pending ≡ None → Ends Took (opened session_bounds) f first a to h new b (Ok ended_as.Long) →
-      IfOk r (λ ended. (ended ≡ end.LongLine) × Appends (contents b) (contents c) (closing (Some end.LongLine))) →
+  pub served_long : {to : Hearing} {f h : Flow} {first new : Register} {a b c : A} (r : Result End FrontFault) → first.pending ≡ None → Ends Took (hearing_opened session_bounds) f first a to h new b (Ok ended_as.Long) →
+      IfOk r (λ lines_ended. (lines_ended ≡ end.LongLine) × Appends (contents b) (contents c) (closing (Some end.LongLine))) →
       IfErr r (λ why. (why ≡ fault.WriteFailed) × AppendsFront (contents b) (contents c) (closing (Some end.LongLine))) →
       OnOk r (failures c ≡ failures b) → OnErr r (failures c ≡ next_count (failures b)) → IsServed first new f h (contents a) (contents c) (failures a) (failures c) r
   served_long {to} {f} {h} {first} {new} {a} {b} {c} (Ok e) closed s told cut worked failed =
@@ -188,18 +188,18 @@ module _ {A : Type 0} (contents : A → Option (List ℕ)) (failures : A → ℕ
 
   -- ---- by how it was listened to
 
-  listened : (from to : Hearing) (f h : Flow) (first new : Register) (a b : A) (told is : Result (Ended Stop) LineFault) → told ≡ is → from ≡ opened session_bounds →
-      Listens Took from f first a to h new b told → Listens Took (opened session_bounds) f first a to h new b is
+  listened : (from to : Hearing) (f h : Flow) (first new : Register) (a b : A) (told is : Result (Ended Stop) LineFault) → told ≡ is → from ≡ hearing_opened session_bounds →
+      Listens Took from f first a to h new b told → Listens Took (hearing_opened session_bounds) f first a to h new b is
   listened from to f h first new a b told is same begun l =
-      subst (λ r. Listens Took (opened session_bounds) f first a to h new b r) same (subst (λ x. Listens Took x f first a to h new b told) begun l)
+      subst (λ r. Listens Took (hearing_opened session_bounds) f first a to h new b r) same (subst (λ x. Listens Took x f first a to h new b told) begun l)
 
   pub by_stop : (from to : Hearing) (f h : Flow) (first new : Register) (a b : A) (field : Ended Stop) (why : Stop) (result : Result End FrontFault) →
-      field ≡ ended_as.Stopped why → result ≡ result_of why → from ≡ opened session_bounds → first.pending ≡ None → Listens Took from f first a to h new b (Ok field) →
+      field ≡ ended_as.Stopped why → result ≡ result_of why → from ≡ hearing_opened session_bounds → first.pending ≡ None → Listens Took from f first a to h new b (Ok field) →
       IsServed first new f h (contents a) (contents b) (failures a) (failures b) result
   by_stop from to f h first new a b field why result is told begun closed l =
-      let s : StopsAt Took (opened session_bounds) f first a to h new b why = listened from to f h first new a b (Ok field) (Ok (ended_as.Stopped why)) (ap Ok is) begun l in
+      let s : StopsAt Took (hearing_opened session_bounds) f first a to h new b why = listened from to f h first new a b (Ok field) (Ok (ended_as.Stopped why)) (ap Ok is) begun l in
       let t = s.through in
-      let lines = ended t.lines in
+      let lines = lines_ended t.lines in
       let begun = going_piece to.line (through_going closed t) s.is.clean (omega (arith, s.is.short)) in
       let bytes : lines ++ (to.line ++ 10 ∷ []) ≡ (lines ++ to.line) ++ 10 ∷ [] = sym (append_assoc lines to.line (10 ∷ [])) in
       let serves = serves_in begun 10 f.ahead h.ahead h.latest t.passes.earlier to.since to.ahead new (contents b) (result_of why) (what_stops why).0
@@ -212,17 +212,17 @@ module _ {A : Type 0} (contents : A → Option (List ℕ)) (failures : A → ℕ
       (s.last.failures ∙ ap (λ n. count_after n (failures s.more)) (what_stops why).1 ∙ ap (count_after (write_failures (result_of why))) (went_failures t.lines first a s.mid s.more t.went)))
 
   pub by_end : (from to : Hearing) (f h : Flow) (first new : Register) (a b : A) (field : Ended Stop) →
-      field ≡ ended_as.End → from ≡ opened session_bounds → first.pending ≡ None → Listens Took from f first a to h new b (Ok field) →
+      field ≡ ended_as.End → from ≡ hearing_opened session_bounds → first.pending ≡ None → Listens Took from f first a to h new b (Ok field) →
       IsServed first new f h (contents a) (contents b) (failures a) (failures b) (Ok end.EndOfInput)
   by_end from to f h first new a b field is begun closed l =
-      let s : Ends Took (opened session_bounds) f first a to h new b (Ok ended_as.End) = listened from to f h first new a b (Ok field) (Ok ended_as.End) (ap Ok is) begun l in
+      let s : Ends Took (hearing_opened session_bounds) f first a to h new b (Ok ended_as.End) = listened from to f h first new a b (Ok field) (Ok ended_as.End) (ap Ok is) begun l in
       let t = s.through in
       served (failures a) (failures b) t.passes.reads to.left closed (serves_all (Ok end.EndOfInput) closed t s.clean s.is.0 tt) t.passes.left t.passes.counted (λ is. absurd (cc)) (λ is. s.is.1)
       t.passes.ended t.passes.failed (went_failures t.lines first a new b t.went)
 
   pub by_long : (from to : Hearing) (f h : Flow) (first new : Register) (a b c : A) (field : Ended Stop) (r : Result End FrontFault) →
-      field ≡ ended_as.Long → from ≡ opened session_bounds → first.pending ≡ None → Listens Took from f first a to h new b (Ok field) →
-      IfOk r (λ ended. (ended ≡ end.LongLine) × Appends (contents b) (contents c) (closing (Some end.LongLine))) →
+      field ≡ ended_as.Long → from ≡ hearing_opened session_bounds → first.pending ≡ None → Listens Took from f first a to h new b (Ok field) →
+      IfOk r (λ lines_ended. (lines_ended ≡ end.LongLine) × Appends (contents b) (contents c) (closing (Some end.LongLine))) →
       IfErr r (λ why. (why ≡ fault.WriteFailed) × AppendsFront (contents b) (contents c) (closing (Some end.LongLine))) →
       OnOk r (failures c ≡ failures b) → OnErr r (failures c ≡ next_count (failures b)) → IsServed first new f h (contents a) (contents c) (failures a) (failures c) r
   by_long from to f h first new a b c field r is begun closed l =
@@ -230,19 +230,19 @@ module _ {A : Type 0} (contents : A → Option (List ℕ)) (failures : A → ℕ
       (listened from to f h first new a b (Ok field) (Ok ended_as.Long) (ap Ok is) begun l)
 
   pub by_read_failed : (from to : Hearing) (f h : Flow) (first new : Register) (a b : A) (field : LineFault) →
-      field ≡ lines.ReadFailed → from ≡ opened session_bounds → first.pending ≡ None → Listens Took from f first a to h new b (Err field) →
+      field ≡ lines.ReadFailed → from ≡ hearing_opened session_bounds → first.pending ≡ None → Listens Took from f first a to h new b (Err field) →
       IsServed first new f h (contents a) (contents b) (failures a) (failures b) (Err fault.ReadFailed)
   by_read_failed from to f h first new a b field is begun closed l =
-      let s : Ends Took (opened session_bounds) f first a to h new b (Err lines.ReadFailed) = listened from to f h first new a b (Err field) (Err lines.ReadFailed) (ap Err is) begun l in
+      let s : Ends Took (hearing_opened session_bounds) f first a to h new b (Err lines.ReadFailed) = listened from to f h first new a b (Err field) (Err lines.ReadFailed) (ap Err is) begun l in
       let t = s.through in
       served (failures a) (failures b) t.passes.reads to.left closed (serves_all (Err fault.ReadFailed) closed t s.clean s.is tt) t.passes.left t.passes.counted (λ is. absurd (cc)) (λ is. absurd (cc))
       t.passes.ended t.passes.failed (went_failures t.lines first a new b t.went)
 
   pub by_turns : (from to : Hearing) (f h : Flow) (first new : Register) (a b : A) (field : LineFault) →
-      field ≡ lines.TooManyReads → from ≡ opened session_bounds → first.pending ≡ None → Listens Took from f first a to h new b (Err field) →
+      field ≡ lines.TooManyReads → from ≡ hearing_opened session_bounds → first.pending ≡ None → Listens Took from f first a to h new b (Err field) →
       IsServed first new f h (contents a) (contents b) (failures a) (failures b) (Err fault.TooManyTurns)
   by_turns from to f h first new a b field is begun closed l =
-      let s : Ends Took (opened session_bounds) f first a to h new b (Err lines.TooManyReads) = listened from to f h first new a b (Err field) (Err lines.TooManyReads) (ap Err is) begun l in
+      let s : Ends Took (hearing_opened session_bounds) f first a to h new b (Err lines.TooManyReads) = listened from to f h first new a b (Err field) (Err lines.TooManyReads) (ap Err is) begun l in
       let t = s.through in
       served (failures a) (failures b) t.passes.reads to.left closed (serves_all (Err fault.TooManyTurns) closed t s.clean s.is.0 tt) t.passes.left t.passes.counted (λ is. s.is.1) (λ is. absurd (cc))
       t.passes.ended t.passes.failed (went_failures t.lines first a new b t.went)

@@ -4,7 +4,7 @@ use Rattle.std.proofs.Math.Logic.{∥∥₁_elim}
 use Rattle.ot_model.specs.Programs.{Expanded, expanded_of}
 use Rattle.ot_check.specs.Jobs.{Spec}
 use Rattle.ot_book.specs.Answers.{Step, Now, Runs}
-use Rattle.ot_book.specs.Books.{Register, opened, open_step, OpensLine}
+use Rattle.ot_book.specs.Books.{Register, request_opened, open_step, OpensLine}
 use Rattle.ot_session.specs.Turns.{WouldRun}
 use Rattle.ot_book.specs.declared.book.Opened.{Opened}
 use Rattle.ot_book.specs.declared.book.Opened.TheVariants.{ToRun}
@@ -17,7 +17,7 @@ no_run (Runs q) p some = (q, refl)
 pub run_asked : (b new : Register) (line : List ℕ) (o : Opened) (spec : Spec) → OpensLine b line new o → o ≡ ToRun spec → RunsProgram b line
 run_asked b new line o spec opens is =
     let h : OpensLine b line new (ToRun spec) = subst (OpensLine b line new) is opens in
-    let asks : ∥ open_step (opened b line) ≡ Runs (expanded_of spec.checked.program) ∥₁ =
+    let asks : ∥ open_step (request_opened b line) ≡ Runs (expanded_of spec.checked.program) ∥₁ =
     subst (λ x. ∥ open_step x ≡ Runs (expanded_of spec.checked.program) ∥₁) h.1 h.2.asks in
     no_run _ (expanded_of spec.checked.program) asks
 

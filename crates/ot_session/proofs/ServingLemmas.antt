@@ -5,7 +5,7 @@ use Rattle.std.specs.Io.KnownBytes.{Appends, Consumes}
 use Rattle.std.proofs.KnownBytes.{Appends-nil, Consumes-nil}
 use Rattle.std.proofs.lemmas.List.{length-take-le}
 use Rattle.ot_book.specs.Books.{Register, next_number}
-use Rattle.ot_session.specs.Session.{Heard, heard_in, logged_lines, SessionTells, Session, Serves, Lines, texts, marks, marked, after, told}
+use Rattle.ot_session.specs.Session.{Heard, heard_in, logged_lines, SessionTells, Session, Serves, Lines, texts, line_marks, marked_lines, after, session_told}
 use Rattle.ot_session.specs.Serving.{Going, Serving}
 use Rattle.ot_session.specs.declared.fault.End.{End}
 use Rattle.ot_session.specs.declared.fault.End.TheVariants.{EndOfInput}
@@ -33,7 +33,7 @@ logs_more : (first book new : Register) (bytes : List ℕ) (lines : Lines) (lost
     length lost ≤ length (heard_in first bytes).lines → next_number book ≤ next_number new → length lines ≤ length lost
 logs_more first book new bytes lines lost logs new_logs few grows =
     let count : length (logged_lines first bytes lost) ≡ length lost =
-    length-take-le (length lost) (marked (heard_in first bytes).lines lost) (omega (arith, few, length-marked (heard_in first bytes).lines lost)) in
+    length-take-le (length lost) (marked_lines (heard_in first bytes).lines lost) (omega (arith, few, length-marked (heard_in first bytes).lines lost)) in
     omega (
       arith,
       grows,
@@ -61,7 +61,7 @@ IsIdle (Err Memory) = Unit {0}
 IsIdle result = ⊥
 
 tells_idle : (first : Register) (bytes : List ℕ) (lines : Lines) (partial : List ℕ) (result : Result End FrontFault) → IsIdle result →
-    heard_in first bytes ≡ record { lines = texts lines; partial = partial; end = None } → SessionTells first bytes (marks lines) (told first lines ++ []) result
+    heard_in first bytes ≡ record { lines = texts lines; partial = partial; end = None } → SessionTells first bytes (line_marks lines) (session_told first lines ++ []) result
 tells_idle first bytes lines partial (Ok EndOfInput) idle hears = tells_all first bytes lines partial None hears
 tells_idle first bytes lines partial (Err ReadFailed) idle hears = tells_all first bytes lines partial None hears
 tells_idle first bytes lines partial (Err TooManyTurns) idle hears = tells_all first bytes lines partial None hears
@@ -76,9 +76,9 @@ serves_idle {first} {ahead} {left} {start} {partial} {book} {held} next latest r
     let lines = s.going.lines in
     let session : Session first book (s.bytes ++ []) start held result =
     subst (λ bytes. Session first book bytes start held result) all
-    (session_of first start s.bytes book held lines [] (told first lines ++ []) result
+    (session_of first start s.bytes book held lines [] (session_told first lines ++ []) result
     (ap (λ (h : Heard). h.lines) s.going.hears ∙ sym (append-nil (texts lines))) s.going.logs
-    (subst (Appends start held) (sym (append-nil (told first lines))) s.going.writes)
+    (subst (Appends start held) (sym (append-nil (session_told first lines))) s.going.writes)
     (tells_idle first s.bytes lines partial result idle s.going.hears)) in record {
       before = s.bytes;
       last = [];

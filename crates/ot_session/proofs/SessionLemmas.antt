@@ -6,13 +6,13 @@ use Rattle.std.proofs.KnownBytes.{Appends-nil, Appends-trans}
 use Rattle.std.proofs.Math.ListN.{take-append-drop}
 use Rattle.std.proofs.Math.Seq.{take-append_seam}
 use Rattle.std.proofs.lemmas.List.{take-append-le}
-use Rattle.ot_book.specs.Books.{Register, next_number, logged}
+use Rattle.ot_book.specs.Books.{Register, next_number, line_logged}
 use Rattle.ot_book.specs.Room.{room_in, takes, room_after}
 use Rattle.ot_book.proofs.RoomLemmas.{full-takes, free-takes}
 use Rattle.ot_check.proofs.SetLemmas.{slice_get-more}
 use Rattle.ot_session.specs.Serving.{AppendsFront, result_of, Going, Goes}
 use Rattle.ot_session.specs.Turns.{LogsLine, WouldRun}
-use Rattle.ot_session.specs.Session.{Heard, hear, with_line, is_bye, max_line, HasNoEnd, closing, heard_in, session_text, logged_lines, TellsAll, LeavesRun, BreaksOff, SessionTells, Session, Lines, texts, marks, marked, after, told, reply_line, last_reply, RunsProgram}
+use Rattle.ot_session.specs.Session.{Heard, hear, with_line, is_bye, max_line, HasNoEnd, closing, heard_in, session_text, logged_lines, TellsAll, LeavesRun, BreaksOff, SessionTells, Session, Lines, texts, line_marks, marked_lines, after, session_told, reply_line, last_reply, RunsProgram}
 use Rattle.ot_session.specs.declared.fault.End.{End}
 use Rattle.ot_session.specs.declared.fault.End.TheVariants as end
 use Rattle.ot_session.specs.declared.fault.FrontFault.{FrontFault}
@@ -24,38 +24,38 @@ use Rattle.ot_session.proofs.ToldLemmas.{length-texts, length-marks, texts-more,
 
 -- ---- the marks of logged lines
 
-take-marks : (lines more : Lines) → take (length (marks lines)) (lines ++ more) ≡ lines
+take-marks : (lines more : Lines) → take (length (line_marks lines)) (lines ++ more) ≡ lines
 take-marks lines more = ap (λ n. take n (lines ++ more)) (length-marks lines) ∙ take-append_seam lines more
 
 -- lines with marks are the first of those that are heard
 pub logged_lines-marks : (first : Register) (bytes : List ℕ) (lines : Lines) (rest : List (List ℕ)) → (heard_in first bytes).lines ≡ texts lines ++ rest →
-    logged_lines first bytes (marks lines) ≡ lines
+    logged_lines first bytes (line_marks lines) ≡ lines
 logged_lines-marks first bytes lines rest hears =
-    ap (λ ls. take (length (marks lines)) (marked ls (marks lines))) hears
-    ∙ ap (take (length (marks lines))) (marked-texts lines rest)
-    ∙ take-marks lines (marked rest [])
+    ap (λ ls. take (length (line_marks lines)) (marked_lines ls (line_marks lines))) hears
+    ∙ ap (take (length (line_marks lines))) (marked-texts lines rest)
+    ∙ take-marks lines (marked_lines rest [])
 
 -- the replies to them, and then the rest of the text
 pub session_text-marks : (first : Register) (bytes : List ℕ) (lines : Lines) (rest : List (List ℕ)) → (heard_in first bytes).lines ≡ texts lines ++ rest →
-    session_text first bytes (marks lines) ≡ told first lines ++ (told (after first lines) (marked rest []) ++ closing (heard_in first bytes).end)
+    session_text first bytes (line_marks lines) ≡ session_told first lines ++ (session_told (after first lines) (marked_lines rest []) ++ closing (heard_in first bytes).end)
 session_text-marks first bytes lines rest hears =
     let end = closing (heard_in first bytes).end in
-    ap (λ ls. told first (marked ls (marks lines)) ++ end) hears
-    ∙ ap (λ ls. told first ls ++ end) (marked-texts lines rest)
-    ∙ ap (λ text. text ++ end) (told-append first lines (marked rest []))
-    ∙ append_assoc (told first lines) (told (after first lines) (marked rest [])) end
+    ap (λ ls. session_told first (marked_lines ls (line_marks lines)) ++ end) hears
+    ∙ ap (λ ls. session_told first ls ++ end) (marked-texts lines rest)
+    ∙ ap (λ text. text ++ end) (told-append first lines (marked_lines rest []))
+    ∙ append_assoc (session_told first lines) (session_told (after first lines) (marked_lines rest [])) end
 
 few-marks : (first : Register) (bytes : List ℕ) (lines : Lines) (rest : List (List ℕ)) → (heard_in first bytes).lines ≡ texts lines ++ rest →
-    length (marks lines) ≤ length (heard_in first bytes).lines
+    length (line_marks lines) ≤ length (heard_in first bytes).lines
 few-marks first bytes lines rest hears =
     omega (arith, ap length hears, length-append (texts lines) rest, length-texts lines, length-marks lines)
 
 -- a session whose logged lines are these
 pub session_of : (first : Register) (start : Option (List ℕ)) (bytes : List ℕ) (book : Register) (held : Option (List ℕ)) (lines : Lines) (rest : List (List ℕ)) (written : List ℕ) (result : Result End FrontFault) →
-    (heard_in first bytes).lines ≡ texts lines ++ rest → book ≡ after first lines → Appends start held written → SessionTells first bytes (marks lines) written result →
+    (heard_in first bytes).lines ≡ texts lines ++ rest → book ≡ after first lines → Appends start held written → SessionTells first bytes (line_marks lines) written result →
     Session first book bytes start held result
 session_of first start bytes book held lines rest written result hears logs writes tells = record {
-  lost = marks lines;
+  lost = line_marks lines;
   written = written;
   few = few-marks first bytes lines rest hears;
   grown = omega (arith, ap next_number logs, next-after first lines, length-marks lines);
@@ -66,41 +66,41 @@ session_of first start bytes book held lines rest written result hears logs writ
 
 -- all lines are logged and all is told
 pub tells_all : (first : Register) (bytes : List ℕ) (lines : Lines) (partial : List ℕ) (end : Option End) → heard_in first bytes ≡ record { lines = texts lines; partial = partial; end = end } →
-    TellsAll first bytes (marks lines) (told first lines ++ closing end) end
+    TellsAll first bytes (line_marks lines) (session_told first lines ++ closing end) end
 tells_all first bytes lines partial end hears =
     let all : (heard_in first bytes).lines ≡ texts lines = ap (λ (h : Heard). h.lines) hears in
     let ends : (heard_in first bytes).end ≡ end = ap (λ (h : Heard). h.end) hears in record {
       ends = ends;
       logs = length-marks lines ∙ sym (length-texts lines) ∙ ap length (sym all);
-      tells = sym (session_text-marks first bytes lines [] (all ∙ sym (append-nil (texts lines))) ∙ ap (λ e. told first lines ++ closing e) ends);
+      tells = sym (session_text-marks first bytes lines [] (all ∙ sym (append-nil (texts lines))) ∙ ap (λ e. session_told first lines ++ closing e) ends);
     }
 
 -- a session that has told all
 session_all : (first : Register) (start : Option (List ℕ)) (bytes : List ℕ) (book : Register) (held now : Option (List ℕ)) (lines : Lines) (partial : List ℕ) (end : Option End) (result : Result End FrontFault) →
-    heard_in first bytes ≡ record { lines = texts lines; partial = partial; end = end } → book ≡ after first lines → Appends start held (told first lines) → Appends held now (closing end) →
-    (TellsAll first bytes (marks lines) (told first lines ++ closing end) end → SessionTells first bytes (marks lines) (told first lines ++ closing end) result) →
+    heard_in first bytes ≡ record { lines = texts lines; partial = partial; end = end } → book ≡ after first lines → Appends start held (session_told first lines) → Appends held now (closing end) →
+    (TellsAll first bytes (line_marks lines) (session_told first lines ++ closing end) end → SessionTells first bytes (line_marks lines) (session_told first lines ++ closing end) result) →
     Session first book bytes start now result
 session_all first start bytes book held now lines partial end result hears logs writes closes tells =
-    session_of first start bytes book now lines [] (told first lines ++ closing end) result
+    session_of first start bytes book now lines [] (session_told first lines ++ closing end) result
     (ap (λ (h : Heard). h.lines) hears ∙ sym (append-nil (texts lines))) logs
-    (Appends-trans start held now (told first lines) (closing end) writes closes)
+    (Appends-trans start held now (session_told first lines) (closing end) writes closes)
     (tells (tells_all first bytes lines partial end hears))
 
 -- the session broke off in its text
 breaks_off : (first : Register) (bytes : List ℕ) (lines : Lines) (rest : List (List ℕ)) (written missing : List ℕ) → (heard_in first bytes).lines ≡ texts lines ++ rest →
-    told first lines ++ (told (after first lines) (marked rest []) ++ closing (heard_in first bytes).end) ≡ written ++ missing →
-    length (told first (take (length lines - 1) lines)) ≤ length written → (length written ≤ length (told first lines)) ⊎ (rest ≡ []) →
-    BreaksOff first bytes (marks lines) written
+    session_told first lines ++ (session_told (after first lines) (marked_lines rest []) ++ closing (heard_in first bytes).end) ≡ written ++ missing →
+    length (session_told first (take (length lines - 1) lines)) ≤ length written → (length written ≤ length (session_told first lines)) ⊎ (rest ≡ []) →
+    BreaksOff first bytes (line_marks lines) written
 breaks_off first bytes lines rest written missing hears begins most least =
     let logged_is = sym (logged_lines-marks first bytes lines rest hears) in
-    let count : length lines - 1 ≡ length (marks lines) - 1 = ap (λ n. n - 1) (sym (length-marks lines)) in record {
+    let count : length lines - 1 ≡ length (line_marks lines) - 1 = ap (λ n. n - 1) (sym (length-marks lines)) in record {
       missing = missing;
       begins = session_text-marks first bytes lines rest hears ∙ begins;
       all_but_last =
-          subst (λ ls. length (told first (take (length (marks lines) - 1) ls)) ≤ length written) logged_is
-          (subst (λ n. length (told first (take n lines)) ≤ length written) count most);
+          subst (λ ls. length (session_told first (take (length (line_marks lines) - 1) ls)) ≤ length written) logged_is
+          (subst (λ n. length (session_told first (take n lines)) ≤ length written) count most);
       no_other = elim least [
-        | inl within ↦ inl (subst (λ ls. length written ≤ length (told first ls)) logged_is within)
+        | inl within ↦ inl (subst (λ ls. length written ≤ length (session_told first ls)) logged_is within)
         | inr none ↦ inr
             (length-marks lines
             ∙ sym (length-texts lines)
@@ -111,41 +111,41 @@ breaks_off first bytes lines rest written missing hears begins most least =
     }
 
 -- the session broke off between two replies
-pub breaks_between : (first : Register) (bytes : List ℕ) (lines : Lines) (rest : List (List ℕ)) → (heard_in first bytes).lines ≡ texts lines ++ rest → BreaksOff first bytes (marks lines) (told first lines)
+pub breaks_between : (first : Register) (bytes : List ℕ) (lines : Lines) (rest : List (List ℕ)) → (heard_in first bytes).lines ≡ texts lines ++ rest → BreaksOff first bytes (line_marks lines) (session_told first lines)
 breaks_between first bytes lines rest hears =
-    breaks_off first bytes lines rest (told first lines) (told (after first lines) (marked rest []) ++ closing (heard_in first bytes).end) hears refl
-    (told-take first lines (length lines - 1)) (inl (le_refl (length (told first lines))))
+    breaks_off first bytes lines rest (session_told first lines) (session_told (after first lines) (marked_lines rest []) ++ closing (heard_in first bytes).end) hears refl
+    (told-take first lines (length lines - 1)) (inl (le_refl (length (session_told first lines))))
 
 -- it broke off in the way it closes
 pub breaks_closing : (first : Register) (bytes : List ℕ) (lines : Lines) (partial : List ℕ) (end : Option End) (n : ℕ) →
-    heard_in first bytes ≡ record { lines = texts lines; partial = partial; end = end } → BreaksOff first bytes (marks lines) (told first lines ++ take n (closing end))
+    heard_in first bytes ≡ record { lines = texts lines; partial = partial; end = end } → BreaksOff first bytes (line_marks lines) (session_told first lines ++ take n (closing end))
 breaks_closing first bytes lines partial end n hears =
     let all : (heard_in first bytes).lines ≡ texts lines ++ [] = ap (λ (h : Heard). h.lines) hears ∙ sym (append-nil (texts lines)) in
-    let parts = ap (λ (h : Heard). told first lines ++ closing h.end) hears
-    ∙ ap (λ text. told first lines ++ text) (sym (take-append-drop n (closing end)))
-    ∙ sym (append_assoc (told first lines) (take n (closing end)) (drop n (closing end))) in
-    let longer = length-append (told first lines) (take n (closing end)) in
-    breaks_off first bytes lines [] (told first lines ++ take n (closing end)) (drop n (closing end)) all parts
+    let parts = ap (λ (h : Heard). session_told first lines ++ closing h.end) hears
+    ∙ ap (λ text. session_told first lines ++ text) (sym (take-append-drop n (closing end)))
+    ∙ sym (append_assoc (session_told first lines) (take n (closing end)) (drop n (closing end))) in
+    let longer = length-append (session_told first lines) (take n (closing end)) in
+    breaks_off first bytes lines [] (session_told first lines ++ take n (closing end)) (drop n (closing end)) all parts
     (omega (arith, longer, told-take first lines (length lines - 1))) (inr refl)
 
 -- it broke off in the last reply
 breaks_reply : (first : Register) (bytes : List ℕ) (lines : Lines) (line : List ℕ × Bool) (n : ℕ) → (heard_in first bytes).lines ≡ texts (lines ++ line ∷ []) →
-    BreaksOff first bytes (marks (lines ++ line ∷ [])) (told first lines ++ take n (reply_line (after first lines) line))
+    BreaksOff first bytes (line_marks (lines ++ line ∷ [])) (session_told first lines ++ take n (reply_line (after first lines) line))
 breaks_reply first bytes lines line n hears =
     let reply = reply_line (after first lines) line in
-    let whole : told first (lines ++ line ∷ []) ≡ (told first lines ++ take n reply) ++ drop n reply =
+    let whole : session_told first (lines ++ line ∷ []) ≡ (session_told first lines ++ take n reply) ++ drop n reply =
     told-more first lines line
-    ∙ ap (λ text. told first lines ++ text) (sym (take-append-drop n reply))
-    ∙ sym (append_assoc (told first lines) (take n reply) (drop n reply)) in
+    ∙ ap (λ text. session_told first lines ++ text) (sym (take-append-drop n reply))
+    ∙ sym (append_assoc (session_told first lines) (take n reply) (drop n reply)) in
     let rest = closing (heard_in first bytes).end in
     let before : take (length (lines ++ line ∷ []) - 1) (lines ++ line ∷ []) ≡ lines =
     ap (λ k. take k (lines ++ line ∷ [])) (let place : length (lines ++ line ∷ []) - 1 ≡ length lines = omega (arith, length-append lines (line ∷ [])) in place)
     ∙ take-append_seam lines (line ∷ []) in
-    breaks_off first bytes (lines ++ line ∷ []) [] (told first lines ++ take n reply) (drop n reply ++ rest)
+    breaks_off first bytes (lines ++ line ∷ []) [] (session_told first lines ++ take n reply) (drop n reply ++ rest)
     (hears ∙ sym (append-nil (texts (lines ++ line ∷ []))))
-    (ap (λ text. text ++ rest) whole ∙ append_assoc (told first lines ++ take n reply) (drop n reply) rest)
-    (omega (arith, ap (λ ls. length (told first ls)) before, length-append (told first lines) (take n reply)))
-    (inl (omega (arith, ap length whole, length-append (told first lines ++ take n reply) (drop n reply))))
+    (ap (λ text. text ++ rest) whole ∙ append_assoc (session_told first lines ++ take n reply) (drop n reply) rest)
+    (omega (arith, ap (λ ls. length (session_told first ls)) before, length-append (session_told first lines) (take n reply)))
+    (inl (omega (arith, ap length whole, length-append (session_told first lines ++ take n reply) (drop n reply))))
 
 -- ---- a whole line
 
@@ -179,34 +179,34 @@ stops_bye {first} {start} {bytes} {line} {book} {held} going bye =
 
 -- the session broke off where it was to close
 stops_in_closing : (first : Register) (start : Option (List ℕ)) (bytes : List ℕ) (book : Register) (held now : Option (List ℕ)) (lines : Lines) (partial : List ℕ) (end : Option End) →
-    heard_in first bytes ≡ record { lines = texts lines; partial = partial; end = end } → book ≡ after first lines → Appends start held (told first lines) →
+    heard_in first bytes ≡ record { lines = texts lines; partial = partial; end = end } → book ≡ after first lines → Appends start held (session_told first lines) →
     AppendsFront held now (closing end) → Session first book bytes start now (Err fault.WriteFailed)
 stops_in_closing first start bytes book held now lines partial end hears logs writes front =
-    session_of first start bytes book now lines [] (told first lines ++ take front.0 (closing end)) (Err fault.WriteFailed)
+    session_of first start bytes book now lines [] (session_told first lines ++ take front.0 (closing end)) (Err fault.WriteFailed)
     (ap (λ (h : Heard). h.lines) hears ∙ sym (append-nil (texts lines))) logs
-    (Appends-trans start held now (told first lines) (take front.0 (closing end)) writes front.2)
+    (Appends-trans start held now (session_told first lines) (take front.0 (closing end)) writes front.2)
     (breaks_closing first bytes lines partial end front.0 hears)
 
 -- the line is logged and its reply written
 pub going_on : {first : Register} {start : Option (List ℕ)} {bytes line : List ℕ} {book : Register} {held : Option (List ℕ)} →
     (new : Register) (now : Option (List ℕ)) (lost : Bool) → Going first start bytes line book held → is_bye line ≡ false → takes (room_in book) line ≡ true →
-    new ≡ logged book line lost → Appends held now (reply_line book (line, lost)) → Going first start (bytes ++ 10 ∷ []) [] new now
+    new ≡ line_logged book line lost → Appends held now (reply_line book (line, lost)) → Going first start (bytes ++ 10 ∷ []) [] new now
 going_on {first} {start} {bytes} {line} {book} {held} new now lost going bye free is writes =
     let next : List ℕ × Bool = (line, lost) in
     let reply_is : reply_line book next ≡ reply_line (after first going.lines) next = ap (λ b. reply_line b next) going.logs in record {
       lines = going.lines ++ next ∷ [];
       hears = hears_request going bye free ∙ ap (λ ls. at_line ls []) (sym (texts-more going.lines next));
       short = omega arith;
-      logs = is ∙ ap (λ b. logged b line lost) going.logs ∙ sym (after-more first going.lines next);
+      logs = is ∙ ap (λ b. line_logged b line lost) going.logs ∙ sym (after-more first going.lines next);
       writes =
-          subst (Appends start now) (ap (λ r. told first going.lines ++ r) reply_is ∙ sym (told-more first going.lines next))
-          (Appends-trans start held now (told first going.lines) (reply_line book next) going.writes writes);
+          subst (Appends start now) (ap (λ r. session_told first going.lines ++ r) reply_is ∙ sym (told-more first going.lines next))
+          (Appends-trans start held now (session_told first going.lines) (reply_line book next) going.writes writes);
     }
 
 -- the line is logged, and its reply is cut
 pub stops_in_reply : {first : Register} {start : Option (List ℕ)} {bytes line : List ℕ} {book : Register} {held : Option (List ℕ)} →
     (new : Register) (now : Option (List ℕ)) (lost : Bool) (result : Result End FrontFault) → Going first start bytes line book held → is_bye line ≡ false → takes (room_in book) line ≡ true →
-    new ≡ logged book line lost → (n : ℕ) × Appends held now (take n (reply_line book (line, lost))) →
+    new ≡ line_logged book line lost → (n : ℕ) × Appends held now (take n (reply_line book (line, lost))) →
     ((lost : List Bool) (written : List ℕ) → BreaksOff first (bytes ++ 10 ∷ []) lost written → SessionTells first (bytes ++ 10 ∷ []) lost written result) →
     Session first new (bytes ++ 10 ∷ []) start now result
 stops_in_reply {first} {start} {bytes} {line} {book} {held} new now lost result going bye free is front tells =
@@ -215,19 +215,19 @@ stops_in_reply {first} {start} {bytes} {line} {book} {held} new now lost result 
     let part : Appends held now (take front.0 (reply_line (after first going.lines) next)) = subst (λ text. Appends held now (take front.0 text)) reply_is front.1 in
     let hears : (heard_in first (bytes ++ 10 ∷ [])).lines ≡ texts (going.lines ++ next ∷ []) =
     ap (λ (h : Heard). h.lines) (hears_request going bye free) ∙ sym (texts-more going.lines next) in
-    session_of first start (bytes ++ 10 ∷ []) new now (going.lines ++ next ∷ []) [] (told first going.lines ++ take front.0 (reply_line (after first going.lines) next)) result
+    session_of first start (bytes ++ 10 ∷ []) new now (going.lines ++ next ∷ []) [] (session_told first going.lines ++ take front.0 (reply_line (after first going.lines) next)) result
     (hears ∙ sym (append-nil (texts (going.lines ++ next ∷ []))))
-    (is ∙ ap (λ b. logged b line lost) going.logs ∙ sym (after-more first going.lines next))
-    (Appends-trans start held now (told first going.lines) _ going.writes part)
-    (tells (marks (going.lines ++ next ∷ [])) _ (breaks_reply first (bytes ++ 10 ∷ []) going.lines next front.0 hears))
+    (is ∙ ap (λ b. line_logged b line lost) going.logs ∙ sym (after-more first going.lines next))
+    (Appends-trans start held now (session_told first going.lines) _ going.writes part)
+    (tells (line_marks (going.lines ++ next ∷ [])) _ (breaks_reply first (bytes ++ 10 ∷ []) going.lines next front.0 hears))
 
 -- the line changed nothing, and nothing was written
 stops_unlogged : {first : Register} {start : Option (List ℕ)} {bytes line : List ℕ} {book : Register} {held : Option (List ℕ)} →
     (new : Register) (result : Result End FrontFault) → (going : Going first start bytes line book held) → is_bye line ≡ false → takes (room_in book) line ≡ true → new ≡ book →
-    SessionTells first (bytes ++ 10 ∷ []) (marks going.lines) (told first going.lines) result →
+    SessionTells first (bytes ++ 10 ∷ []) (line_marks going.lines) (session_told first going.lines) result →
     Session first new (bytes ++ 10 ∷ []) start held result
 stops_unlogged {first} {start} {bytes} {line} {book} {held} new result going bye free is tells =
-    session_of first start (bytes ++ 10 ∷ []) new held going.lines (line ∷ []) (told first going.lines) result
+    session_of first start (bytes ++ 10 ∷ []) new held going.lines (line ∷ []) (session_told first going.lines) result
     (ap (λ (h : Heard). h.lines) (hears_request going bye free)) (is ∙ going.logs) going.writes tells
 
 -- there was no memory for the line, or to see whether there is room for it
@@ -242,22 +242,22 @@ stops_memory {first} {start} {bytes} {line} {book} {held} new going bye is = by_
         (breaks_between first (bytes ++ 10 ∷ []) going.lines (line ∷ []) (ap (λ (h : Heard). h.lines) (hears_request going bye free)))
     by_room false full =
         let hears = hears_full going bye full in
-        session_of first start (bytes ++ 10 ∷ []) new held going.lines [] (told first going.lines) (Err fault.Memory)
+        session_of first start (bytes ++ 10 ∷ []) new held going.lines [] (session_told first going.lines) (Err fault.Memory)
         (ap (λ (h : Heard). h.lines) hears ∙ sym (append-nil (texts going.lines))) (is ∙ going.logs) going.writes
         (breaks_between first (bytes ++ 10 ∷ []) going.lines [] (ap (λ (h : Heard). h.lines) hears ∙ sym (append-nil (texts going.lines))))
 
 leaves_run : {first : Register} {start : Option (List ℕ)} {bytes line : List ℕ} {book : Register} {held : Option (List ℕ)} →
     (going : Going first start bytes line book held) → is_bye line ≡ false → takes (room_in book) line ≡ true → RunsProgram book line →
-    LeavesRun first (bytes ++ 10 ∷ []) (marks going.lines) (told first going.lines)
+    LeavesRun first (bytes ++ 10 ∷ []) (line_marks going.lines) (session_told first going.lines)
 leaves_run {first} {start} {bytes} {line} going bye free runs =
     let lines = going.lines in
     let hears : (heard_in first (bytes ++ 10 ∷ [])).lines ≡ texts lines ++ line ∷ [] = ap (λ (h : Heard). h.lines) (hears_request going bye free) in
     let logged_is = sym (logged_lines-marks first (bytes ++ 10 ∷ []) lines (line ∷ []) hears) in
-    let place : length (marks lines) ≡ length (texts lines) = length-marks lines ∙ sym (length-texts lines) in record {
+    let place : length (line_marks lines) ≡ length (texts lines) = length-marks lines ∙ sym (length-texts lines) in record {
       next = line;
-      is_next = ap (λ ls. slice_get ls (length (marks lines))) hears ∙ ap (slice_get (texts lines ++ line ∷ [])) place ∙ slice_get-seam (texts lines) line [];
+      is_next = ap (λ ls. slice_get ls (length (line_marks lines))) hears ∙ ap (slice_get (texts lines ++ line ∷ [])) place ∙ slice_get-seam (texts lines) line [];
       runs = subst (λ b. RunsProgram b line) (going.logs ∙ ap (after first) logged_is) runs;
-      tells = ap (told first) logged_is;
+      tells = ap (session_told first) logged_is;
     }
 
 -- ---- a piece of a line
@@ -307,7 +307,7 @@ stops_in_long {first} {start} {bytes} {partial} {book} {held} {now} piece going 
 
 pub goes_reply : {first : Register} {start : Option (List ℕ)} {bytes line : List ℕ} {book : Register} {held : Option (List ℕ)} →
     (new : Register) (now : Option (List ℕ)) (r : Result ⊤ Stop) → Going first start bytes line book held → is_bye line ≡ false → takes (room_in book) line ≡ true →
-    (lost : Bool) × (new ≡ logged book line lost) → OnOk r (Appends held now (last_reply new)) → OnErr r ((n : ℕ) × Appends held now (take n (last_reply new))) →
+    (lost : Bool) × (new ≡ line_logged book line lost) → OnOk r (Appends held now (last_reply new)) → OnErr r ((n : ℕ) × Appends held now (take n (last_reply new))) →
     IfErr r (λ stop. (stop ≡ WriteFailed) ⊎ (stop ≡ Memory)) → Goes first start (bytes ++ 10 ∷ []) [] new now r
 goes_reply {first} {start} {bytes} {line} {book} {held} new now (Ok done) going bye free is written cut stops =
     going_on new now is.0 going bye free is.1 (subst (Appends held now) (ap last_reply is.1) written)
@@ -381,9 +381,9 @@ logged_lines-more : (first : Register) (bytes more : List ℕ) (lost : List Bool
 logged_lines-more first bytes more lost few =
     let grows = lines_more first bytes more in
     let lines = (heard_in first bytes).lines in
-    ap (λ ls. take (length lost) (marked ls lost)) grows.1
+    ap (λ ls. take (length lost) (marked_lines ls lost)) grows.1
     ∙ ap (take (length lost)) (marked-append lines grows.0 lost few)
-    ∙ take-append-le (length lost) (marked lines lost) (marked grows.0 []) (omega (arith, few, length-marked lines lost))
+    ∙ take-append-le (length lost) (marked_lines lines lost) (marked_lines grows.0 []) (omega (arith, few, length-marked lines lost))
 
 all_more : (first : Register) (bytes more : List ℕ) (lost : List Bool) (written : List ℕ) (e : End) →
     TellsAll first bytes lost written (Some e) → TellsAll first (bytes ++ more) lost written (Some e)
@@ -391,7 +391,7 @@ all_more first bytes more lost written e t =
     let same : heard_in first (bytes ++ more) ≡ heard_in first bytes = heard_in-ended first bytes more e t.ends in record {
       ends = ap (λ (h : Heard). h.end) same ∙ t.ends;
       logs = t.logs ∙ ap (λ (h : Heard). length h.lines) (sym same);
-      tells = t.tells ∙ ap (λ (h : Heard). told first (marked h.lines lost) ++ closing h.end) (sym same);
+      tells = t.tells ∙ ap (λ (h : Heard). session_told first (marked_lines h.lines lost) ++ closing h.end) (sym same);
     }
 
 run_more : (first : Register) (bytes more : List ℕ) (lost : List Bool) (written : List ℕ) → length lost ≤ length (heard_in first bytes).lines →
@@ -404,7 +404,7 @@ run_more first bytes more lost written few t =
           ap (λ ls. slice_get ls (length lost)) grows.1
           ∙ slice_get-more (heard_in first bytes).lines grows.0 (length lost) t.next t.is_next;
       runs = subst (λ ls. RunsProgram (after first ls) t.next) logged_is t.runs;
-      tells = t.tells ∙ ap (told first) logged_is;
+      tells = t.tells ∙ ap (session_told first) logged_is;
     }
 
 off_more_at : (first : Register) (bytes more : List ℕ) (lost : List Bool) (written : List ℕ) → length lost ≤ length (heard_in first bytes).lines →
@@ -412,34 +412,34 @@ off_more_at : (first : Register) (bytes more : List ℕ) (lost : List Bool) (wri
 off_more_at first bytes more lost written few (Some e) ends t =
     let same : heard_in first bytes ≡ heard_in first (bytes ++ more) = sym (heard_in-ended first bytes more e ends) in record {
       missing = t.missing;
-      begins = ap (λ (h : Heard). told first (marked h.lines lost) ++ closing h.end) (sym same) ∙ t.begins;
-      all_but_last = subst (λ (h : Heard). length (told first (take (length lost - 1) (take (length lost) (marked h.lines lost)))) ≤ length written) same t.all_but_last;
+      begins = ap (λ (h : Heard). session_told first (marked_lines h.lines lost) ++ closing h.end) (sym same) ∙ t.begins;
+      all_but_last = subst (λ (h : Heard). length (session_told first (take (length lost - 1) (take (length lost) (marked_lines h.lines lost)))) ≤ length written) same t.all_but_last;
       no_other =
-          subst (λ (h : Heard). (length written ≤ length (told first (take (length lost) (marked h.lines lost)))) ⊎ (length lost ≡ length h.lines)) same
+          subst (λ (h : Heard). (length written ≤ length (session_told first (take (length lost) (marked_lines h.lines lost)))) ⊎ (length lost ≡ length h.lines)) same
           t.no_other;
     }
 off_more_at first bytes more lost written few None ends t =
     let lines = (heard_in first bytes).lines in
     let grows = lines_more first bytes more in
     let end = closing (heard_in first (bytes ++ more)).end in
-    let added = told (after first (marked lines lost)) (marked grows.0 []) ++ end in
+    let added = session_told (after first (marked_lines lines lost)) (marked_lines grows.0 []) ++ end in
     let logged_is = logged_lines-more first bytes more lost few in
-    let text : session_text first bytes lost ≡ told first (marked lines lost) =
-    ap (λ o. told first (marked lines lost) ++ closing o) ends ∙ append-nil (told first (marked lines lost)) in
-    let longer : session_text first (bytes ++ more) lost ≡ told first (marked lines lost) ++ added =
-    ap (λ ls. told first (marked ls lost) ++ end) grows.1
-    ∙ ap (λ ls. told first ls ++ end) (marked-append lines grows.0 lost few)
-    ∙ ap (λ t. t ++ end) (told-append first (marked lines lost) (marked grows.0 []))
-    ∙ append_assoc (told first (marked lines lost)) (told (after first (marked lines lost)) (marked grows.0 [])) end in record {
+    let text : session_text first bytes lost ≡ session_told first (marked_lines lines lost) =
+    ap (λ o. session_told first (marked_lines lines lost) ++ closing o) ends ∙ append-nil (session_told first (marked_lines lines lost)) in
+    let longer : session_text first (bytes ++ more) lost ≡ session_told first (marked_lines lines lost) ++ added =
+    ap (λ ls. session_told first (marked_lines ls lost) ++ end) grows.1
+    ∙ ap (λ ls. session_told first ls ++ end) (marked-append lines grows.0 lost few)
+    ∙ ap (λ t. t ++ end) (told-append first (marked_lines lines lost) (marked_lines grows.0 []))
+    ∙ append_assoc (session_told first (marked_lines lines lost)) (session_told (after first (marked_lines lines lost)) (marked_lines grows.0 [])) end in record {
       missing = t.missing ++ added;
       begins = longer ∙ ap (λ x. x ++ added) (sym text ∙ t.begins) ∙ append_assoc written t.missing added;
-      all_but_last = subst (λ ls. length (told first (take (length lost - 1) ls)) ≤ length written) (sym logged_is) t.all_but_last;
+      all_but_last = subst (λ ls. length (session_told first (take (length lost - 1) ls)) ≤ length written) (sym logged_is) t.all_but_last;
       no_other = inl (elim t.no_other [
-        | inl within ↦ subst (λ ls. length written ≤ length (told first ls)) (sym logged_is) within
+        | inl within ↦ subst (λ ls. length written ≤ length (session_told first ls)) (sym logged_is) within
         | inr all ↦
-            let whole : logged_lines first bytes lost ≡ marked lines lost =
-            take_all (length lost) (marked lines lost) (omega (arith, all, length-marked lines lost)) in
-            omega (arith, ap length (sym t.begins ∙ text), length-append written t.missing, ap (λ ls. length (told first ls)) (logged_is ∙ whole))
+            let whole : logged_lines first bytes lost ≡ marked_lines lines lost =
+            take_all (length lost) (marked_lines lines lost) (omega (arith, all, length-marked lines lost)) in
+            omega (arith, ap length (sym t.begins ∙ text), length-append written t.missing, ap (λ ls. length (session_told first ls)) (logged_is ∙ whole))
       ]);
     }
 

@@ -5,38 +5,38 @@ use Rattle.std.proofs.Math.ListN.{length-map, take-append-drop}
 use Rattle.std.proofs.Math.Seq.{get_or-append_seam}
 use Rattle.std.proofs.lemmas.List.{map-append}
 use Rattle.std.proofs.lemmas.Option.{slice_get-get_or}
-use Rattle.ot_book.specs.Books.{Register, next_number, state_in, logged}
+use Rattle.ot_book.specs.Books.{Register, next_number, state_in, line_logged}
 use Rattle.ot_book.specs.Answers.{is_checkpoint, answer_or_lost}
 use Rattle.ot_book.specs.Room.{Room, room_in, room_after}
 use Rattle.ot_book.proofs.BookLemmas.{logged-by}
 use Rattle.ot_book.proofs.RoomLemmas.{room-logged}
 use Rattle.ot_session.specs.Turns.{LogsLine}
-use Rattle.ot_session.specs.Session.{Lines, texts, marks, marked, after, told, reply_line}
+use Rattle.ot_session.specs.Session.{Lines, texts, line_marks, marked_lines, after, session_told, reply_line}
 
 -- ---- lines and marks
 
 pub length-texts : (lines : Lines) → length (texts lines) ≡ length lines
 length-texts lines = length-map lines (λ (l : List ℕ × Bool). l.0)
 
-pub length-marks : (lines : Lines) → length (marks lines) ≡ length lines
+pub length-marks : (lines : Lines) → length (line_marks lines) ≡ length lines
 length-marks lines = length-map lines (λ (l : List ℕ × Bool). l.1)
 
 pub texts-more : (lines : Lines) (line : List ℕ × Bool) → texts (lines ++ line ∷ []) ≡ texts lines ++ line.0 ∷ []
 texts-more lines line = map-append (λ (l : List ℕ × Bool). l.0) lines (line ∷ [])
 
 -- lines whose marks stand beside them, and further ones
-pub marked-texts : (lines : Lines) (rest : List (List ℕ)) → marked (texts lines ++ rest) (marks lines) ≡ lines ++ marked rest []
+pub marked-texts : (lines : Lines) (rest : List (List ℕ)) → marked_lines (texts lines ++ rest) (line_marks lines) ≡ lines ++ marked_lines rest []
 marked-texts [] [] = refl
 marked-texts [] (line ∷ rest) = refl
 marked-texts (line ∷ lines) rest = ap (λ ls. line ∷ ls) (marked-texts lines rest)
 
-pub marked-append : (lines more : List (List ℕ)) (lost : List Bool) → length lost ≤ length lines → marked (lines ++ more) lost ≡ marked lines lost ++ marked more []
+pub marked-append : (lines more : List (List ℕ)) (lost : List Bool) → length lost ≤ length lines → marked_lines (lines ++ more) lost ≡ marked_lines lines lost ++ marked_lines more []
 marked-append [] more [] few = refl
 marked-append [] more (m ∷ lost) few = absurd (omega (arith, few))
 marked-append (line ∷ lines) more [] few = ap (λ ls. (line, false) ∷ ls) (marked-append lines more [] (omega arith))
 marked-append (line ∷ lines) more (m ∷ lost) few = ap (λ ls. (line, m) ∷ ls) (marked-append lines more lost (omega (arith, few)))
 
-pub length-marked : (lines : List (List ℕ)) (lost : List Bool) → length (marked lines lost) ≡ length lines
+pub length-marked : (lines : List (List ℕ)) (lost : List Bool) → length (marked_lines lines lost) ≡ length lines
 length-marked [] lost = refl
 length-marked (line ∷ lines) [] = ap suc (length-marked lines [])
 length-marked (line ∷ lines) (m ∷ lost) = ap suc (length-marked lines lost)
@@ -45,40 +45,40 @@ length-marked (line ∷ lines) (m ∷ lost) = ap suc (length-marked lines lost)
 
 pub after-append : (book : Register) (lines more : Lines) → after book (lines ++ more) ≡ after (after book lines) more
 after-append book [] more = refl
-after-append book (l ∷ lines) more = after-append (logged book l.0 l.1) lines more
+after-append book (l ∷ lines) more = after-append (line_logged book l.0 l.1) lines more
 
-pub after-more : (book : Register) (lines : Lines) (line : List ℕ × Bool) → after book (lines ++ line ∷ []) ≡ logged (after book lines) line.0 line.1
+pub after-more : (book : Register) (lines : Lines) (line : List ℕ × Bool) → after book (lines ++ line ∷ []) ≡ line_logged (after book lines) line.0 line.1
 after-more book lines line = after-append book lines (line ∷ [])
 
-pub told-append : (book : Register) (lines more : Lines) → told book (lines ++ more) ≡ told book lines ++ told (after book lines) more
+pub told-append : (book : Register) (lines more : Lines) → session_told book (lines ++ more) ≡ session_told book lines ++ session_told (after book lines) more
 told-append book [] more = refl
 told-append book (l ∷ lines) more =
-    ap (λ rest. reply_line book l ++ rest) (told-append (logged book l.0 l.1) lines more)
-    ∙ sym (append_assoc (reply_line book l) (told (logged book l.0 l.1) lines) (told (after (logged book l.0 l.1) lines) more))
+    ap (λ rest. reply_line book l ++ rest) (told-append (line_logged book l.0 l.1) lines more)
+    ∙ sym (append_assoc (reply_line book l) (session_told (line_logged book l.0 l.1) lines) (session_told (after (line_logged book l.0 l.1) lines) more))
 
-pub told-more : (book : Register) (lines : Lines) (line : List ℕ × Bool) → told book (lines ++ line ∷ []) ≡ told book lines ++ reply_line (after book lines) line
-told-more book lines line = told-append book lines (line ∷ []) ∙ ap (λ text. told book lines ++ text) (append-nil (reply_line (after book lines) line))
+pub told-more : (book : Register) (lines : Lines) (line : List ℕ × Bool) → session_told book (lines ++ line ∷ []) ≡ session_told book lines ++ reply_line (after book lines) line
+told-more book lines line = told-append book lines (line ∷ []) ∙ ap (λ text. session_told book lines ++ text) (append-nil (reply_line (after book lines) line))
 
 -- the replies to the first lines are no longer than those to all
-pub told-take : (book : Register) (lines : Lines) (n : ℕ) → length (told book (take n lines)) ≤ length (told book lines)
+pub told-take : (book : Register) (lines : Lines) (n : ℕ) → length (session_told book (take n lines)) ≤ length (session_told book lines)
 told-take book lines n =
-    let all = ap (told book) (sym (take-append-drop n lines)) ∙ told-append book (take n lines) (drop n lines) in
-    omega (arith, ap length all, length-append (told book (take n lines)) (told (after book (take n lines)) (drop n lines)))
+    let all = ap (session_told book) (sym (take-append-drop n lines)) ∙ told-append book (take n lines) (drop n lines) in
+    omega (arith, ap length all, length-append (session_told book (take n lines)) (session_told (after book (take n lines)) (drop n lines)))
 
 -- the room after lines is counted by the lines alone
 pub room-after : (book : Register) (lines : Lines) → room_in (after book lines) ≡ room_after (room_in book) (texts lines)
 room-after book [] = refl
-room-after book (l ∷ lines) = room-after (logged book l.0 l.1) lines ∙ ap (λ r. room_after r (texts lines)) (room-logged book l.0 l.1)
+room-after book (l ∷ lines) = room-after (line_logged book l.0 l.1) lines ∙ ap (λ r. room_after r (texts lines)) (room-logged book l.0 l.1)
 
 -- each line has a number of its own
 pub next-after : (book : Register) (lines : Lines) → next_number (after book lines) ≡ next_number book + length lines
 next-after book [] = omega arith
 next-after book (l ∷ lines) =
-    let one : next_number (logged book l.0 l.1) ≡ next_number book + 1 = ap (λ (r : Room). r.next) (room-logged book l.0 l.1) in
-    omega (arith, one, next-after (logged book l.0 l.1) lines)
+    let one : next_number (line_logged book l.0 l.1) ≡ next_number book + 1 = ap (λ (r : Room). r.next) (room-logged book l.0 l.1) in
+    omega (arith, one, next-after (line_logged book l.0 l.1) lines)
 
 -- a log has the line that it took last
-pub some-logged : (book : Register) (line : List ℕ) (lost : Bool) → 0 < length (logged book line lost).log
+pub some-logged : (book : Register) (line : List ℕ) (lost : Bool) → 0 < length (line_logged book line lost).log
 some-logged book line lost =
     logged-by (λ b. 0 < length b.log) book line lost (is_checkpoint line) refl (λ _. omega arith)
     (λ _. omega (arith, length-append book.log ((line, (answer_or_lost book.limits (state_in book) line lost).0) ∷ [])))
@@ -87,12 +87,12 @@ pub some-taken : (book new : Register) (line : List ℕ) (took : Bool) → LogsL
 some-taken book new line true is so = omega (arith, some-logged book line is.1, ap (λ (b : Register). length b.log) is.2)
 some-taken book new line false is so = absurd (true≢false (sym so))
 
-pending-logged : (book : Register) (line : List ℕ) (lost : Bool) → (logged book line lost).pending ≡ None
+pending-logged : (book : Register) (line : List ℕ) (lost : Bool) → (line_logged book line lost).pending ≡ None
 pending-logged book line lost = logged-by (λ b. b.pending ≡ None) book line lost (is_checkpoint line) refl (λ _. refl) (λ _. refl)
 
 pub pending-after : (book : Register) (lines : Lines) → book.pending ≡ None → (after book lines).pending ≡ None
 pending-after book [] closed = closed
-pending-after book (l ∷ lines) closed = pending-after (logged book l.0 l.1) lines (pending-logged book l.0 l.1)
+pending-after book (l ∷ lines) closed = pending-after (line_logged book l.0 l.1) lines (pending-logged book l.0 l.1)
 
 -- ---- places of a list
 

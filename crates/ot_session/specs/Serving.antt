@@ -3,7 +3,7 @@ use Rattle.std.specs.Prelude.{◌≡◌, ◌≢◌, ◌≤◌, ℕ, List, length
 use Rattle.std.specs.Io.KnownBytes.{Appends, Consumes, IsAtEnd}
 use Rattle.ot_book.specs.Books.{Register}
 use Rattle.ot_lines.specs.declared.lines.Bounds.{Bounds}
-use Rattle.ot_session.specs.Session.{max_line, heard_in, Session, Serves, Lines, texts, after, told}
+use Rattle.ot_session.specs.Session.{max_line, heard_in, Session, Serves, Lines, texts, after, session_told}
 use Rattle.ot_session.specs.declared.fault.End.{End}
 use Rattle.ot_session.specs.declared.fault.End.TheVariants as end
 use Rattle.ot_session.specs.declared.fault.FrontFault.{FrontFault}
@@ -40,7 +40,7 @@ pub record Going (first : Register) (start : Option (List ℕ)) (bytes partial :
   pub hears : heard_in first bytes ≡ record { lines = texts lines; partial = partial; end = None }
   pub short : length partial ≤ max_line
   pub logs : book ≡ after first lines
-  pub writes : Appends start held (told first lines)
+  pub writes : Appends start held (session_told first lines)
 
 -- it goes on, or it has stopped in these bytes
 abbrev pub Goes : Register → Option (List ℕ) → List ℕ → List ℕ → Register → Option (List ℕ) → Result ⊤ Stop → Type 0

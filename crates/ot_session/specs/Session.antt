@@ -1,14 +1,14 @@
 -- The replies to lines, one after another.
 use Rattle.std.specs.Prelude.{◌≡◌, [], ◌≤◌, ◌⊎◌, ℕ, ◌+◌, ◌-◌, List, ◌∷◌, ◌++◌, length, take, slice_get, codes, Bool, Option, Some, None, Result, Ok, Err, ◌==◌, fold, nat_le, is_some, if◌then◌else◌, map, false, option_map, unwrap_or}
 use Rattle.std.specs.Io.KnownBytes.{Appends, Consumes}
-use Rattle.ot_book.specs.Books.{Register, next_number, next_step, reply_at, logged}
+use Rattle.ot_book.specs.Books.{Register, next_number, next_step, reply_at, line_logged}
 use Rattle.ot_book.specs.Room.{room_in, Room, takes, room_after}
 use Rattle.ot_session.specs.declared.fault.End.{End}
 use Rattle.ot_session.specs.declared.fault.End.TheVariants.{EndOfInput, Full, LongLine, Closed, Bye}
 use Rattle.ot_session.specs.declared.fault.FrontFault.{FrontFault}
 use Rattle.ot_session.specs.declared.fault.FrontFault.TheVariants.{WriteFailed, Memory, Stranger, SocketFailed}
 pub use Rattle.ot_lines.specs.Lines.{HasNoEnd}
-pub use Rattle.ot_lines.specs.Goodbyes.{is_blank, without_front_blanks, trimmed, is_bye}
+pub use Rattle.ot_lines.specs.Goodbyes.{is_blank, without_front_blanks, line_trimmed, is_bye}
 use Rattle.ot_model.specs.Programs.{Expanded}
 use Rattle.ot_book.specs.Answers.{Runs, text_of}
 
@@ -19,19 +19,19 @@ Lines = List (List ℕ × Bool)
 abbrev pub texts : Lines → List (List ℕ)
 texts lines = map (λ l. l.0) lines
 
-abbrev pub marks : Lines → List Bool
-marks lines = map (λ l. l.1) lines
+abbrev pub line_marks : Lines → List Bool
+line_marks lines = map (λ l. l.1) lines
 
 -- the lines with these marks beside them, and after the last mark with none
-abbrev pub marked : List (List ℕ) → List Bool → Lines
-marked [] lost = []
-marked (line ∷ lines) [] = (line, false) ∷ marked lines []
-marked (line ∷ lines) (mark ∷ lost) = (line, mark) ∷ marked lines lost
+abbrev pub marked_lines : List (List ℕ) → List Bool → Lines
+marked_lines [] lost = []
+marked_lines (line ∷ lines) [] = (line, false) ∷ marked_lines lines []
+marked_lines (line ∷ lines) (mark ∷ lost) = (line, mark) ∷ marked_lines lines lost
 
 -- the book after the lines, one after another
 abbrev pub after : Register → Lines → Register
 after book [] = book
-after book (line ∷ lines) = after (logged book line.0 line.1) lines
+after book (line ∷ lines) = after (line_logged book line.0 line.1) lines
 
 -- the last reply of a log, ended by one LF
 abbrev pub last_reply : Register → List ℕ
@@ -39,12 +39,12 @@ last_reply book = unwrap_or (option_map (λ r. text_of r.0 r.1 ++ 10 ∷ []) (re
 
 -- the reply to a line as the next request: it stands last once the line is logged
 abbrev pub reply_line : Register → List ℕ × Bool → List ℕ
-reply_line book line = last_reply (logged book line.0 line.1)
+reply_line book line = last_reply (line_logged book line.0 line.1)
 
 -- the replies to the lines, one after another
-abbrev pub told : Register → Lines → List ℕ
-told book [] = []
-told book (line ∷ lines) = reply_line book line ++ told (logged book line.0 line.1) lines
+abbrev pub session_told : Register → Lines → List ℕ
+session_told book [] = []
+session_told book (line ∷ lines) = reply_line book line ++ session_told (line_logged book line.0 line.1) lines
 
 -- the line runs a program
 abbrev pub RunsProgram : Register → List ℕ → Type 0
@@ -103,11 +103,11 @@ heard_in book bytes = heard (room_in book) bytes
 abbrev pub session_text : Register → List ℕ → List Bool → List ℕ
 session_text book bytes lost =
     let h = heard_in book bytes in
-    told book (marked h.lines lost) ++ closing h.end
+    session_told book (marked_lines h.lines lost) ++ closing h.end
 
 -- the first of the lines, one for each mark: they are logged
 abbrev pub logged_lines : Register → List ℕ → List Bool → Lines
-logged_lines book bytes lost = take (length lost) (marked (heard_in book bytes).lines lost)
+logged_lines book bytes lost = take (length lost) (marked_lines (heard_in book bytes).lines lost)
 
 -- All lines are logged, the whole text is written, and the session has come to this end.
 pub record TellsAll (book : Register) (bytes : List ℕ) (lost : List Bool) (written : List ℕ) (end : Option End) : Type 0 where
@@ -121,15 +121,15 @@ pub record LeavesRun (book : Register) (bytes : List ℕ) (lost : List Bool) (wr
   pub next : List ℕ
   pub is_next : slice_get (heard_in book bytes).lines (length lost) ≡ Some next
   pub runs : RunsProgram (after book (logged_lines book bytes lost)) next
-  pub tells : written ≡ told book (logged_lines book bytes lost)
+  pub tells : written ≡ session_told book (logged_lines book bytes lost)
 
 -- A beginning of the text is written. Of the replies to the lines that are logged at most bytes of the
 -- last are missing, and no other line is answered.
 pub record BreaksOff (book : Register) (bytes : List ℕ) (lost : List Bool) (written : List ℕ) : Type 0 where
   pub missing : List ℕ
   pub begins : session_text book bytes lost ≡ written ++ missing
-  pub all_but_last : length (told book (take (length lost - 1) (logged_lines book bytes lost))) ≤ length written
-  pub no_other : (length written ≤ length (told book (logged_lines book bytes lost))) ⊎ (length lost ≡ length (heard_in book bytes).lines)
+  pub all_but_last : length (session_told book (take (length lost - 1) (logged_lines book bytes lost))) ≤ length written
+  pub no_other : (length written ≤ length (session_told book (logged_lines book bytes lost))) ⊎ (length lost ≡ length (heard_in book bytes).lines)
 
 -- what is written and logged, by the result
 abbrev pub SessionTells : Register → List ℕ → List Bool → List ℕ → Result End FrontFault → Type 0

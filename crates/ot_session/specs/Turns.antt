@@ -1,6 +1,6 @@
 -- What a line does to a session.
 use Rattle.std.specs.Prelude.{◌≡◌, [], ◌≤◌, ℕ, List, ◌∷◌, ◌++◌, Bool, true, false, Option, None, Result, Ok, Err, ⊤}
-use Rattle.ot_book.specs.Books.{Register, next_number, logged, IsFullFor}
+use Rattle.ot_book.specs.Books.{Register, next_number, line_logged, IsFullFor}
 use Rattle.ot_lines.specs.Lines.{count_after}
 use Rattle.ot_session.specs.Session.{after, RunsProgram}
 use Rattle.ot_session.specs.declared.stop.Stop.{Stop}
@@ -15,7 +15,7 @@ pub record TakesLine (old : Register) (held : Option (List ℕ)) (before : ℕ) 
 
 -- the line is logged, or the book has no room for it
 abbrev pub LogsLine : Register → List ℕ → Bool → Register → Type 0
-LogsLine old line true new = (¬ (IsFullFor old line)) × (lost : Bool) × (new ≡ logged old line lost)
+LogsLine old line true new = (¬ (IsFullFor old line)) × (lost : Bool) × (new ≡ line_logged old line lost)
 LogsLine old line false new = IsFullFor old line × (new ≡ old)
 
 -- it would run a program

@@ -1,6 +1,6 @@
 //! A session from bytes to bytes: lines come in, one reply goes out for each.
 ghost use Rattle.std.specs.Prelude.{◌≡◌, None};
-ghost use Rattle.ot_lines.specs.Lines.{opened};
+ghost use Rattle.ot_lines.specs.Lines.{hearing_opened};
 ghost use Rattle.ot_session.specs.Serving.{session_bounds, IsServed};
 
 use crate::device::Sink;
@@ -50,7 +50,7 @@ pub(crate) fn serve_lines<E: Executor, R: Source, W: Sink>(
     source: &mut R,
     sink: &mut W,
 ) -> Result<End, FrontFault>
-    requires begun { lines.old ≡ opened session_bounds }
+    requires begun { lines.old ≡ hearing_opened session_bounds }
     requires closed { book.old.pending ≡ None }
     ensures { IsServed book.old book.new (R.flow source.old) (R.flow source.new)
         (W.contents sink.old) (W.contents sink.new) (W.failures sink.old) (W.failures sink.new) result }

@@ -12,14 +12,14 @@ use Rattle.ot_model.specs.declared.stmt.Mode.TheVariants as m
 use Rattle.ot_model.specs.declared.stmt.Use.{Use}
 use Rattle.ot_model.specs.Signs.{identifier}
 use Rattle.ot_model.specs.Cells.{AreInOrder, number_of}
-use Rattle.ot_show_print.specs.Shown.{Text, name, cells_in, sections_of, cells_of}
+use Rattle.ot_show_print.specs.Shown.{Text, name, cells_in, sections_of, section_cells}
 use Rattle.ot_show_print.specs.Laws.{is_digit, CellsFit}
 use Rattle.ot_show_print.proofs.WordLemmas.{and_true, head_of, tail_of}
 use Rattle.ot_show_print.proofs.ValueLemmas.{same_cell, same_section}
 use Rattle.ot_show_print.proofs.SectionLemmas.{come_back}
 use Rattle.ot_show_print.proofs.ClauseLemmas.{same_uses}
-use Rattle.ot_show_c.specs.Statements.{short, listed, iterations, dependences, pointer_word, pointer, pointed, reduction, folded, declared}
-use Rattle.ot_show_c.specs.Laws.{all_identifier, AreIdentifiers, UsesFit, DeclarationIsDetermined}
+use Rattle.ot_show_c.specs.Statements.{short, list_clause, iterations, c_dependences, pointer_word, pointer, pointer_items, c_reduction, fold_clauses, c_clauses}
+use Rattle.ot_show_c.specs.Laws.{all_identifier, AreIdentifiers, CUsesFit, DeclarationIsDetermined}
 use Rattle.ot_show_c.proofs.WordLemmas.{all_of, all_append, split_by, starts, split, all_digits, only_digits, number_word, word_append, same_number, name_word, same_array, one_cell}
 use Rattle.ot_show_c.proofs.OrderLemmas.{long, AreSorted, sorted_in, by_parts}
 use Rattle.ot_show_c.proofs.DependenceLemmas.{quiet, all_quiet, word_quiet, quiet_append, number_quiet, name_quiet, keep, keep_copying, kind_text, cells_text, listed_cells, SectionFits, SectionsFit, one_iterated, all_iterated, short_fit, long_fit, cells_fit, sections_fit, small_in, cells_are_small, deps_are, cells_quiet, listed_shown, iterated_rest, iterated_shown, keep_deps, HoldOfClauses, in_deps, Outside}
@@ -40,18 +40,18 @@ pointer_is_word names are op c array index =
     (word_append (pointer_word op ++ name names c.array) (codes "_") (word_append (pointer_word op) (name names c.array) (word_pointer op) (name_word (name names c.array) (are.each c.array array))) refl)
     (number_word c.index index)
 
-pointed_quiet : (names : List Text) → AreIdentifiers names → (w : Text) (op : Operation) (cs : List Cell) → all_quiet w ≡ true → CellsFit names cs → all_quiet (pointed names w op cs) ≡ true
+pointed_quiet : (names : List Text) → AreIdentifiers names → (w : Text) (op : Operation) (cs : List Cell) → all_quiet w ≡ true → CellsFit names cs → all_quiet (pointer_items names w op cs) ≡ true
 pointed_quiet names are w op [] h fit = refl
 pointed_quiet names are w op (c ∷ cs) h fit =
-    quiet_append (w ++ pointer names op c ++ codes "[0:1]") (pointed names (codes ", ") op cs)
+    quiet_append (w ++ pointer names op c ++ codes "[0:1]") (pointer_items names (codes ", ") op cs)
     (quiet_append (w ++ pointer names op c) (codes "[0:1]") (quiet_append w (pointer names op c) h (word_quiet (pointer names op c) (pointer_is_word names are op c fit.0.0 fit.0.1))) refl)
     (pointed_quiet names are (codes ", ") op cs refl fit.1)
 
 abbrev one_reduction : List Text → Operation → List Cell → Text
-one_reduction names op cs = reduction names (codes " in_reduction(") op cs
+one_reduction names op cs = c_reduction names (codes " in_reduction(") op cs
 
-reduction_shown : (names : List Text) (op : Operation) (c : Cell) (cs : List Cell) (t : Text) → one_reduction names op (c ∷ cs) ++ t ≡ codes " in_reduction(" ++ (identifier op ++ (pointed names (codes ": ") op (c ∷ cs) ++ (41 ∷ t)))
-reduction_shown names op c cs t = parts (codes " in_reduction(") (identifier op) (pointed names (codes ": ") op (c ∷ cs)) t
+reduction_shown : (names : List Text) (op : Operation) (c : Cell) (cs : List Cell) (t : Text) → one_reduction names op (c ∷ cs) ++ t ≡ codes " in_reduction(" ++ (identifier op ++ (pointer_items names (codes ": ") op (c ∷ cs) ++ (41 ∷ t)))
+reduction_shown names op c cs t = parts (codes " in_reduction(") (identifier op) (pointer_items names (codes ": ") op (c ∷ cs)) t
   where
     parts : (a b x t : Text) → (a ++ b ++ x ++ (41 ∷ [])) ++ t ≡ a ++ (b ++ (x ++ (41 ∷ t)))
     parts a b x t = simp append_assoc refl
@@ -59,7 +59,7 @@ reduction_shown names op c cs t = parts (codes " in_reduction(") (identifier op)
 keep_reduction : (names : List Text) → AreIdentifiers names → (op : Operation) (cs : List Cell) (t : Text) → CellsFit names cs → keep Outside (one_reduction names op cs ++ t) ≡ one_reduction names op cs ++ keep Outside t
 keep_reduction names are op [] t fit = refl
 keep_reduction names are op (c ∷ cs) t fit =
-    let x = pointed names (codes ": ") op (c ∷ cs) in
+    let x = pointer_items names (codes ": ") op (c ∷ cs) in
     ap (keep Outside) (reduction_shown names op c cs t)
     ∙ ap (λ u. codes " in_reduction(" ++ u) (keep_copying (identifier op) (x ++ (41 ∷ t)) (identifier_quiet op) ∙ ap (λ u. identifier op ++ u) (keep_copying x (41 ∷ t) (pointed_quiet names are (codes ": ") op (c ∷ cs) refl fit)))
     ∙ sym (reduction_shown names op c cs (keep Outside t))
@@ -68,17 +68,17 @@ keep_reduction names are op (c ∷ cs) t fit =
 
 abbrev pub all_folded : List Text → List Use → List Operation → Text
 all_folded names us [] = []
-all_folded names us (op ∷ ops) = folded names us op ++ all_folded names us ops
+all_folded names us (op ∷ ops) = fold_clauses names us op ++ all_folded names us ops
 
 abbrev reductions : List Text → List Use → List Operation → Text
 reductions names us [] = []
 reductions names us (op ∷ ops) = one_reduction names op (cells_in us (m.Folds op)) ++ reductions names us ops
 
-keep_folded : (names : List Text) → AreIdentifiers names → (us : List Use) (ops : List Operation) → UsesFit names us → keep Outside (all_folded names us ops) ≡ reductions names us ops
+keep_folded : (names : List Text) → AreIdentifiers names → (us : List Use) (ops : List Operation) → CUsesFit names us → keep Outside (all_folded names us ops) ≡ reductions names us ops
 keep_folded names are us [] fit = refl
 keep_folded names are us (op ∷ ops) fit =
     let cs = cells_in us (m.Folds op) in
-    let deps = dependences names (codes "in") us (m.Folds op) in
+    let deps = c_dependences names (codes "in") us (m.Folds op) in
     let red = one_reduction names op cs in
     let rest = all_folded names us ops in
     ap (keep Outside) (append_assoc deps red rest) ∙ keep_deps names are true us (m.Folds op) (red ++ rest) fit
@@ -88,24 +88,24 @@ abbrev pub operations : List Operation
 operations = f.Plus ∷ f.Times ∷ f.And ∷ f.Or ∷ f.Xor ∷ f.Min ∷ f.Max ∷ []
 
 abbrev pub depends : List Text → List Use → Text
-depends names us = dependences names (codes "in") us m.Reads ++ dependences names (codes "out") us m.Writes
+depends names us = c_dependences names (codes "in") us m.Reads ++ c_dependences names (codes "out") us m.Writes
 
-pub declared_shown : (names : List Text) (us : List Use) → declared names us ≡ depends names us ++ all_folded names us operations
+pub declared_shown : (names : List Text) (us : List Use) → c_clauses names us ≡ depends names us ++ all_folded names us operations
 declared_shown names us = simp (append_assoc, append-nil) refl
 
-keep_declared : (names : List Text) → AreIdentifiers names → (us : List Use) → UsesFit names us → keep Outside (declared names us) ≡ reductions names us operations
+keep_declared : (names : List Text) → AreIdentifiers names → (us : List Use) → CUsesFit names us → keep Outside (c_clauses names us) ≡ reductions names us operations
 keep_declared names are us fit =
-    let one = dependences names (codes "in") us m.Reads in
-    let two = dependences names (codes "out") us m.Writes in
+    let one = c_dependences names (codes "in") us m.Reads in
+    let two = c_dependences names (codes "out") us m.Writes in
     let rest = all_folded names us operations in
     ap (keep Outside) (declared_shown names us ∙ append_assoc one two rest) ∙ keep_deps names are true us m.Reads (two ++ rest) fit ∙ keep_deps names are false us m.Writes rest fit ∙ keep_folded names are us operations fit
 
 -- what holds of clauses holds of all that are declared
-pub in_declared : (names : List Text) (P : Text → Type 0) → HoldOfClauses names P → ((op : Operation) (c : Cell) (cs : List Cell) → CellsFit names (c ∷ cs) → P (one_reduction names op (c ∷ cs))) → (us : List Use) → UsesFit names us → P (declared names us)
+pub in_declared : (names : List Text) (P : Text → Type 0) → HoldOfClauses names P → ((op : Operation) (c : Cell) (cs : List Cell) → CellsFit names (c ∷ cs) → P (one_reduction names op (c ∷ cs))) → (us : List Use) → CUsesFit names us → P (c_clauses names us)
 in_declared names P h reduces us fit =
     subst P (sym (declared_shown names us))
     (h.both (depends names us) (all_folded names us operations)
-    (h.both (dependences names (codes "in") us m.Reads) (dependences names (codes "out") us m.Writes) (in_deps names P h true us m.Reads fit) (in_deps names P h false us m.Writes fit)) (folds operations))
+    (h.both (c_dependences names (codes "in") us m.Reads) (c_dependences names (codes "out") us m.Writes) (in_deps names P h true us m.Reads fit) (in_deps names P h false us m.Writes fit)) (folds operations))
   where
     reduced : (op : Operation) (cs : List Cell) → CellsFit names cs → P (one_reduction names op cs)
     reduced op [] f = h.none
@@ -115,8 +115,8 @@ in_declared names P h reduces us fit =
     folds [] = h.none
     folds (op ∷ ops) =
         let cs = cells_in us (m.Folds op) in
-        h.both (folded names us op) (all_folded names us ops)
-        (h.both (dependences names (codes "in") us (m.Folds op)) (one_reduction names op cs) (in_deps names P h true us (m.Folds op) fit) (reduced op cs (cells_are_small names cs (small_in names us (m.Folds op) fit)))) (folds ops)
+        h.both (fold_clauses names us op) (all_folded names us ops)
+        (h.both (c_dependences names (codes "in") us (m.Folds op)) (one_reduction names op cs) (in_deps names P h true us (m.Folds op) fit) (reduced op cs (cells_are_small names cs (small_in names us (m.Folds op) fit)))) (folds ops)
 
 -- ---- reductions determine what is folded
 
@@ -140,7 +140,7 @@ op_in_front _ t = refl
 
 first_reduction : (names : List Text) (op : Operation) (c : Cell) (cs : List Cell) (t : Text) → first_op (one_reduction names op (c ∷ cs) ++ t) ≡ number_of op
 first_reduction names op c cs t =
-    ap first_op (reduction_shown names op c cs t) ∙ op_in_front op (tail_of (pointed names (codes ": ") op (c ∷ cs) ++ (41 ∷ t)))
+    ap first_op (reduction_shown names op c cs t) ∙ op_in_front op (tail_of (pointer_items names (codes ": ") op (c ∷ cs) ++ (41 ∷ t)))
 
 -- operations one after the other, by their numbers
 abbrev AreFrom : ℕ → List Operation → Type 0
@@ -176,7 +176,7 @@ same_ends (x ∷ xs) (y ∷ ys) d e hd he is =
     let inner = same_ends xs ys d e hd he (ap tail_of is) in
     (ap (λ b. b ∷ xs) (ap head_of is) ∙ ap (λ bs. y ∷ bs) inner.0, inner.1)
 
-pointer_shown : (names : List Text) (w : Text) (op : Operation) (c : Cell) (cs : List Cell) (t : Text) → pointed names w op (c ∷ cs) ++ t ≡ w ++ (pointer names op c ++ (91 ∷ 48 ∷ 58 ∷ 49 ∷ 93 ∷ (pointed names (codes ", ") op cs ++ t)))
+pointer_shown : (names : List Text) (w : Text) (op : Operation) (c : Cell) (cs : List Cell) (t : Text) → pointer_items names w op (c ∷ cs) ++ t ≡ w ++ (pointer names op c ++ (91 ∷ 48 ∷ 58 ∷ 49 ∷ 93 ∷ (pointer_items names (codes ", ") op cs ++ t)))
 pointer_shown names w op c cs t = simp append_assoc refl
 
 pointer_parts : (names : List Text) (op : Operation) (c : Cell) → pointer names op c ≡ pointer_word op ++ (name names c.array ++ (95 ∷ decimal c.index))
@@ -190,16 +190,16 @@ same_pointer names are op c d t u hc ic hd id ht hu is =
     let ends = same_ends (name names c.array) (name names d.array) (decimal c.index) (decimal d.index) (only_digits c.index ic) (only_digits d.index id) inner in
     (same_cell c d (are.differ c.array d.array hc hd ends.0) (decimal_injective c.index d.index ic id ends.1), words.1)
 
-first_pointed : (names : List Text) → AreIdentifiers names → (w : Text) (op : Operation) (c d : Cell) (cs ds : List Cell) (t u : Text) → CellsFit names (c ∷ cs) → CellsFit names (d ∷ ds) → pointed names w op (c ∷ cs) ++ t ≡ pointed names w op (d ∷ ds) ++ u
-    → (c ≡ d) × (pointed names (codes ", ") op cs ++ t ≡ pointed names (codes ", ") op ds ++ u)
+first_pointed : (names : List Text) → AreIdentifiers names → (w : Text) (op : Operation) (c d : Cell) (cs ds : List Cell) (t u : Text) → CellsFit names (c ∷ cs) → CellsFit names (d ∷ ds) → pointer_items names w op (c ∷ cs) ++ t ≡ pointer_items names w op (d ∷ ds) ++ u
+    → (c ≡ d) × (pointer_items names (codes ", ") op cs ++ t ≡ pointer_items names (codes ", ") op ds ++ u)
 first_pointed names are w op c d cs ds t u f g is =
-    let x = pointed names (codes ", ") op cs ++ t in
-    let y = pointed names (codes ", ") op ds ++ u in
+    let x = pointer_items names (codes ", ") op cs ++ t in
+    let y = pointer_items names (codes ", ") op ds ++ u in
     let one = same_pointer names are op c d (codes "[0:1]" ++ x) (codes "[0:1]" ++ y) f.0.0 f.0.1 g.0.0 g.0.1 refl refl
     (append_cancel_left w (pointer names op c ++ (codes "[0:1]" ++ x)) (pointer names op d ++ (codes "[0:1]" ++ y)) (sym (pointer_shown names w op c cs t) ∙ is ∙ pointer_shown names w op d ds u)) in
     (one.0, append_cancel_left (codes "[0:1]") x y one.1)
 
-same_further : (names : List Text) → AreIdentifiers names → (op : Operation) (cs ds : List Cell) (r u : Text) → CellsFit names cs → CellsFit names ds → pointed names (codes ", ") op cs ++ (41 ∷ r) ≡ pointed names (codes ", ") op ds ++ (41 ∷ u) → (cs ≡ ds) × (r ≡ u)
+same_further : (names : List Text) → AreIdentifiers names → (op : Operation) (cs ds : List Cell) (r u : Text) → CellsFit names cs → CellsFit names ds → pointer_items names (codes ", ") op cs ++ (41 ∷ r) ≡ pointer_items names (codes ", ") op ds ++ (41 ∷ u) → (cs ≡ ds) × (r ≡ u)
 same_further names are op [] [] r u f g is = (refl, ap tail_of is)
 same_further names are op [] (d ∷ ds) r u f g is = absurd (omega (arith, ap head_of (is ∙ pointer_shown names (codes ", ") op d ds (41 ∷ u))))
 same_further names are op (c ∷ cs) [] r u f g is = absurd (omega (arith, ap head_of (sym is ∙ pointer_shown names (codes ", ") op c cs (41 ∷ r))))
@@ -213,8 +213,8 @@ same_reduction names are op [] [] t u f g ht hu is = (refl, is)
 same_reduction names are op [] (d ∷ ds) t u f g ht hu is = let e : first_op t ≡ number_of op = ap first_op is ∙ first_reduction names op d ds u in absurd (omega (arith, e, ht))
 same_reduction names are op (c ∷ cs) [] t u f g ht hu is = let e : first_op u ≡ number_of op = ap first_op (sym is) ∙ first_reduction names op c cs t in absurd (omega (arith, e, hu))
 same_reduction names are op (c ∷ cs) (d ∷ ds) t u f g ht hu is =
-    let x = pointed names (codes ": ") op (c ∷ cs) ++ (41 ∷ t) in
-    let y = pointed names (codes ": ") op (d ∷ ds) ++ (41 ∷ u) in
+    let x = pointer_items names (codes ": ") op (c ∷ cs) ++ (41 ∷ t) in
+    let y = pointer_items names (codes ": ") op (d ∷ ds) ++ (41 ∷ u) in
     let one = first_pointed names are (codes ": ") op c d cs ds (41 ∷ t) (41 ∷ u) f g
     (append_cancel_left (identifier op) x y (append_cancel_left (codes " in_reduction(") (identifier op ++ x) (identifier op ++ y) (sym (reduction_shown names op c cs t) ∙ is ∙ reduction_shown names op d ds u))) in
     let rest = same_further names are op cs ds t u f.1 g.1 one.1 in
@@ -224,7 +224,7 @@ abbrev Agree : List Operation → List Use → List Use → Type 0
 Agree [] us vs = Unit {0}
 Agree (op ∷ ops) us vs = (cells_in us (m.Folds op) ≡ cells_in vs (m.Folds op)) × Agree ops us vs
 
-same_reductions : (names : List Text) → AreIdentifiers names → (us vs : List Use) (n : ℕ) (ops : List Operation) → UsesFit names us → UsesFit names vs → AreFrom n ops → reductions names us ops ≡ reductions names vs ops → Agree ops us vs
+same_reductions : (names : List Text) → AreIdentifiers names → (us vs : List Use) (n : ℕ) (ops : List Operation) → CUsesFit names us → CUsesFit names vs → AreFrom n ops → reductions names us ops ≡ reductions names vs ops → Agree ops us vs
 same_reductions names are us vs n [] f g from is = tt
 same_reductions names are us vs n (op ∷ ops) f g from is =
     let cs = cells_in us (m.Folds op) in
@@ -238,7 +238,7 @@ same_reductions names are us vs n (op ∷ ops) f g from is =
 same_folded : (names : List Text) (us vs : List Use) (ops : List Operation) → Agree ops us vs → all_folded names us ops ≡ all_folded names vs ops
 same_folded names us vs [] h = refl
 same_folded names us vs (op ∷ ops) h =
-    let by : List Cell → Text = λ cs. (listed names (codes " depend(") (codes "in") (short (sections_of cs)) ++ iterations names (codes " depend(iterator(at = ") (codes "in") (sections_of cs)) ++ one_reduction names op cs in
+    let by : List Cell → Text = λ cs. (list_clause names (codes " depend(") (codes "in") (short (sections_of cs)) ++ iterations names (codes " depend(iterator(at = ") (codes "in") (sections_of cs)) ++ one_reduction names op cs in
     ap (λ cs. by cs ++ all_folded names us ops) h.0 ∙ ap (λ t. by (cells_in vs (m.Folds op)) ++ t) (same_folded names us vs ops h.1)
 
 -- ---- dependences determine what is read and what is written
@@ -399,26 +399,26 @@ same_four names are a b c d w x y z fa fb fc fd fw fx fy fz is =
     (one.0, two.0, three.0, last.0)
 
 abbrev few : List Use → Mode → List Cell
-few us mode = cells_of (short (sections_of (cells_in us mode)))
+few us mode = section_cells (short (sections_of (cells_in us mode)))
 
 abbrev many : List Use → Mode → List Section
 many us mode = long (sections_of (cells_in us mode))
 
-depends_shown : (names : List Text) (us : List Use) → UsesFit names us → depends names us ≡ four names (few us m.Reads) (many us m.Reads) (few us m.Writes) (many us m.Writes)
+depends_shown : (names : List Text) (us : List Use) → CUsesFit names us → depends names us ≡ four names (few us m.Reads) (many us m.Reads) (few us m.Writes) (many us m.Writes)
 depends_shown names us fit =
-    ap (λ t. t ++ dependences names (codes "out") us m.Writes) (deps_are names true us m.Reads fit)
+    ap (λ t. t ++ c_dependences names (codes "out") us m.Writes) (deps_are names true us m.Reads fit)
     ∙ ap (λ t. (listed_cells names true (few us m.Reads) ++ all_iterated names true (many us m.Reads)) ++ t) (deps_are names false us m.Writes fit)
     ∙ parts (listed_cells names true (few us m.Reads)) (all_iterated names true (many us m.Reads)) (listed_cells names false (few us m.Writes)) (all_iterated names false (many us m.Writes))
   where
     parts : (a b c d : Text) → (a ++ b) ++ (c ++ d) ≡ a ++ (b ++ (c ++ (d ++ [])))
     parts a b c d = simp (append_assoc, append-nil) refl
 
-few_fit : (names : List Text) (us : List Use) (mode : Mode) → UsesFit names us → CellsFit names (few us mode)
+few_fit : (names : List Text) (us : List Use) (mode : Mode) → CUsesFit names us → CellsFit names (few us mode)
 few_fit names us mode fit =
     let ss = sections_of (cells_in us mode) in
     cells_fit names (short ss) (short_fit names ss (sections_fit names (cells_in us mode) (small_in names us mode fit)))
 
-many_fit : (names : List Text) (us : List Use) (mode : Mode) → UsesFit names us → SectionsFit names (many us mode)
+many_fit : (names : List Text) (us : List Use) (mode : Mode) → CUsesFit names us → SectionsFit names (many us mode)
 many_fit names us mode fit = long_fit names (sections_of (cells_in us mode)) (sections_fit names (cells_in us mode) (small_in names us mode fit))
 
 -- a mode's cells come from those that are listed and the sections that aren't
@@ -498,9 +498,9 @@ iterated_line names are k s fit =
 
 reduction_line : (names : List Text) → AreIdentifiers names → (op : Operation) (c : Cell) (cs : List Cell) → CellsFit names (c ∷ cs) → is_line (one_reduction names op (c ∷ cs)) ≡ true
 reduction_line names are op c cs fit =
-    let x = pointed names (codes ": ") op (c ∷ cs) in
+    let x = pointer_items names (codes ": ") op (c ∷ cs) in
     line_append (codes " in_reduction(" ++ identifier op ++ x) (codes ")")
     (line_append (codes " in_reduction(" ++ identifier op) x (line_append (codes " in_reduction(") (identifier op) refl (quiet_line (identifier op) (identifier_quiet op))) (quiet_line x (pointed_quiet names are (codes ": ") op (c ∷ cs) refl fit))) refl
 
-pub declared_line : (names : List Text) → AreIdentifiers names → (us : List Use) → UsesFit names us → is_line (declared names us) ≡ true
+pub declared_line : (names : List Text) → AreIdentifiers names → (us : List Use) → CUsesFit names us → is_line (c_clauses names us) ≡ true
 declared_line names are = in_declared names (λ w. is_line w ≡ true) (record { none = refl; both = line_append; list = list_line names are; iterator = iterated_line names are }) (reduction_line names are)

@@ -6,7 +6,7 @@ use Rattle.std.proofs.lemmas.List.{append-nil, drop_all}
 use Rattle.ot_model.specs.Programs.{Expanded, arrays_of}
 use Rattle.ot_model.specs.declared.shape.ArrayShape.{ArrayShape}
 use Rattle.ot_show_print.specs.Shown.{Text}
-use Rattle.ot_show_c.specs.Programs.{Declared, any_declared, array_of, declared, declaration, each_declared, declarations, words_if, declared_from, lists_of}
+use Rattle.ot_show_c.specs.Programs.{Declared, any_declared, array_of, c_declared, declaration, each_declared, declarations, words_if, declared_from, lists_of}
 use Rattle.ot_show_c.specs.Named.{names}
 
 -- those from an array on
@@ -14,7 +14,7 @@ abbrev pub left : {Z : Type 0} → Expanded → ℕ → List ArrayShape → List
 left p i xs vs = declared_from p i (arrays_of (drop i xs)) (lists_of (drop i vs))
 
 text_of_first : (m : Text) (p : Expanded) (i : ℕ) (a : Text × ℕ) (others : List (Text × ℕ)) (ns : List ℕ) (more : List (List ℕ)) (b : Bool) → names p i ≡ b
-    → each_declared m (declared_from p i (a ∷ others) (ns ∷ more)) ≡ words_if (names p i) (declaration m (declared a ns)) ++ each_declared m (declared_from p (i + 1) others more)
+    → each_declared m (declared_from p i (a ∷ others) (ns ∷ more)) ≡ words_if (names p i) (declaration m (c_declared a ns)) ++ each_declared m (declared_from p (i + 1) others more)
 text_of_first m p i a others ns more true h = rw h refl
 text_of_first m p i a others ns more false h = rw h refl
 
@@ -25,11 +25,11 @@ any_of_first p i a others ns more false h = rw h refl
 
 -- a text that has grown by the first of those that are left
 pub text_step : {Z : Type 0} (m : Text) (p : Expanded) (i : ℕ) (xs : List ArrayShape) (vs : List (Vec ℕ Z)) (a : ArrayShape) (v : Vec ℕ Z) (t u all : Text)
-    → drop i xs ≡ a ∷ drop (i + 1) xs → drop i vs ≡ v ∷ drop (i + 1) vs → u ≡ t ++ words_if (names p i) (declaration m (declared (array_of a) v.items))
+    → drop i xs ≡ a ∷ drop (i + 1) xs → drop i vs ≡ v ∷ drop (i + 1) vs → u ≡ t ++ words_if (names p i) (declaration m (c_declared (array_of a) v.items))
     → t ++ each_declared m (left p i xs vs) ≡ all → u ++ each_declared m (left p (i + 1) xs vs) ≡ all
 text_step m p i xs vs a v t u all one two grown before =
     let rest = each_declared m (left p (i + 1) xs vs) in
-    let word = words_if (names p i) (declaration m (declared (array_of a) v.items)) in
+    let word = words_if (names p i) (declaration m (c_declared (array_of a) v.items)) in
     let both : each_declared m (left p i xs vs) ≡ word ++ rest =
     rw (one, two) (text_of_first m p i (array_of a) (arrays_of (drop (i + 1) xs)) v.items (lists_of (drop (i + 1) vs)) (names p i) refl) in
     ap (λ x. x ++ rest) grown ∙ append_assoc t word rest ∙ ap (λ x. t ++ x) (sym both) ∙ before

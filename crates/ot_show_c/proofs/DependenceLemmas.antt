@@ -8,12 +8,12 @@ use Rattle.ot_model.specs.declared.expr.Section.{Section}
 use Rattle.ot_model.specs.declared.stmt.Mode.{Mode}
 use Rattle.ot_model.specs.declared.stmt.Use.{Use}
 use Rattle.ot_model.specs.Cells.{same_mode}
-use Rattle.ot_show_print.specs.Shown.{Text, name, cell, cells_in, sections_of, cells_of, row as row_of, behind, alone, longer, goes_on}
+use Rattle.ot_show_print.specs.Shown.{Text, name, cell, cells_in, sections_of, section_cells, row as row_of, sections_behind, alone, longer, goes_on}
 use Rattle.ot_show_print.specs.Laws.{CellsFit}
 use Rattle.ot_show_print.proofs.WordLemmas.{and_true}
 use Rattle.ot_show_print.proofs.SectionLemmas.{goes_on_is}
-use Rattle.ot_show_c.specs.Statements.{item, row, items, is_long, short, listed, iterated, iterations, dependences}
-use Rattle.ot_show_c.specs.Laws.{in_identifier, all_identifier, AreIdentifiers, UsesFit}
+use Rattle.ot_show_c.specs.Statements.{item, item_row, items, is_long, short, list_clause, iterator_clause, iterations, c_dependences}
+use Rattle.ot_show_c.specs.Laws.{in_identifier, all_identifier, AreIdentifiers, CUsesFit}
 use Rattle.ot_show_c.proofs.WordLemmas.{all_of, all_append, number_word, name_word}
 use Rattle.ot_show_c.proofs.OrderLemmas.{long}
 
@@ -95,14 +95,14 @@ abbrev pub cells_text : List Text → Text → List Cell → Text
 cells_text names w [] = []
 cells_text names w (c ∷ cs) = item names w c.array c.index ++ cells_text names (codes ", ") cs
 
-pub row_further : (names : List Text) (a i n : ℕ) (cs : List Cell) → row names (codes ", ") a i n ++ cells_text names (codes ", ") cs ≡ cells_text names (codes ", ") (row_of a i n ++ cs)
+pub row_further : (names : List Text) (a i n : ℕ) (cs : List Cell) → item_row names (codes ", ") a i n ++ cells_text names (codes ", ") cs ≡ cells_text names (codes ", ") (row_of a i n ++ cs)
 row_further names a i zero cs = refl
 row_further names a i (suc n) cs =
-    append_assoc (item names (codes ", ") a i) (row names (codes ", ") a (i + 1) n) (cells_text names (codes ", ") cs) ∙ ap (λ t. item names (codes ", ") a i ++ t) (row_further names a (i + 1) n cs)
+    append_assoc (item names (codes ", ") a i) (item_row names (codes ", ") a (i + 1) n) (cells_text names (codes ", ") cs) ∙ ap (λ t. item names (codes ", ") a i ++ t) (row_further names a (i + 1) n cs)
 
-pub items_further : (names : List Text) (ss : List Section) → items names (codes ", ") ss ≡ cells_text names (codes ", ") (cells_of ss)
+pub items_further : (names : List Text) (ss : List Section) → items names (codes ", ") ss ≡ cells_text names (codes ", ") (section_cells ss)
 items_further names [] = refl
-items_further names (s ∷ ss) = ap (λ t. row names (codes ", ") s.array s.start s.len ++ t) (items_further names ss) ∙ row_further names s.array s.start s.len (cells_of ss)
+items_further names (s ∷ ss) = ap (λ t. item_row names (codes ", ") s.array s.start s.len ++ t) (items_further names ss) ∙ row_further names s.array s.start s.len (section_cells ss)
 
 abbrev pub listed_cells : List Text → Bool → List Cell → Text
 listed_cells names k [] = []
@@ -119,21 +119,21 @@ pub grouped : (a b c d : Text) → a ++ b ++ c ++ d ≡ a ++ (b ++ (c ++ d))
 grouped a b c d = simp append_assoc refl
 
 pub first_items : (names : List Text) (k : Bool) (a i n : ℕ) (ss : List Section) → 0 < n
-    → codes " depend(" ++ kind_text k ++ (row names (codes ": ") a i n ++ items names (codes ", ") ss) ++ codes ")" ≡ listed_cells names k (row_of a i n ++ cells_of ss)
+    → codes " depend(" ++ kind_text k ++ (item_row names (codes ": ") a i n ++ items names (codes ", ") ss) ++ codes ")" ≡ listed_cells names k (row_of a i n ++ section_cells ss)
 first_items names k a i zero ss some = absurd (omega (arith, some))
 first_items names k a i (suc n) ss some =
     let one = item names (codes ": ") a i in
-    let others = row names (codes ", ") a (i + 1) n in
-    let inner : (one ++ others) ++ items names (codes ", ") ss ≡ one ++ cells_text names (codes ", ") (row_of a (i + 1) n ++ cells_of ss) =
-    append_assoc one others (items names (codes ", ") ss) ∙ ap (λ t. one ++ (others ++ t)) (items_further names ss) ∙ ap (λ t. one ++ t) (row_further names a (i + 1) n (cells_of ss)) in
+    let others = item_row names (codes ", ") a (i + 1) n in
+    let inner : (one ++ others) ++ items names (codes ", ") ss ≡ one ++ cells_text names (codes ", ") (row_of a (i + 1) n ++ section_cells ss) =
+    append_assoc one others (items names (codes ", ") ss) ∙ ap (λ t. one ++ (others ++ t)) (items_further names ss) ∙ ap (λ t. one ++ t) (row_further names a (i + 1) n (section_cells ss)) in
     grouped (codes " depend(") (kind_text k) ((one ++ others) ++ items names (codes ", ") ss) (codes ")") ∙ ap (λ t. codes " depend(" ++ (kind_text k ++ (t ++ codes ")"))) inner
 
-pub listed_is : (names : List Text) (k : Bool) (ss : List Section) → SectionsFit names ss → listed names (codes " depend(") (kind_text k) ss ≡ listed_cells names k (cells_of ss)
+pub listed_is : (names : List Text) (k : Bool) (ss : List Section) → SectionsFit names ss → list_clause names (codes " depend(") (kind_text k) ss ≡ listed_cells names k (section_cells ss)
 listed_is names k [] fit = refl
 listed_is names k (s ∷ ss) fit = first_items names k s.array s.start s.len ss fit.0.2
 
 abbrev pub one_iterated : List Text → Bool → Section → Text
-one_iterated names k s = iterated names (codes " depend(iterator(at = ") (kind_text k) s
+one_iterated names k s = iterator_clause names (codes " depend(iterator(at = ") (kind_text k) s
 
 abbrev pub all_iterated : List Text → Bool → List Section → Text
 all_iterated names k [] = []
@@ -171,22 +171,22 @@ pub row_fits : (names : List Text) (a i n : ℕ) → a < length names → i + n 
 row_fits names a i zero h k = tt
 row_fits names a i (suc n) h k = ((h, omega (arith, k)), row_fits names a (i + 1) n h (omega (arith, k)))
 
-pub cells_fit : (names : List Text) (ss : List Section) → SectionsFit names ss → CellsFit names (cells_of ss)
+pub cells_fit : (names : List Text) (ss : List Section) → SectionsFit names ss → CellsFit names (section_cells ss)
 cells_fit names [] fit = tt
 cells_fit names (s ∷ ss) fit =
     let start = fit.0.1 in
     let len = fit.0.3 in
-    fit_append names (row_of s.array s.start s.len) (cells_of ss) (row_fits names s.array s.start s.len fit.0.0 (omega (arith, start, len))) (cells_fit names ss fit.1)
+    fit_append names (row_of s.array s.start s.len) (section_cells ss) (row_fits names s.array s.start s.len fit.0.0 (omega (arith, start, len))) (cells_fit names ss fit.1)
 
 abbrev pub SmallCells : List Text → List Cell → Type 0
 SmallCells names [] = Unit {0}
 SmallCells names (c ∷ cs) = ((c.array < length names) × (c.index < 2 ^ 32)) × SmallCells names cs
 
-pub behind_fits : (names : List Text) (s : Section) (cs : List Cell) → SectionFits names s → SmallCells names cs → SectionsFit names (behind s cs)
+pub behind_fits : (names : List Text) (s : Section) (cs : List Cell) → SectionFits names s → SmallCells names cs → SectionsFit names (sections_behind s cs)
 behind_fits names s [] f g = (f, tt)
 behind_fits names s (c ∷ cs) f g = at_once (goes_on s c) refl (λ more. behind_fits names (longer s) cs more g.1) (behind_fits names (alone c) cs (g.0.0, g.0.1, omega arith, omega arith) g.1)
   where
-    at_once : (b : Bool) → goes_on s c ≡ b → (SectionFits names (longer s) → SectionsFit names (behind (longer s) cs)) → SectionsFit names (behind (alone c) cs) → SectionsFit names (behind s (c ∷ cs))
+    at_once : (b : Bool) → goes_on s c ≡ b → (SectionFits names (longer s) → SectionsFit names (sections_behind (longer s) cs)) → SectionsFit names (sections_behind (alone c) cs) → SectionsFit names (sections_behind s (c ∷ cs))
     at_once true h more new = rw h (more (f.0, f.1, omega arith, (goes_on_is s c h).small))
     at_once false h more new = rw h (f, new)
 
@@ -194,7 +194,7 @@ pub sections_fit : (names : List Text) (cs : List Cell) → SmallCells names cs 
 sections_fit names [] g = tt
 sections_fit names (c ∷ cs) g = behind_fits names (alone c) cs (g.0.0, g.0.1, omega arith, omega arith) g.1
 
-pub small_in : (names : List Text) (us : List Use) (mode : Mode) → UsesFit names us → SmallCells names (cells_in us mode)
+pub small_in : (names : List Text) (us : List Use) (mode : Mode) → CUsesFit names us → SmallCells names (cells_in us mode)
 small_in names [] mode g = tt
 small_in names (u ∷ us) mode g = at_once (same_mode u.mode mode) refl (small_in names us mode g.1)
   where
@@ -207,13 +207,13 @@ cells_are_small names [] g = tt
 cells_are_small names (c ∷ cs) g = let small = g.0.1 in ((g.0.0, omega (arith, small)), cells_are_small names cs g.1)
 
 -- the dependences of a mode by its sections
-pub deps_are : (names : List Text) (k : Bool) (us : List Use) (mode : Mode) → UsesFit names us
-    → dependences names (kind_text k) us mode ≡ listed_cells names k (cells_of (short (sections_of (cells_in us mode)))) ++ all_iterated names k (long (sections_of (cells_in us mode)))
+pub deps_are : (names : List Text) (k : Bool) (us : List Use) (mode : Mode) → CUsesFit names us
+    → c_dependences names (kind_text k) us mode ≡ listed_cells names k (section_cells (short (sections_of (cells_in us mode)))) ++ all_iterated names k (long (sections_of (cells_in us mode)))
 deps_are names k us mode fit =
     let ss = sections_of (cells_in us mode) in
     let ok = sections_fit names (cells_in us mode) (small_in names us mode fit) in
     ap (λ t. t ++ iterations names (codes " depend(iterator(at = ") (kind_text k) ss) (listed_is names k (short ss) (short_fit names ss ok))
-    ∙ ap (λ t. listed_cells names k (cells_of (short ss)) ++ t) (iterations_are names k ss)
+    ∙ ap (λ t. listed_cells names k (section_cells (short ss)) ++ t) (iterations_are names k ss)
 
 -- what holds of clauses, each alone and side by side
 pub record HoldOfClauses (names : List Text) (P : Text → Type 0) : Type 0 where
@@ -223,11 +223,11 @@ pub record HoldOfClauses (names : List Text) (P : Text → Type 0) : Type 0 wher
   pub iterator : (k : Bool) (s : Section) → SectionFits names s → P (one_iterated names k s)
 
 -- holds of a mode's dependences
-pub in_deps : (names : List Text) (P : Text → Type 0) → HoldOfClauses names P → (k : Bool) (us : List Use) (mode : Mode) → UsesFit names us → P (dependences names (kind_text k) us mode)
+pub in_deps : (names : List Text) (P : Text → Type 0) → HoldOfClauses names P → (k : Bool) (us : List Use) (mode : Mode) → CUsesFit names us → P (c_dependences names (kind_text k) us mode)
 in_deps names P h k us mode fit =
     let ss = sections_of (cells_in us mode) in
     let ok = sections_fit names (cells_in us mode) (small_in names us mode fit) in
-    subst P (sym (deps_are names k us mode fit)) (h.both (listed_cells names k (cells_of (short ss))) (all_iterated names k (long ss)) (lists (cells_of (short ss)) (cells_fit names (short ss) (short_fit names ss ok))) (iterators (long ss) (long_fit names ss ok)))
+    subst P (sym (deps_are names k us mode fit)) (h.both (listed_cells names k (section_cells (short ss))) (all_iterated names k (long ss)) (lists (section_cells (short ss)) (cells_fit names (short ss) (short_fit names ss ok))) (iterators (long ss) (long_fit names ss ok)))
   where
     lists : (cs : List Cell) → CellsFit names cs → P (listed_cells names k cs)
     lists [] f = h.none
@@ -279,7 +279,7 @@ keep_iterated names are k s t fit =
     ∙ keep_one (kind_text k) behind_kind (kind_quiet k)
     ∙ keep_one (name names s.array) behind_name (name_quiet names are s.array fit.0)
 
-pub keep_deps : (names : List Text) → AreIdentifiers names → (k : Bool) (us : List Use) (mode : Mode) (t : Text) → UsesFit names us → keep Outside (dependences names (kind_text k) us mode ++ t) ≡ keep Outside t
+pub keep_deps : (names : List Text) → AreIdentifiers names → (k : Bool) (us : List Use) (mode : Mode) (t : Text) → CUsesFit names us → keep Outside (c_dependences names (kind_text k) us mode ++ t) ≡ keep Outside t
 keep_deps names are k us mode t fit = in_deps names (λ x. (t : Text) → keep Outside (x ++ t) ≡ keep Outside t) holds k us mode fit t
   where
     holds : HoldOfClauses names (λ x. (t : Text) → keep Outside (x ++ t) ≡ keep Outside t)

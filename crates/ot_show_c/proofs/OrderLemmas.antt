@@ -9,7 +9,7 @@ use Rattle.ot_model.specs.declared.stmt.Mode.{Mode}
 use Rattle.ot_model.specs.declared.stmt.Use.{Use}
 use Rattle.ot_model.proofs.OrderLemmas.{precedes_trans, precedes_apart, precedes_from_before, rest_in_order}
 use Rattle.ot_model.proofs.EqualLemmas.{cell-decides}
-use Rattle.ot_show_print.specs.Shown.{cells_in, cells_of, row}
+use Rattle.ot_show_print.specs.Shown.{cells_in, section_cells, row}
 use Rattle.ot_show_c.specs.Statements.{is_long, short}
 
 -- ---- whether a cell is among others
@@ -32,13 +32,13 @@ abbrev pub long : List Section → List Section
 long [] = []
 long (s ∷ ss) = if is_long s then s ∷ long ss else long ss
 
-has_parts : (c : Cell) (ss : List Section) → has c (cells_of ss) ≡ (has c (cells_of (short ss)) || has c (cells_of (long ss)))
+has_parts : (c : Cell) (ss : List Section) → has c (section_cells ss) ≡ (has c (section_cells (short ss)) || has c (section_cells (long ss)))
 has_parts c [] = refl
-has_parts c (s ∷ ss) = has_append c (row s.array s.start s.len) (cells_of ss) ∙ ap (λ b. has c (row s.array s.start s.len) || b) (has_parts c ss) ∙ at_once (is_long s) refl
+has_parts c (s ∷ ss) = has_append c (row s.array s.start s.len) (section_cells ss) ∙ ap (λ b. has c (row s.array s.start s.len) || b) (has_parts c ss) ∙ at_once (is_long s) refl
   where
-    at_once : (b : Bool) → is_long s ≡ b → (has c (row s.array s.start s.len) || (has c (cells_of (short ss)) || has c (cells_of (long ss)))) ≡ (has c (cells_of (short (s ∷ ss))) || has c (cells_of (long (s ∷ ss))))
-    at_once true h = rw h (or_swap (has c (row s.array s.start s.len)) (has c (cells_of (short ss))) (has c (cells_of (long ss))) ∙ ap (λ b. has c (cells_of (short ss)) || b) (sym (has_append c (row s.array s.start s.len) (cells_of (long ss)))))
-    at_once false h = rw h (sym (or_assoc (has c (row s.array s.start s.len)) (has c (cells_of (short ss))) (has c (cells_of (long ss)))) ∙ ap (λ b. b || has c (cells_of (long ss))) (sym (has_append c (row s.array s.start s.len) (cells_of (short ss)))))
+    at_once : (b : Bool) → is_long s ≡ b → (has c (row s.array s.start s.len) || (has c (section_cells (short ss)) || has c (section_cells (long ss)))) ≡ (has c (section_cells (short (s ∷ ss))) || has c (section_cells (long (s ∷ ss))))
+    at_once true h = rw h (or_swap (has c (row s.array s.start s.len)) (has c (section_cells (short ss))) (has c (section_cells (long ss))) ∙ ap (λ b. has c (section_cells (short ss)) || b) (sym (has_append c (row s.array s.start s.len) (section_cells (long ss)))))
+    at_once false h = rw h (sym (or_assoc (has c (row s.array s.start s.len)) (has c (section_cells (short ss))) (has c (section_cells (long ss)))) ∙ ap (λ b. b || has c (section_cells (long ss))) (sym (has_append c (row s.array s.start s.len) (section_cells (short ss)))))
 
 -- ---- cells in order
 
@@ -139,7 +139,7 @@ sorted_in (u ∷ us) m order = at_once (same_mode u.mode m) refl (sorted_in us m
     at_once false h rest below = rw h rest
 
 -- cells in order, by their sections: those that are short, by their cells, and those that are long
-pub by_parts : (ss ts : List Section) → AreSorted (cells_of ss) → AreSorted (cells_of ts) → cells_of (short ss) ≡ cells_of (short ts) → long ss ≡ long ts → cells_of ss ≡ cells_of ts
+pub by_parts : (ss ts : List Section) → AreSorted (section_cells ss) → AreSorted (section_cells ts) → section_cells (short ss) ≡ section_cells (short ts) → long ss ≡ long ts → section_cells ss ≡ section_cells ts
 by_parts ss ts p q few many =
-    same_cells (cells_of ss) (cells_of ts) p q
-    (λ x. has_parts x ss ∙ ap (λ cs. has x cs || has x (cells_of (long ss))) few ∙ ap (λ ls. has x (cells_of (short ts)) || has x (cells_of ls)) many ∙ sym (has_parts x ts))
+    same_cells (section_cells ss) (section_cells ts) p q
+    (λ x. has_parts x ss ∙ ap (λ cs. has x cs || has x (section_cells (long ss))) few ∙ ap (λ ls. has x (section_cells (short ts)) || has x (section_cells ls)) many ∙ sym (has_parts x ts))

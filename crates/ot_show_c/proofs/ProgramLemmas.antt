@@ -10,7 +10,7 @@ use Rattle.ot_show_print.specs.Laws.{is_name}
 use Rattle.ot_show_print.proofs.WordLemmas.{head_of, tail_of}
 use Rattle.ot_show_print.proofs.ValueLemmas.{same_section}
 use Rattle.ot_c_names.specs.Names.{is_taken, name_in_c}
-use Rattle.ot_show_c.specs.Programs.{Declared, before, arrays_in_c, up_to_last, initial, further, declaration, each_declared, any_declared, words_if, declarations, declared_from, front, functions, head, main_text, min_text, max_text, show_text, region_text, region, show, lists, shows, any_shown, whole}
+use Rattle.ot_show_c.specs.Programs.{Declared, before, arrays_in_c, up_to_last, initial, further_numbers, declaration, each_declared, any_declared, words_if, declarations, declared_from, front, functions, head, main_text, min_text, max_text, show_text, region_text, region, show, lists, shows, any_shown, whole}
 use Rattle.ot_show_c.specs.Laws.{is_identifier, AreIdentifiers, ShowsFit, NumbersFit, ListsFit, told_array, ProgramIsDetermined}
 use Rattle.ot_show_c.specs.Named.{names, body_calls}
 use Rattle.ot_show_c.specs.Programs as written
@@ -76,26 +76,26 @@ up_fits : (ns : List ℕ) → NumbersFit ns → NumbersFit (up_to_last ns)
 up_fits [] h = tt
 up_fits (n ∷ ns) h = before_fits n (up_to_last ns) h.0 (up_fits ns h.1)
 
-further_starts : (ns : List ℕ) (t : Text) → starts (further ns ++ (125 ∷ t)) ≡ false
+further_starts : (ns : List ℕ) (t : Text) → starts (further_numbers ns ++ (125 ∷ t)) ≡ false
 further_starts [] t = refl
 further_starts (n ∷ ns) t = refl
 
-further_shown : (n : ℕ) (ns : List ℕ) (t : Text) → further (n ∷ ns) ++ t ≡ 44 ∷ 32 ∷ (constant n ++ (further ns ++ t))
+further_shown : (n : ℕ) (ns : List ℕ) (t : Text) → further_numbers (n ∷ ns) ++ t ≡ 44 ∷ 32 ∷ (constant n ++ (further_numbers ns ++ t))
 further_shown n ns t = simp append_assoc refl
 
-same_further : (ms ns : List ℕ) (t u : Text) → NumbersFit ms → NumbersFit ns → further ms ++ (125 ∷ t) ≡ further ns ++ (125 ∷ u) → (ms ≡ ns) × (t ≡ u)
+same_further : (ms ns : List ℕ) (t u : Text) → NumbersFit ms → NumbersFit ns → further_numbers ms ++ (125 ∷ t) ≡ further_numbers ns ++ (125 ∷ u) → (ms ≡ ns) × (t ≡ u)
 same_further [] [] t u f g is = (refl, ap tail_of is)
 same_further [] (n ∷ ns) t u f g is = absurd (omega (arith, ap head_of (is ∙ further_shown n ns (125 ∷ u))))
 same_further (m ∷ ms) [] t u f g is = absurd (omega (arith, ap head_of (sym is ∙ further_shown m ms (125 ∷ t))))
 same_further (m ∷ ms) (n ∷ ns) t u f g is =
-    let x = further ms ++ (125 ∷ t) in
-    let y = further ns ++ (125 ∷ u) in
+    let x = further_numbers ms ++ (125 ∷ t) in
+    let y = further_numbers ns ++ (125 ∷ u) in
     let first = same_literal m n (constant m) (constant n) x y f.0 g.0 (constant_is m) (constant_is n) (further_starts ms t) (further_starts ns u)
     (ap (λ w. tail_of (tail_of w)) (sym (further_shown m ms (125 ∷ t)) ∙ is ∙ further_shown n ns (125 ∷ u))) in
     let rest = same_further ms ns t u f.1 g.1 first.1 in
     (ap (λ z. z ∷ ms) first.0 ∙ ap (λ zs. n ∷ zs) rest.0, rest.1)
 
-initial_shown : (n : ℕ) (ns : List ℕ) (t : Text) → initial (n ∷ ns) ++ t ≡ codes " = {" ++ (constant n ++ (further ns ++ (125 ∷ t)))
+initial_shown : (n : ℕ) (ns : List ℕ) (t : Text) → initial (n ∷ ns) ++ t ≡ codes " = {" ++ (constant n ++ (further_numbers ns ++ (125 ∷ t)))
 initial_shown n ns t = simp append_assoc refl
 
 same_initial : (ms ns : List ℕ) (t u : Text) → NumbersFit ms → NumbersFit ns → initial ms ++ (59 ∷ t) ≡ initial ns ++ (59 ∷ u) → (ms ≡ ns) × (t ≡ u)
@@ -103,8 +103,8 @@ same_initial [] [] t u f g is = (refl, ap tail_of is)
 same_initial [] (n ∷ ns) t u f g is = absurd (omega (arith, ap head_of (is ∙ initial_shown n ns (59 ∷ u))))
 same_initial (m ∷ ms) [] t u f g is = absurd (omega (arith, ap head_of (sym is ∙ initial_shown m ms (59 ∷ t))))
 same_initial (m ∷ ms) (n ∷ ns) t u f g is =
-    let x = further ms ++ (125 ∷ 59 ∷ t) in
-    let y = further ns ++ (125 ∷ 59 ∷ u) in
+    let x = further_numbers ms ++ (125 ∷ 59 ∷ t) in
+    let y = further_numbers ns ++ (125 ∷ 59 ∷ u) in
     let first = same_literal m n (constant m) (constant n) x y f.0 g.0 (constant_is m) (constant_is n) (further_starts ms (59 ∷ t)) (further_starts ns (59 ∷ u))
     (append_cancel_left (codes " = {") (constant m ++ x) (constant n ++ y) (sym (initial_shown m ms (59 ∷ t)) ∙ is ∙ initial_shown n ns (59 ∷ u))) in
     let rest = same_further ms ns (59 ∷ t) (59 ∷ u) f.1 g.1 first.1 in

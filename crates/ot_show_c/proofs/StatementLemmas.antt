@@ -13,8 +13,8 @@ use Rattle.ot_show_print.specs.Shown.{Text, name, cell}
 use Rattle.ot_show_print.specs.Laws.{Fits, CellsFit}
 use Rattle.ot_show_print.proofs.WordLemmas.{and_true, head_of, tail_of}
 use Rattle.ot_c_names.specs.Names.{name_in_c}
-use Rattle.ot_show_c.specs.Statements.{declared, pointer, reduction, fold, deeper, block, otherwise, put, put_all, each_once, pointers, statement, body, value}
-use Rattle.ot_show_c.specs.Laws.{in_identifier, all_identifier, is_identifier, AreIdentifiers, normal_fold, is_nothing, normal_statement, normal, UsesFit, StatementFits, BodyFits, BodyIsDetermined, CalledFoldIsWrittenAsSet}
+use Rattle.ot_show_c.specs.Statements.{c_clauses, pointer, c_reduction, c_fold, deeper, block, otherwise, cell_in_order, put_all, each_once, pointers, c_statement, body, c_value}
+use Rattle.ot_show_c.specs.Laws.{in_identifier, all_identifier, is_identifier, AreIdentifiers, normal_fold, is_nothing, normal_statement, normal, CUsesFit, StatementFits, BodyFits, BodyIsDetermined, CalledFoldIsWrittenAsSet}
 use Rattle.ot_show_c.proofs.WordLemmas.{name_word}
 use Rattle.ot_show_c.proofs.DependenceLemmas.{HoldOfClauses}
 use Rattle.ot_show_c.proofs.ClauseLemmas.{in_declared, same_line, declared_line, pointer_is_word, declaration_law}
@@ -26,34 +26,34 @@ abbrev is_some : {A : Type 0} → List A → Bool
 is_some [] = false
 is_some (x ∷ xs) = true
 
-put_some : (ds : List Cell) (c : Cell) → is_some (put ds c) ≡ true
+put_some : (ds : List Cell) (c : Cell) → is_some (cell_in_order ds c) ≡ true
 put_some [] c = refl
 put_some (d ∷ ds) c = by_tests (is_before c d) (same_cell c d) refl refl
   where
-    by_tests : (a b : Bool) → is_before c d ≡ a → same_cell c d ≡ b → is_some (put (d ∷ ds) c) ≡ true
+    by_tests : (a b : Bool) → is_before c d ≡ a → same_cell c d ≡ b → is_some (cell_in_order (d ∷ ds) c) ≡ true
     by_tests true b h k = rw h refl
     by_tests false true h k = rw (h, k) refl
     by_tests false false h k = rw (h, k) refl
 
 put_all_some : (ds cs : List Cell) → is_some ds ≡ true → is_some (put_all ds cs) ≡ true
 put_all_some ds [] h = h
-put_all_some ds (c ∷ cs) h = put_all_some (put ds c) cs (put_some ds c)
+put_all_some ds (c ∷ cs) h = put_all_some (cell_in_order ds c) cs (put_some ds c)
 
 some_once : (c : Cell) (cs : List Cell) → is_some (each_once (c ∷ cs)) ≡ true
-some_once c cs = put_all_some (put [] c) cs (put_some [] c)
+some_once c cs = put_all_some (cell_in_order [] c) cs (put_some [] c)
 
-put_fit : (names : List Text) (ds : List Cell) (c : Cell) → CellsFit names ds → (c.array < length names) × (c.index < 2 ^ 64) → CellsFit names (put ds c)
+put_fit : (names : List Text) (ds : List Cell) (c : Cell) → CellsFit names ds → (c.array < length names) × (c.index < 2 ^ 64) → CellsFit names (cell_in_order ds c)
 put_fit names [] c p q = (q, tt)
 put_fit names (d ∷ ds) c p q = by_tests (is_before c d) (same_cell c d) refl refl (put_fit names ds c p.1 q)
   where
-    by_tests : (a b : Bool) → is_before c d ≡ a → same_cell c d ≡ b → CellsFit names (put ds c) → CellsFit names (put (d ∷ ds) c)
+    by_tests : (a b : Bool) → is_before c d ≡ a → same_cell c d ≡ b → CellsFit names (cell_in_order ds c) → CellsFit names (cell_in_order (d ∷ ds) c)
     by_tests true b h k rest = rw h (q, p)
     by_tests false true h k rest = rw (h, k) p
     by_tests false false h k rest = rw (h, k) (p.0, rest)
 
 put_all_fit : (names : List Text) (ds cs : List Cell) → CellsFit names ds → CellsFit names cs → CellsFit names (put_all ds cs)
 put_all_fit names ds [] p q = p
-put_all_fit names ds (c ∷ cs) p q = put_all_fit names (put ds c) cs (put_fit names ds c p q.0) q.1
+put_all_fit names ds (c ∷ cs) p q = put_all_fit names (cell_in_order ds c) cs (put_fit names ds c p q.0) q.1
 
 once_fit : (names : List Text) (cs : List Cell) → CellsFit names cs → CellsFit names (each_once cs)
 once_fit names cs fit = put_all_fit names [] cs tt fit
@@ -61,10 +61,10 @@ once_fit names cs fit = put_all_fit names [] cs tt fit
 -- ---- what stands behind the margin of a statement, with what follows
 
 abbrev task_rest : List Text → Text → List Use → Body → Text → Text
-task_rest names margin us b r = declared names us ++ (10 ∷ (margin ++ (123 ∷ 10 ∷ (body names (deeper margin) us b ++ (margin ++ (125 ∷ 10 ∷ r))))))
+task_rest names margin us b r = c_clauses names us ++ (10 ∷ (margin ++ (123 ∷ 10 ∷ (body names (deeper margin) us b ++ (margin ++ (125 ∷ 10 ∷ r))))))
 
 abbrev if_rest : List Text → Text → List Use → E → Body → Body → Text → Text
-if_rest names margin own e a b r = value names e ++ (41 ∷ 32 ∷ 123 ∷ 10 ∷ (body names (deeper margin) own a ++ (otherwise margin b (body names (deeper margin) own b) ++ (margin ++ (125 ∷ 10 ∷ r)))))
+if_rest names margin own e a b r = c_value names e ++ (41 ∷ 32 ∷ 123 ∷ 10 ∷ (body names (deeper margin) own a ++ (otherwise margin b (body names (deeper margin) own b) ++ (margin ++ (125 ∷ 10 ∷ r)))))
 
 abbrev block_rest : List Text → Text → List Use → Body → Text → Text
 block_rest names margin own b r = margin ++ (123 ∷ 10 ∷ (body names (deeper margin) own b ++ (margin ++ (125 ∷ 10 ∷ r))))
@@ -73,7 +73,7 @@ block_rest names margin own b r = margin ++ (123 ∷ 10 ∷ (body names (deeper 
 abbrev group_rest : List Text → Text → List Use → Operation → List Cell → Body → Text → Text
 group_rest names margin own op es b r =
     pointers names (deeper margin) op es
-    ++ (deeper margin ++ (codes "#pragma omp taskgroup" ++ (reduction names (codes " task_reduction(") op es ++ (10 ∷ block_rest names (deeper margin) own b (margin ++ (125 ∷ 10 ∷ r))))))
+    ++ (deeper margin ++ (codes "#pragma omp taskgroup" ++ (c_reduction names (codes " task_reduction(") op es ++ (10 ∷ block_rest names (deeper margin) own b (margin ++ (125 ∷ 10 ∷ r))))))
 
 -- 0 a write, 1 an `if`, 2 a task, 3 a wait, 4 a group over no cell, 5 one over cells
 behind_word : Text → ℕ
@@ -124,7 +124,7 @@ abbrev calm : Text → Bool
 calm [] = false
 calm (b ∷ t) = b == 32 || b == 10
 
-calm_declared : (names : List Text) (us : List Use) (t : Text) → UsesFit names us → calm (declared names us ++ (10 ∷ t)) ≡ true
+calm_declared : (names : List Text) (us : List Use) (t : Text) → CUsesFit names us → calm (c_clauses names us ++ (10 ∷ t)) ≡ true
 calm_declared names us t fit = in_declared names (λ x. (t : Text) → calm t ≡ true → calm (x ++ t) ≡ true) holds (λ op c cs f t h. refl) us fit (10 ∷ t) refl
   where
     holds : HoldOfClauses names (λ x. (t : Text) → calm t ≡ true → calm (x ++ t) ≡ true)
@@ -154,16 +154,16 @@ group_after names margin own op [] b r = codes "#pragma omp taskgroup" ++ (10 �
 group_after names margin own op (c ∷ cs) b r = 123 ∷ 10 ∷ group_rest names margin own op (each_once (c ∷ cs)) b r
 
 abbrev after : List Text → Text → List Use → S → Text → Text
-after names margin own (Set c e) r = (cell names c ++ codes " = " ++ value names e ++ codes ";\n") ++ r
-after names margin own (Fold op c e) r = fold names own op c e ++ r
+after names margin own (Set c e) r = (cell names c ++ codes " = " ++ c_value names e ++ codes ";\n") ++ r
+after names margin own (Fold op c e) r = c_fold names own op c e ++ r
 after names margin own (If e a b) r = codes "if (" ++ if_rest names margin own e a b r
 after names margin own (Task us b) r = codes "#pragma omp task" ++ task_rest names margin us b r
-after names margin own (Wait w) r = codes "#pragma omp taskwait" ++ (declared names (uses_of w) ++ (10 ∷ r))
+after names margin own (Wait w) r = codes "#pragma omp taskwait" ++ (c_clauses names (uses_of w) ++ (10 ∷ r))
 after names margin own (Group op cs b) r = group_after names margin own op cs b r
 
-shown : (names : List Text) (margin : Text) (own : List Use) (s : S) (r : Text) → is_nothing s ≡ false → statement names margin own s ++ r ≡ margin ++ after names margin own s r
+shown : (names : List Text) (margin : Text) (own : List Use) (s : S) (r : Text) → is_nothing s ≡ false → c_statement names margin own s ++ r ≡ margin ++ after names margin own s r
 shown names margin own (Set c e) r h = simp append_assoc refl
-shown names margin own (Fold op c e) r h = append_assoc margin (fold names own op c e) r
+shown names margin own (Fold op c e) r h = append_assoc margin (c_fold names own op c e) r
 shown names margin own (If e a b) r h = simp append_assoc refl
 shown names margin own (Task us b) r h = simp append_assoc refl
 shown names margin own (Wait None) r h = simp append_assoc refl
@@ -207,11 +207,11 @@ of_write names are told t r (of_plain k c e hk fc fe is text) = ap kind_of (text
 of_write names are told t r (of_own op c e fc fe is text) = ap kind_of (text r) ∙ pointer_kind names are op c _ fc
 
 kinds : (names : List Text) → AreIdentifiers names → (margin : Text) (own : List Use) (s : S) (r : Text) → StatementFits names s → kind_of (after names margin own s r) ≡ number s
-kinds names are margin own (Set c e) r fit = of_write names are (Set c e) (λ t. (cell names c ++ codes " = " ++ value names e ++ codes ";\n") ++ t) r (set_write names c e fit.0 fit.1)
-kinds names are margin own (Fold op c e) r fit = of_write names are (normal_fold own op c e) (λ t. fold names own op c e ++ t) r (fold_write names own op c e fit.0 fit.1)
+kinds names are margin own (Set c e) r fit = of_write names are (Set c e) (λ t. (cell names c ++ codes " = " ++ c_value names e ++ codes ";\n") ++ t) r (set_write names c e fit.0 fit.1)
+kinds names are margin own (Fold op c e) r fit = of_write names are (normal_fold own op c e) (λ t. c_fold names own op c e ++ t) r (fold_write names own op c e fit.0 fit.1)
 kinds names are margin own (If e a b) r fit = if_kind (if_rest names margin own e a b r)
 kinds names are margin own (Task us b) r fit = calm_task (task_rest names margin us b r) (calm_declared names us (block_rest names margin us b r) fit.1)
-kinds names are margin own (Wait w) r fit = wait_kind (declared names (uses_of w) ++ (10 ∷ r))
+kinds names are margin own (Wait w) r fit = wait_kind (c_clauses names (uses_of w) ++ (10 ∷ r))
 kinds names are margin own (Group op [] b) r fit = group_kind (10 ∷ block_rest names margin own b r)
 kinds names are margin own (Group op (c ∷ cs) b) r fit = block_kind (10 ∷ group_rest names margin own op (each_once (c ∷ cs)) b r)
 
@@ -223,7 +223,7 @@ IsByBody names a = (own : List Use) (margin : Text) (b : Body) (x y : Text) → 
     → (normal own a ≡ normal own b) × (x ≡ y)
 
 abbrev IsByStatement : List Text → S → Type 0
-IsByStatement names s = (own : List Use) (margin : Text) (t : S) (r u : Text) → is_nothing t ≡ false → StatementFits names t → statement names margin own s ++ r ≡ statement names margin own t ++ u → (normal_statement own s ≡ normal_statement own t) × (r ≡ u)
+IsByStatement names s = (own : List Use) (margin : Text) (t : S) (r u : Text) → is_nothing t ≡ false → StatementFits names t → c_statement names margin own s ++ r ≡ c_statement names margin own t ++ u → (normal_statement own s ≡ normal_statement own t) × (r ≡ u)
 
 -- the same behind the margin, for statements of one kind
 abbrev IsAfter : List Text → S → S → Type 0
@@ -271,15 +271,15 @@ both_if names are d a b e x y fd by_a by_b fit own margin r u is =
     let second = same_else names b y by_b fit.2 own margin r u first.1 in
     (cc (values.0, first.0, second.0), second.1)
 
-both_tasks : (names : List Text) → AreIdentifiers names → (us : List Use) (a : Body) (vs : List Use) (b : Body) → AreInOrder us → UsesFit names us → IsByBody names a → StatementFits names (Task vs b) → IsAfter names (Task us a) (Task vs b)
+both_tasks : (names : List Text) → AreIdentifiers names → (us : List Use) (a : Body) (vs : List Use) (b : Body) → AreInOrder us → CUsesFit names us → IsByBody names a → StatementFits names (Task vs b) → IsAfter names (Task us a) (Task vs b)
 both_tasks names are us a vs b order f_us by fit own margin r u is =
-    let lines = same_line (declared names us) (declared names vs) (block_rest names margin us a r) (block_rest names margin vs b u) (declared_line names are us f_us) (declared_line names are vs fit.1)
+    let lines = same_line (c_clauses names us) (c_clauses names vs) (block_rest names margin us a r) (block_rest names margin vs b u) (declared_line names are us f_us) (declared_line names are vs fit.1)
     (append_cancel_left (codes "#pragma omp task") (task_rest names margin us a r) (task_rest names margin vs b u) is) in
     let uses : us ≡ vs = declaration_law names are us vs order fit.0 f_us fit.1 lines.0 in
     let both = same_block names a b by fit.2 us margin r u (lines.1 ∙ ap (λ ws. block_rest names margin ws b u) (sym uses)) in
     (cc (uses, both.0), both.1)
 
-waits_fit : (names : List Text) (w : Option (List Use)) → StatementFits names (Wait w) → AreInOrder (uses_of w) × UsesFit names (uses_of w)
+waits_fit : (names : List Text) (w : Option (List Use)) → StatementFits names (Wait w) → AreInOrder (uses_of w) × CUsesFit names (uses_of w)
 waits_fit names None fit = (tt, tt)
 waits_fit names (Some us) fit = fit
 
@@ -292,8 +292,8 @@ both_waits : (names : List Text) → AreIdentifiers names → (v w : Option (Lis
 both_waits names are v w h k f_v f_w own margin r u is =
     let fv = waits_fit names v f_v in
     let fw = waits_fit names w f_w in
-    let lines = same_line (declared names (uses_of v)) (declared names (uses_of w)) r u (declared_line names are (uses_of v) fv.1) (declared_line names are (uses_of w) fw.1)
-    (append_cancel_left (codes "#pragma omp taskwait") (declared names (uses_of v) ++ (10 ∷ r)) (declared names (uses_of w) ++ (10 ∷ u)) is) in
+    let lines = same_line (c_clauses names (uses_of v)) (c_clauses names (uses_of w)) r u (declared_line names are (uses_of v) fv.1) (declared_line names are (uses_of w) fw.1)
+    (append_cancel_left (codes "#pragma omp taskwait") (c_clauses names (uses_of v) ++ (10 ∷ r)) (c_clauses names (uses_of w) ++ (10 ∷ u)) is) in
     (ap Wait (same_wait v w h k (declaration_law names are (uses_of v) (uses_of w) fv.0 fw.0 fv.1 fw.1 lines.0)), lines.1)
 
 -- a pointer's declaration, and what follows
@@ -338,7 +338,7 @@ same_group names are op other es fs a b some fe ff by fit own margin r u is =
     let block_a = block_rest names inner own a (margin ++ (125 ∷ 10 ∷ r)) in
     let block_b = block_rest names inner own b (margin ++ (125 ∷ 10 ∷ u)) in
     let words = codes "pragma omp taskgroup" in
-    let clause : Operation → List Cell → Text = λ p xs. reduction names (codes " task_reduction(") p xs in
+    let clause : Operation → List Cell → Text = λ p xs. c_reduction names (codes " task_reduction(") p xs in
     let lines = same_pointer_lines names are inner op other es fs (words ++ (clause op es ++ (10 ∷ block_a))) (words ++ (clause other fs ++ (10 ∷ block_b))) fe ff is in
     let ops = lines.ops some in
     let clauses = append_cancel_left words (clause op es ++ (10 ∷ block_a)) (clause other fs ++ (10 ∷ block_b)) lines.rest in
@@ -378,7 +378,7 @@ behind_margin names are s h f_s by own margin t r u k f_t is =
 
 -- ---- bodies
 
-nothing_text : (names : List Text) (margin : Text) (own : List Use) (t : S) → is_nothing t ≡ true → statement names margin own t ≡ []
+nothing_text : (names : List Text) (margin : Text) (own : List Use) (t : S) → is_nothing t ≡ true → c_statement names margin own t ≡ []
 nothing_text names margin own (Wait (Some [])) h = refl
 nothing_text names margin own _ h = absurd (true≢false (sym h))
 
@@ -391,11 +391,11 @@ told own t more h = rw h refl
 passed_text : (names : List Text) (margin : Text) (own : List Use) (t : S) (more : Body) (r : Text) → is_nothing t ≡ true → body names margin own (Next t more) ++ r ≡ body names margin own more ++ r
 passed_text names margin own t more r h = ap (λ x. (x ++ body names margin own more) ++ r) (nothing_text names margin own t h)
 
-told_text : (names : List Text) (margin : Text) (own : List Use) (t : S) (more : Body) (r : Text) → body names margin own (Next t more) ++ r ≡ statement names margin own t ++ (body names margin own more ++ r)
-told_text names margin own t more r = append_assoc (statement names margin own t) (body names margin own more) r
+told_text : (names : List Text) (margin : Text) (own : List Use) (t : S) (more : Body) (r : Text) → body names margin own (Next t more) ++ r ≡ c_statement names margin own t ++ (body names margin own more ++ r)
+told_text names margin own t more r = append_assoc (c_statement names margin own t) (body names margin own more) r
 
 -- a body's end is no statement
-end_apart : (names : List Text) (own : List Use) (margin : Text) (t : S) (x r : Text) → is_nothing t ≡ false → margin ++ (125 ∷ x) ≡ statement names (deeper margin) own t ++ r → ⊥
+end_apart : (names : List Text) (own : List Use) (margin : Text) (t : S) (x r : Text) → is_nothing t ≡ false → margin ++ (125 ∷ x) ≡ c_statement names (deeper margin) own t ++ r → ⊥
 end_apart names own margin t x r h is =
     let rest = after names (deeper margin) own t r in
     let inner = append_cancel_left margin (125 ∷ x) (codes "    " ++ rest) (is ∙ shown names (deeper margin) own t r h ∙ append_assoc margin (codes "    ") rest) in

@@ -14,8 +14,8 @@ use Rattle.ot_show_print.specs.Shown.{Text, name, is_nested}
 use Rattle.ot_show_print.specs.Laws.{is_digit, Fits}
 use Rattle.ot_show_print.proofs.WordLemmas.{and_true, head_of, tail_of, front_digit, digits_are}
 use Rattle.ot_show_print.proofs.ValueLemmas.{same_section, same_op, pick_eq, apply_eq}
-use Rattle.ot_show_c.specs.Statements.{suffix, constant, is_comparison, is_number, first_of, value, operand, left_side}
-use Rattle.ot_show_c.specs.Laws.{in_identifier, all_identifier, is_identifier, AreIdentifiers, ValueIsDetermined}
+use Rattle.ot_show_c.specs.Statements.{suffix, constant, is_comparison, is_number, first_offset, c_value, operand, left_side}
+use Rattle.ot_show_c.specs.Laws.{in_identifier, all_identifier, is_identifier, AreIdentifiers, CValueIsDetermined}
 use Rattle.ot_show_c.proofs.WordLemmas.{starts, goes, no_start, number_word, IsSuffix, no_suffix, long_suffix, word_append, same_constant, same_number, name_word, same_array, one_cell}
 
 -- ---- which kind of operand a text begins with
@@ -62,13 +62,13 @@ call_plain _ h = absurd (true≢false (sym h))
 abbrev opening : ℕ → Text
 opening n = if n == 4 then codes "(uint64_t)(" else codes "("
 
-call_shown : (names : List Text) (op : Op) (a b : E) (r : Text) → is_call op ≡ true → operand names (Apply op a b) ++ r ≡ sign op ++ (value names a ++ (44 ∷ 32 ∷ (value names b ++ (41 ∷ r))))
+call_shown : (names : List Text) (op : Op) (a b : E) (r : Text) → is_call op ≡ true → operand names (Apply op a b) ++ r ≡ sign op ++ (c_value names a ++ (44 ∷ 32 ∷ (c_value names b ++ (41 ∷ r))))
 call_shown names op a b r h = rw (call_plain op h, h) (simp append_assoc refl)
 
-infix_shown : (names : List Text) (op : Op) (a b : E) (r : Text) → is_call op ≡ false → value names (Apply op a b) ++ r ≡ left_side names a b ++ (sign op ++ (operand names b ++ r))
+infix_shown : (names : List Text) (op : Op) (a b : E) (r : Text) → is_call op ≡ false → c_value names (Apply op a b) ++ r ≡ left_side names a b ++ (sign op ++ (operand names b ++ r))
 infix_shown names op a b r h = rw h (simp append_assoc refl)
 
-enclosed_shown : (names : List Text) (op : Op) (a b : E) (r : Text) → is_call op ≡ false → operand names (Apply op a b) ++ r ≡ opening (shape_of op) ++ (value names (Apply op a b) ++ (41 ∷ r))
+enclosed_shown : (names : List Text) (op : Op) (a b : E) (r : Text) → is_call op ≡ false → operand names (Apply op a b) ++ r ≡ opening (shape_of op) ++ (c_value names (Apply op a b) ++ (41 ∷ r))
 enclosed_shown names o.Min a b r h = absurd (true≢false h)
 enclosed_shown names o.Max a b r h = absurd (true≢false h)
 enclosed_shown names _ a b r h = simp append_assoc refl
@@ -77,7 +77,7 @@ enclosed_shown names _ a b r h = simp append_assoc refl
 
 -- a pick's text behind its array's name and `[`
 abbrev chosen : List Text → Section → E → Text → Text
-chosen names t e r = first_of t.start ++ (operand names e ++ (32 ∷ 37 ∷ 32 ∷ (decimal t.len ++ (93 ∷ r))))
+chosen names t e r = first_offset t.start ++ (operand names e ++ (32 ∷ 37 ∷ 32 ∷ (decimal t.len ++ (93 ∷ r))))
 
 cell_shown : (names : List Text) (c : Cell) (r : Text) → operand names (CellAt c) ++ r ≡ name names c.array ++ (91 ∷ (decimal c.index ++ (93 ∷ r)))
 cell_shown names c r = simp append_assoc refl
@@ -179,8 +179,8 @@ inside_opening _ t = refl
 
 -- a left side in a bracket is no type
 inside_apply : (names : List Text) (op : Op) (a b : E) (t : Text) (c : Bool) → is_call op ≡ c → inside (operand names (Apply op a b) ++ t) ≡ 2
-inside_apply names op a b t true h = ap inside (call_shown names op a b t h) ∙ inside_call op (value names a ++ (44 ∷ 32 ∷ (value names b ++ (41 ∷ t)))) h
-inside_apply names op a b t false h = ap inside (enclosed_shown names op a b t h) ∙ inside_opening op (value names (Apply op a b) ++ (41 ∷ t))
+inside_apply names op a b t true h = ap inside (call_shown names op a b t h) ∙ inside_call op (c_value names a ++ (44 ∷ 32 ∷ (c_value names b ++ (41 ∷ t)))) h
+inside_apply names op a b t false h = ap inside (enclosed_shown names op a b t h) ∙ inside_opening op (c_value names (Apply op a b) ++ (41 ∷ t))
 
 inside_left : (names : List Text) → AreIdentifiers names → (a b : E) (t : Text) → Fits names a → head_of t ≡ 32 → inside (left_side names a b ++ t) ≡ 2
 inside_left names are (Literal n) b t fits h =
@@ -193,10 +193,10 @@ inside_left names are (PickFrom s e) b t fits h =
     ap inside (pick_shown names s e t) ∙ inside_word (name names s.array) (91 ∷ chosen names s e t) (name_word (name names s.array) (are.each s.array fits.0))
 
 kind_apply : (names : List Text) → AreIdentifiers names → (op : Op) (a b : E) (r : Text) → Fits names a → (c : Bool) → is_call op ≡ c → kind (operand names (Apply op a b) ++ r) ≡ shape_of op
-kind_apply names are op a b r fits true h = ap kind (call_shown names op a b r h) ∙ kind_call op (value names a ++ (44 ∷ 32 ∷ (value names b ++ (41 ∷ r)))) h
+kind_apply names are op a b r fits true h = ap kind (call_shown names op a b r h) ∙ kind_call op (c_value names a ++ (44 ∷ 32 ∷ (c_value names b ++ (41 ∷ r)))) h
 kind_apply names are op a b r fits false h =
     ap kind (enclosed_shown names op a b r h)
-    ∙ kind_opening op (value names (Apply op a b) ++ (41 ∷ r)) h
+    ∙ kind_opening op (c_value names (Apply op a b) ++ (41 ∷ r)) h
     (ap inside (infix_shown names op a b (41 ∷ r) h) ∙ inside_left names are a b (sign op ++ (operand names b ++ (41 ∷ r))) fits (blank op (operand names b ++ (41 ∷ r)) h))
 
 kind_operand : (names : List Text) → AreIdentifiers names → (e : E) (r : Text) → Fits names e → kind (operand names e ++ r) ≡ shape e
@@ -214,7 +214,7 @@ abbrev pub IsByOperand : List Text → E → Type 0
 IsByOperand names a = (b : E) (r s : Text) → Fits names b → starts r ≡ false → starts s ≡ false → operand names a ++ r ≡ operand names b ++ s → (a ≡ b) × (r ≡ s)
 
 abbrev pub IsByValue : List Text → E → Type 0
-IsByValue names a = (b : E) (r s : Text) → Fits names b → goes r ≡ false → goes s ≡ false → value names a ++ r ≡ value names b ++ s → (a ≡ b) × (r ≡ s)
+IsByValue names a = (b : E) (r s : Text) → Fits names b → goes r ≡ false → goes s ≡ false → c_value names a ++ r ≡ c_value names b ++ s → (a ≡ b) × (r ≡ s)
 
 -- a value's text and its text as an operand determine it and what stands behind
 pub record Determined (names : List Text) (a : E) : Type 0 where
@@ -316,7 +316,7 @@ same_left names are a b x y r s by one two hr hs is = left_by_kind names a b x y
 -- ---- operations with a sign, alone
 
 same_infix : (names : List Text) → AreIdentifiers names → (op other : Op) (a b x y : E) → is_call op ≡ false → is_call other ≡ false → Inner names (Apply op a b) → Fits names (Apply op a b) → Fits names (Apply other x y) → (r s : Text) → goes r ≡ false → goes s ≡ false
-    → value names (Apply op a b) ++ r ≡ value names (Apply other x y) ++ s → (Apply op a b ≡ Apply other x y) × (r ≡ s)
+    → c_value names (Apply op a b) ++ r ≡ c_value names (Apply other x y) ++ s → (Apply op a b ≡ Apply other x y) × (r ≡ s)
 same_infix names are op other a b x y h k inner one two r s hr hs is =
     let left = sign op ++ (operand names b ++ r) in
     let right = sign other ++ (operand names y ++ s) in
@@ -333,14 +333,14 @@ same_apply : (names : List Text) → AreIdentifiers names → (op other : Op) (a
     → operand names (Apply op a b) ++ r ≡ operand names (Apply other x y) ++ s → (Apply op a b ≡ Apply other x y) × (r ≡ s)
 same_apply names are op other a b x y inner one two r s shapes true h is =
     let g : is_call other ≡ true = shape_called other ∙ ap (λ n. n == 3) (sym shapes) ∙ sym (shape_called op) ∙ h in
-    let ops = same_op op other (value names a ++ (44 ∷ 32 ∷ (value names b ++ (41 ∷ r)))) (value names x ++ (44 ∷ 32 ∷ (value names y ++ (41 ∷ s)))) (sym (call_shown names op a b r h) ∙ is ∙ call_shown names other x y s g) in
-    let firsts = inner.0.value x (44 ∷ 32 ∷ (value names b ++ (41 ∷ r))) (44 ∷ 32 ∷ (value names y ++ (41 ∷ s))) two.0 refl refl ops.1 in
+    let ops = same_op op other (c_value names a ++ (44 ∷ 32 ∷ (c_value names b ++ (41 ∷ r)))) (c_value names x ++ (44 ∷ 32 ∷ (c_value names y ++ (41 ∷ s)))) (sym (call_shown names op a b r h) ∙ is ∙ call_shown names other x y s g) in
+    let firsts = inner.0.value x (44 ∷ 32 ∷ (c_value names b ++ (41 ∷ r))) (44 ∷ 32 ∷ (c_value names y ++ (41 ∷ s))) two.0 refl refl ops.1 in
     let seconds = inner.1.value y (41 ∷ r) (41 ∷ s) two.1 refl refl (ap (λ w. tail_of (tail_of w)) firsts.1) in
     (apply_eq op other a b x y ops.0 firsts.0 seconds.0, ap tail_of seconds.1)
 same_apply names are op other a b x y inner one two r s shapes false h is =
     let g : is_call other ≡ false = shape_called other ∙ ap (λ n. n == 3) (sym shapes) ∙ sym (shape_called op) ∙ h in
-    let both = same_infix names are op other a b x y h g inner one two (41 ∷ r) (41 ∷ s) refl refl (append_cancel_left (opening (shape_of op)) (value names (Apply op a b) ++ (41 ∷ r)) (value names (Apply other x y) ++ (41 ∷ s))
-    (sym (enclosed_shown names op a b r h) ∙ is ∙ enclosed_shown names other x y s g ∙ ap (λ n. opening n ++ (value names (Apply other x y) ++ (41 ∷ s))) (sym shapes))) in
+    let both = same_infix names are op other a b x y h g inner one two (41 ∷ r) (41 ∷ s) refl refl (append_cancel_left (opening (shape_of op)) (c_value names (Apply op a b) ++ (41 ∷ r)) (c_value names (Apply other x y) ++ (41 ∷ s))
+    (sym (enclosed_shown names op a b r h) ∙ is ∙ enclosed_shown names other x y s g ∙ ap (λ n. opening n ++ (c_value names (Apply other x y) ++ (41 ∷ s))) (sym shapes))) in
     (both.0, ap tail_of both.1)
 
 same_operand : (names : List Text) → AreIdentifiers names → (a b : E) → Inner names a → Fits names a → Fits names b → (r s : Text) → starts r ≡ false → starts s ≡ false → shape a ≡ shape b → operand names a ++ r ≡ operand names b ++ s → (a ≡ b) × (r ≡ s)
@@ -365,13 +365,13 @@ same_operand names are _ _ inner one two r s hr hs shapes is = absurd (omega (ar
 
 -- ---- each value
 
-plain_operand : (names : List Text) (e : E) → is_nested e ≡ false → operand names e ≡ value names e
+plain_operand : (names : List Text) (e : E) → is_nested e ≡ false → operand names e ≡ c_value names e
 plain_operand names (Apply o.Min a b) h = refl
 plain_operand names (Apply o.Max a b) h = refl
 plain_operand names (Apply _ a b) h = absurd (true≢false h)
 plain_operand names _ h = refl
 
-same_value : (names : List Text) → AreIdentifiers names → (p q : Bool) (a b : E) → is_nested a ≡ p → is_nested b ≡ q → IsByOperand names a → Inner names a → Fits names a → Fits names b → (r s : Text) → goes r ≡ false → goes s ≡ false → value names a ++ r ≡ value names b ++ s → (a ≡ b) × (r ≡ s)
+same_value : (names : List Text) → AreIdentifiers names → (p q : Bool) (a b : E) → is_nested a ≡ p → is_nested b ≡ q → IsByOperand names a → Inner names a → Fits names a → Fits names b → (r s : Text) → goes r ≡ false → goes s ≡ false → c_value names a ++ r ≡ c_value names b ++ s → (a ≡ b) × (r ≡ s)
 same_value names are false false a b h k by inner one two r s hr hs is =
     by b r s two (no_start r hr) (no_start s hs) (ap (λ t. t ++ r) (plain_operand names a h) ∙ is ∙ sym (ap (λ t. t ++ s) (plain_operand names b k)))
 same_value names are false true a (Apply op x y) h k by inner one two r s hr hs is =
@@ -400,5 +400,5 @@ determined names are (CellAt c) fits = of_inner names are (CellAt c) fits tt
 determined names are (Apply op a b) fits = of_inner names are (Apply op a b) fits (determined names are a fits.0, determined names are b fits.1)
 determined names are (PickFrom t e) fits = of_inner names are (PickFrom t e) fits (determined names are e fits.3)
 
-pub value_law : ValueIsDetermined
+pub value_law : CValueIsDetermined
 value_law names are a b one two is = ((determined names are a one).value b [] [] two refl refl (ap (λ t. t ++ []) is)).0

@@ -9,7 +9,7 @@ use Rattle.ot_model.specs.declared.fold.Fold.TheVariants as f
 use Rattle.ot_model.specs.Signs.{is_called}
 use Rattle.ot_model.specs.Cells.{AreInOrder}
 use Rattle.ot_model.specs.declared.stmt.Use.{Use}
-use Rattle.ot_show_c.specs.Statements.{declared, only_folds, each_once, block, statement, body, deeper, value}
+use Rattle.ot_show_c.specs.Statements.{c_clauses, only_folds, each_once, block, c_statement, body, deeper, c_value}
 use Rattle.ot_model.specs.Programs.{Expanded}
 use Rattle.ot_model.specs.declared.expr.Section.{Section}
 use Rattle.ot_c_names.specs.Names.{is_taken, name_in_c}
@@ -43,19 +43,19 @@ NamesStayApart = (names : List Text) → AreNames names → AreIdentifiers (map 
 -- ---- values
 
 -- a value's C determines the value
-abbrev pub ValueIsDetermined : Type 0
-ValueIsDetermined = (names : List Text) → AreIdentifiers names → (a b : E) → Fits names a → Fits names b → value names a ≡ value names b → a ≡ b
+abbrev pub CValueIsDetermined : Type 0
+CValueIsDetermined = (names : List Text) → AreIdentifiers names → (a b : E) → Fits names a → Fits names b → c_value names a ≡ c_value names b → a ≡ b
 
 -- ---- declarations
 
 -- each declared cell's array has a name, and its place fits 32 bits
-abbrev pub UsesFit : List Text → List Use → Type 0
-UsesFit names [] = Unit {0}
-UsesFit names (u ∷ us) = ((u.cell.array < length names) × (u.cell.index < 2 ^ 32)) × UsesFit names us
+abbrev pub CUsesFit : List Text → List Use → Type 0
+CUsesFit names [] = Unit {0}
+CUsesFit names (u ∷ us) = ((u.cell.array < length names) × (u.cell.index < 2 ^ 32)) × CUsesFit names us
 
 -- the clauses of a task or a wait determine what it declares
 abbrev pub DeclarationIsDetermined : Type 0
-DeclarationIsDetermined = (names : List Text) → AreIdentifiers names → (us vs : List Use) → AreInOrder us → AreInOrder vs → UsesFit names us → UsesFit names vs → declared names us ≡ declared names vs → us ≡ vs
+DeclarationIsDetermined = (names : List Text) → AreIdentifiers names → (us vs : List Use) → AreInOrder us → AreInOrder vs → CUsesFit names us → CUsesFit names vs → c_clauses names us ≡ c_clauses names vs → us ≡ vs
 
 -- ---- statements and bodies
 
@@ -92,9 +92,9 @@ abbrev mutual
   StatementFits names (Set c e) = Fits names (CellAt c) × Fits names e
   StatementFits names (Fold op c e) = Fits names (CellAt c) × Fits names e
   StatementFits names (If e a b) = Fits names e × BodyFits names a × BodyFits names b
-  StatementFits names (Task us b) = AreInOrder us × UsesFit names us × BodyFits names b
+  StatementFits names (Task us b) = AreInOrder us × CUsesFit names us × BodyFits names b
   StatementFits names (Wait None) = Unit {0}
-  StatementFits names (Wait (Some us)) = AreInOrder us × UsesFit names us
+  StatementFits names (Wait (Some us)) = AreInOrder us × CUsesFit names us
   StatementFits names (Group op cs b) = CellsFit names cs × BodyFits names b
 
   pub BodyFits : List Text → Body → Type 0
@@ -109,7 +109,7 @@ BodyIsDetermined = (names : List Text) → AreNames names → (own : List Use) (
 -- the C of a fold by `min` or `max`, where the task doesn't only fold into the cell by it, is that of the set that does the same
 abbrev pub CalledFoldIsWrittenAsSet : Type 0
 CalledFoldIsWrittenAsSet = (names : List Text) (margin : Text) (own : List Use) (c : Cell) (e : E) (op : Operation) → is_called op ≡ true → only_folds own op c ≡ false
-    → statement names margin own (Fold op c e) ≡ statement names margin own (fold_as_shown op c e)
+    → c_statement names margin own (Fold op c e) ≡ c_statement names margin own (fold_as_shown op c e)
 
 -- ---- whole programs
 

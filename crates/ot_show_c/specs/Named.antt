@@ -58,10 +58,10 @@ is_op c.Min o.Min = true
 is_op c.Max o.Max = true
 is_op call op = false
 
-abbrev pub is_fold : Call → Operation → Bool
-is_fold c.Min f.Min = true
-is_fold c.Max f.Max = true
-is_fold call op = false
+abbrev pub is_fold_call : Call → Operation → Bool
+is_fold_call c.Min f.Min = true
+is_fold_call c.Max f.Max = true
+is_fold_call call op = false
 
 abbrev pub value_calls : Call → E → Bool
 value_calls call (Apply op x y) = is_op call op || value_calls call x || value_calls call y
@@ -72,7 +72,7 @@ value_calls call _ = false
 abbrev mutual
   pub statement_calls : Call → S → Bool
   statement_calls call (Set c e) = value_calls call e
-  statement_calls call (Fold op c e) = is_fold call op || value_calls call e
+  statement_calls call (Fold op c e) = is_fold_call call op || value_calls call e
   statement_calls call (If e x y) = value_calls call e || body_calls call x || body_calls call y
   statement_calls call (Task us x) = body_calls call x
   statement_calls call (Wait w) = false

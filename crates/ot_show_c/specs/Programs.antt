@@ -26,14 +26,14 @@ up_to_last [] = []
 up_to_last (n ∷ ns) = before n (up_to_last ns)
 
 -- numbers behind others, a comma before each
-abbrev pub further : List ℕ → Text
-further [] = []
-further (n ∷ ns) = codes ", " ++ constant n ++ further ns
+abbrev pub further_numbers : List ℕ → Text
+further_numbers [] = []
+further_numbers (n ∷ ns) = codes ", " ++ constant n ++ further_numbers ns
 
 -- what an array begins with, where that isn't only zeros
 abbrev pub initial : List ℕ → Text
 initial [] = []
-initial (n ∷ ns) = codes " = {" ++ constant n ++ further ns ++ codes "}"
+initial (n ∷ ns) = codes " = {" ++ constant n ++ further_numbers ns ++ codes "}"
 
 -- an array that the C has: its name, its length, and the numbers that it begins with
 pub record Declared : Type 0 where
@@ -44,16 +44,16 @@ pub record Declared : Type 0 where
 abbrev pub array_of : ArrayShape → Text × ℕ
 array_of a = (string_bytes a.name, a.len)
 
-abbrev pub declared : Text × ℕ → List ℕ → Declared
-declared a ns = record { name = a.0; len = a.1; numbers = ns }
+abbrev pub c_declared : Text × ℕ → List ℕ → Declared
+c_declared a ns = record { name = a.0; len = a.1; numbers = ns }
 
 -- a name and a number of cells
-abbrev pub sized : Text → ℕ → Text
-sized word len = word ++ codes "[" ++ decimal len ++ codes "]"
+abbrev pub word_sized : Text → ℕ → Text
+word_sized word len = word ++ codes "[" ++ decimal len ++ codes "]"
 
 -- static, as a stack may be small
 abbrev pub declaration : Text → Declared → Text
-declaration margin d = margin ++ codes "static uint64_t " ++ sized d.name d.len ++ initial (up_to_last d.numbers) ++ codes ";\n"
+declaration margin d = margin ++ codes "static uint64_t " ++ word_sized d.name d.len ++ initial (up_to_last d.numbers) ++ codes ";\n"
 
 abbrev pub each_declared : Text → List Declared → Text
 each_declared margin [] = []
@@ -126,7 +126,7 @@ abbrev pub declared_from : Expanded → ℕ → List (Text × ℕ) → List (Lis
 declared_from p i [] numbers = []
 declared_from p i (a ∷ arrays) [] = []
 declared_from p i (a ∷ arrays) (ns ∷ numbers) =
-    if names p i then declared a ns ∷ declared_from p (i + 1) arrays numbers else declared_from p (i + 1) arrays numbers
+    if names p i then c_declared a ns ∷ declared_from p (i + 1) arrays numbers else declared_from p (i + 1) arrays numbers
 
 -- all that stands before the body of a program that has these arrays
 abbrev pub front : List Declared → Expanded → Text

@@ -45,20 +45,20 @@ as_left (Literal n) b t = if is_number b then decimal n ++ codes "ULL" else t
 as_left a b t = as_operand a t
 
 -- the first cell of a section, where it isn't the array's own first
-abbrev pub first_of : ℕ → Text
-first_of start = if start == 0 then [] else decimal start ++ codes " + "
+abbrev pub first_offset : ℕ → Text
+first_offset start = if start == 0 then [] else decimal start ++ codes " + "
 
-abbrev pub value : List Text → E → Text
-value names (Literal n) = constant n
-value names (CellAt c) = cell names c
-value names (Apply op a b) = if is_call op then sign op ++ value names a ++ codes ", " ++ value names b ++ codes ")" else as_left a b (value names a) ++ sign op ++ as_operand b (value names b)
-value names (PickFrom s e) = name names s.array ++ codes "[" ++ first_of s.start ++ as_operand e (value names e) ++ codes " % " ++ decimal s.len ++ codes "]"
+abbrev pub c_value : List Text → E → Text
+c_value names (Literal n) = constant n
+c_value names (CellAt c) = cell names c
+c_value names (Apply op a b) = if is_call op then sign op ++ c_value names a ++ codes ", " ++ c_value names b ++ codes ")" else as_left a b (c_value names a) ++ sign op ++ as_operand b (c_value names b)
+c_value names (PickFrom s e) = name names s.array ++ codes "[" ++ first_offset s.start ++ as_operand e (c_value names e) ++ codes " % " ++ decimal s.len ++ codes "]"
 
 abbrev pub operand : List Text → E → Text
-operand names e = as_operand e (value names e)
+operand names e = as_operand e (c_value names e)
 
 abbrev pub left_side : List Text → E → E → Text
-left_side names a b = as_left a b (value names a)
+left_side names a b = as_left a b (c_value names a)
 
 -- The C of clauses: dependences (OpenMP API 5.2, section 15.9.5) and reductions (5.5.9 and 5.5.10).
 
@@ -67,14 +67,14 @@ abbrev pub item : List Text → Text → ℕ → ℕ → Text
 item names before a i = before ++ cell names (record { array = a; index = i })
 
 -- so many cells of an array from a place on, each an item: words before the first, commas between
-abbrev pub row : List Text → Text → ℕ → ℕ → ℕ → Text
-row names before a i zero = []
-row names before a i (suc n) = item names before a i ++ row names (codes ", ") a (i + 1) n
+abbrev pub item_row : List Text → Text → ℕ → ℕ → ℕ → Text
+item_row names before a i zero = []
+item_row names before a i (suc n) = item names before a i ++ item_row names (codes ", ") a (i + 1) n
 
 -- the cells of sections, each an item
 abbrev pub items : List Text → Text → List Section → Text
 items names before [] = []
-items names before (s ∷ ss) = row names before s.array s.start s.len ++ items names (codes ", ") ss
+items names before (s ∷ ss) = item_row names before s.array s.start s.len ++ items names (codes ", ") ss
 
 -- more than 8 cells side by side are told by an iterator
 abbrev pub is_long : Section → Bool
@@ -85,22 +85,22 @@ short [] = []
 short (s ∷ ss) = if is_long s then short ss else s ∷ short ss
 
 -- a clause that lists cells, if there are any
-abbrev pub listed : List Text → Text → Text → List Section → Text
-listed names opened kind [] = []
-listed names opened kind (s ∷ ss) = opened ++ kind ++ items names (codes ": ") (s ∷ ss) ++ codes ")"
+abbrev pub list_clause : List Text → Text → Text → List Section → Text
+list_clause names opened kind [] = []
+list_clause names opened kind (s ∷ ss) = opened ++ kind ++ items names (codes ": ") (s ∷ ss) ++ codes ")"
 
 -- a clause with an iterator
-abbrev pub iterated : List Text → Text → Text → Section → Text
-iterated names opened kind s = opened ++ decimal s.start ++ codes ":" ++ decimal (s.start + s.len) ++ codes "), " ++ kind ++ codes ": " ++ name names s.array ++ codes "[at])"
+abbrev pub iterator_clause : List Text → Text → Text → Section → Text
+iterator_clause names opened kind s = opened ++ decimal s.start ++ codes ":" ++ decimal (s.start + s.len) ++ codes "), " ++ kind ++ codes ": " ++ name names s.array ++ codes "[at])"
 
 -- one for each long section
 abbrev pub iterations : List Text → Text → Text → List Section → Text
 iterations names opened kind [] = []
-iterations names opened kind (s ∷ ss) = (if is_long s then iterated names opened kind s else []) ++ iterations names opened kind ss
+iterations names opened kind (s ∷ ss) = (if is_long s then iterator_clause names opened kind s else []) ++ iterations names opened kind ss
 
 -- the dependences over the cells that are declared in a mode
-abbrev pub dependences : List Text → Text → List Use → Mode → Text
-dependences names kind us mode = listed names (codes " depend(") kind (short (sections_of (cells_in us mode))) ++ iterations names (codes " depend(iterator(at = ") kind (sections_of (cells_in us mode))
+abbrev pub c_dependences : List Text → Text → List Use → Mode → Text
+c_dependences names kind us mode = list_clause names (codes " depend(") kind (short (sections_of (cells_in us mode))) ++ iterations names (codes " depend(iterator(at = ") kind (sections_of (cells_in us mode))
 
 -- what the name of a pointer begins with over which a cell is reduced
 abbrev pub pointer_word : Operation → Text
@@ -116,22 +116,22 @@ abbrev pub pointer : List Text → Operation → Cell → Text
 pointer names op c = pointer_word op ++ name names c.array ++ codes "_" ++ decimal c.index
 
 -- what the pointers point to, each an item: words before the first, commas between
-abbrev pub pointed : List Text → Text → Operation → List Cell → Text
-pointed names before op [] = []
-pointed names before op (c ∷ cs) = before ++ pointer names op c ++ codes "[0:1]" ++ pointed names (codes ", ") op cs
+abbrev pub pointer_items : List Text → Text → Operation → List Cell → Text
+pointer_items names before op [] = []
+pointer_items names before op (c ∷ cs) = before ++ pointer names op c ++ codes "[0:1]" ++ pointer_items names (codes ", ") op cs
 
 -- a clause of a reduction, if there are any cells
-abbrev pub reduction : List Text → Text → Operation → List Cell → Text
-reduction names opened op [] = []
-reduction names opened op (c ∷ cs) = opened ++ identifier op ++ pointed names (codes ": ") op (c ∷ cs) ++ codes ")"
+abbrev pub c_reduction : List Text → Text → Operation → List Cell → Text
+c_reduction names opened op [] = []
+c_reduction names opened op (c ∷ cs) = opened ++ identifier op ++ pointer_items names (codes ": ") op (c ∷ cs) ++ codes ")"
 
 -- the cells that are folded by an operation: `in_reduction` makes no task wait, so they are items of `depend` too
-abbrev pub folded : List Text → List Use → Operation → Text
-folded names us op = dependences names (codes "in") us (m.Folds op) ++ reduction names (codes " in_reduction(") op (cells_in us (m.Folds op))
+abbrev pub fold_clauses : List Text → List Use → Operation → Text
+fold_clauses names us op = c_dependences names (codes "in") us (m.Folds op) ++ c_reduction names (codes " in_reduction(") op (cells_in us (m.Folds op))
 
 -- the clauses of a task, or of a wait
-abbrev pub declared : List Text → List Use → Text
-declared names us = dependences names (codes "in") us m.Reads ++ dependences names (codes "out") us m.Writes ++ folded names us f.Plus ++ folded names us f.Times ++ folded names us f.And ++ folded names us f.Or ++ folded names us f.Xor ++ folded names us f.Min ++ folded names us f.Max
+abbrev pub c_clauses : List Text → List Use → Text
+c_clauses names us = c_dependences names (codes "in") us m.Reads ++ c_dependences names (codes "out") us m.Writes ++ fold_clauses names us f.Plus ++ fold_clauses names us f.Times ++ fold_clauses names us f.And ++ fold_clauses names us f.Or ++ fold_clauses names us f.Xor ++ fold_clauses names us f.Min ++ fold_clauses names us f.Max
 
 -- The C of statements and bodies, behind a margin of white space.
 
@@ -149,8 +149,8 @@ only_folds own op c = is_mode (mode_in own c) (m.Folds op)
 abbrev pub target : List Text → List Use → Operation → Cell → Text
 target names own op c = if only_folds own op c then pointer names op c ++ codes "[0]" else cell names c
 
-abbrev pub fold : List Text → List Use → Operation → Cell → E → Text
-fold names own op c e = if is_called op then target names own op c ++ codes " = " ++ fold_sign op ++ target names own op c ++ codes ", " ++ value names e ++ codes ");\n" else target names own op c ++ fold_sign op ++ value names e ++ codes ";\n"
+abbrev pub c_fold : List Text → List Use → Operation → Cell → E → Text
+c_fold names own op c e = if is_called op then target names own op c ++ codes " = " ++ fold_sign op ++ target names own op c ++ codes ", " ++ c_value names e ++ codes ");\n" else target names own op c ++ fold_sign op ++ c_value names e ++ codes ";\n"
 
 -- ---- lines
 
@@ -164,11 +164,11 @@ deeper margin = margin ++ codes "    "
 abbrev pub block : Text → Text → Text
 block margin inside = line margin (codes "{") ++ inside ++ line margin (codes "}")
 
-abbrev pub set : List Text → Text → Cell → E → Text
-set names margin c e = margin ++ cell names c ++ codes " = " ++ value names e ++ codes ";\n"
+abbrev pub set_text : List Text → Text → Cell → E → Text
+set_text names margin c e = margin ++ cell names c ++ codes " = " ++ c_value names e ++ codes ";\n"
 
-abbrev pub condition : List Text → Text → E → Text
-condition names margin e = margin ++ codes "if (" ++ value names e ++ codes ") {\n"
+abbrev pub c_condition : List Text → Text → E → Text
+c_condition names margin e = margin ++ codes "if (" ++ c_value names e ++ codes ") {\n"
 
 abbrev pub is_end : Body → Bool
 is_end End = true
@@ -180,7 +180,7 @@ otherwise margin b inside = if is_end b then [] else line margin (codes "} else 
 
 -- a task or a wait, with what it declares
 abbrev pub directive : List Text → Text → Text → List Use → Text
-directive names margin words us = margin ++ words ++ declared names us ++ codes "\n"
+directive names margin words us = margin ++ words ++ c_clauses names us ++ codes "\n"
 
 -- a wait that declares no cell awaits nobody: nothing stands for it
 abbrev pub wait_for : List Text → Text → List Use → Text
@@ -190,17 +190,17 @@ wait_for names margin (u ∷ us) = directive names margin (codes "#pragma omp ta
 -- ---- groups
 
 -- the cell of an array at a place
-abbrev pub cell_at : ℕ × ℕ → Cell
-cell_at p = record { array = p.0; index = p.1 }
+abbrev pub cell_of_pair : ℕ × ℕ → Cell
+cell_of_pair p = record { array = p.0; index = p.1 }
 
 -- a cell in its place among cells in order, once
-abbrev pub put : List Cell → Cell → List Cell
-put [] c = c ∷ []
-put (d ∷ ds) c = if is_before c d then c ∷ d ∷ ds else if same_cell c d then d ∷ ds else d ∷ put ds c
+abbrev pub cell_in_order : List Cell → Cell → List Cell
+cell_in_order [] c = c ∷ []
+cell_in_order (d ∷ ds) c = if is_before c d then c ∷ d ∷ ds else if same_cell c d then d ∷ ds else d ∷ cell_in_order ds c
 
 abbrev pub put_all : List Cell → List Cell → List Cell
 put_all ds [] = ds
-put_all ds (c ∷ cs) = put_all (put ds c) cs
+put_all ds (c ∷ cs) = put_all (cell_in_order ds c) cs
 
 -- cells in order, each once
 abbrev pub each_once : List Cell → List Cell
@@ -214,26 +214,26 @@ pointers names margin op [] = []
 pointers names margin op (c ∷ cs) = declared_pointer names margin op c ++ pointers names margin op cs
 
 -- pointers to the cells that a group reduces, and its first line
-abbrev pub reduced : List Text → Text → Operation → List Cell → Text
-reduced names margin op cs = pointers names margin op cs ++ margin ++ codes "#pragma omp taskgroup" ++ reduction names (codes " task_reduction(") op cs ++ codes "\n"
+abbrev pub reduced_group : List Text → Text → Operation → List Cell → Text
+reduced_group names margin op cs = pointers names margin op cs ++ margin ++ codes "#pragma omp taskgroup" ++ c_reduction names (codes " task_reduction(") op cs ++ codes "\n"
 
 -- a group around a body whose text is the one, or one block deeper the other
-abbrev pub group : List Text → Text → Operation → List Cell → Text → Text → Text
-group names margin op [] inside deep = line margin (codes "#pragma omp taskgroup") ++ block margin inside
-group names margin op (c ∷ cs) inside deep = line margin (codes "{") ++ reduced names (deeper margin) op (each_once (c ∷ cs)) ++ block (deeper margin) deep ++ line margin (codes "}")
+abbrev pub group_text : List Text → Text → Operation → List Cell → Text → Text → Text
+group_text names margin op [] inside deep = line margin (codes "#pragma omp taskgroup") ++ block margin inside
+group_text names margin op (c ∷ cs) inside deep = line margin (codes "{") ++ reduced_group names (deeper margin) op (each_once (c ∷ cs)) ++ block (deeper margin) deep ++ line margin (codes "}")
 
 -- ---- statements in the body of a task with this declaration
 
 abbrev mutual
-  pub statement : List Text → Text → List Use → S → Text
-  statement names margin own (Set c e) = set names margin c e
-  statement names margin own (Fold op c e) = margin ++ fold names own op c e
-  statement names margin own (If e a b) = condition names margin e ++ body names (deeper margin) own a ++ otherwise margin b (body names (deeper margin) own b) ++ line margin (codes "}")
-  statement names margin own (Task us b) = directive names margin (codes "#pragma omp task") us ++ block margin (body names (deeper margin) us b)
-  statement names margin own (Wait None) = line margin (codes "#pragma omp taskwait")
-  statement names margin own (Wait (Some us)) = wait_for names margin us
-  statement names margin own (Group op cs b) = group names margin op cs (body names (deeper margin) own b) (body names (deeper (deeper margin)) own b)
+  pub c_statement : List Text → Text → List Use → S → Text
+  c_statement names margin own (Set c e) = set_text names margin c e
+  c_statement names margin own (Fold op c e) = margin ++ c_fold names own op c e
+  c_statement names margin own (If e a b) = c_condition names margin e ++ body names (deeper margin) own a ++ otherwise margin b (body names (deeper margin) own b) ++ line margin (codes "}")
+  c_statement names margin own (Task us b) = directive names margin (codes "#pragma omp task") us ++ block margin (body names (deeper margin) us b)
+  c_statement names margin own (Wait None) = line margin (codes "#pragma omp taskwait")
+  c_statement names margin own (Wait (Some us)) = wait_for names margin us
+  c_statement names margin own (Group op cs b) = group_text names margin op cs (body names (deeper margin) own b) (body names (deeper (deeper margin)) own b)
 
   pub body : List Text → Text → List Use → Body → Text
   body names margin own End = []
-  body names margin own (Next s rest) = statement names margin own s ++ body names margin own rest
+  body names margin own (Next s rest) = c_statement names margin own s ++ body names margin own rest

@@ -46,7 +46,7 @@ pub(crate) fn declaration(
     array: &ArrayShape,
     numbers: &[u64],
 ) -> Result<(), AllocError>
-    ensures text { OnOk result (out.new.text ≡ out.old.text ++ written.declaration margin.now (written.declared (array_of array.now) numbers.now)) }
+    ensures text { OnOk result (out.new.text ≡ out.old.text ++ written.declaration margin.now (written.c_declared (array_of array.now) numbers.now)) }
     ensures names { out.new.names ≡ out.old.names }
 {
     out.words(margin)?;
@@ -58,7 +58,7 @@ pub(crate) fn declaration(
 
 /// `a[3]`.
 fn sized(out: &mut Printer<'_>, name: &str, len: u32) -> Result<(), AllocError>
-    ensures text { OnOk result (out.new.text ≡ out.old.text ++ written.sized name.now len) }
+    ensures text { OnOk result (out.new.text ≡ out.old.text ++ written.word_sized name.now len) }
     ensures names { out.new.names ≡ out.old.names }
 {
     out.words(name)?;

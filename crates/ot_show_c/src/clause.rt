@@ -11,7 +11,7 @@ const LISTED: u32 = 8;
 
 /// The clauses of a task, or of a wait.
 pub(crate) fn declared(alloc: Global, out: &mut Printer<'_>, decl: &Decl) -> Result<(), AllocError>
-    ensures text { OnOk result (out.new.text ≡ out.old.text ++ written.declared out.old.names decl.now) }
+    ensures text { OnOk result (out.new.text ≡ out.old.text ++ written.c_clauses out.old.names decl.now) }
     ensures names { out.new.names ≡ out.old.names }
 {
     dependences(alloc, out, "in", decl, Mode::Reads)?;
@@ -27,7 +27,7 @@ pub(crate) fn declared(alloc: Global, out: &mut Printer<'_>, decl: &Decl) -> Res
 
 /// The cells that are folded by an operation. They are items of `depend` too: `in_reduction` makes no task wait.
 fn folded(alloc: Global, out: &mut Printer<'_>, decl: &Decl, op: Fold) -> Result<(), AllocError>
-    ensures text { OnOk result (out.new.text ≡ out.old.text ++ written.folded out.old.names decl.now op) }
+    ensures text { OnOk result (out.new.text ≡ out.old.text ++ written.fold_clauses out.old.names decl.now op) }
     ensures names { out.new.names ≡ out.old.names }
 {
     let cells = cells_in(alloc, decl, Mode::Folds(op))?;
@@ -43,7 +43,7 @@ fn dependences(
     decl: &Decl,
     mode: Mode,
 ) -> Result<(), AllocError>
-    ensures text { OnOk result (out.new.text ≡ out.old.text ++ written.dependences out.old.names kind.now decl.now mode) }
+    ensures text { OnOk result (out.new.text ≡ out.old.text ++ written.c_dependences out.old.names kind.now decl.now mode) }
     ensures names { out.new.names ≡ out.old.names }
 {
     let sections = sections_in(alloc, decl, mode)?;
@@ -78,7 +78,7 @@ fn listed(
     kind: &str,
     sections: &[Section],
 ) -> Result<(), AllocError>
-    ensures text { OnOk result (out.new.text ≡ out.old.text ++ written.listed out.old.names opened.now kind.now sections.now) }
+    ensures text { OnOk result (out.new.text ≡ out.old.text ++ written.list_clause out.old.names opened.now kind.now sections.now) }
     ensures names { out.new.names ≡ out.old.names }
 {
     if sections.is_empty() {
@@ -106,7 +106,7 @@ fn items(out: &mut Printer<'_>, sections: &[Section]) -> Result<(), AllocError>
 /// The cells of a section, these words before the first and commas between.
 #[tactic(auto, using(crate::proofs::RowLemmas::row_step))]
 fn row(out: &mut Printer<'_>, before: &str, section: Section) -> Result<(), AllocError>
-    ensures text { OnOk result (out.new.text ≡ out.old.text ++ written.row out.old.names before.now section.array section.start section.len) }
+    ensures text { OnOk result (out.new.text ≡ out.old.text ++ written.item_row out.old.names before.now section.array section.start section.len) }
     ensures names { out.new.names ≡ out.old.names }
 {
     let mut words = before;
@@ -155,7 +155,7 @@ fn iterated(
     kind: &str,
     section: Section,
 ) -> Result<(), AllocError>
-    ensures text { OnOk result (out.new.text ≡ out.old.text ++ written.iterated out.old.names opened.now kind.now section) }
+    ensures text { OnOk result (out.new.text ≡ out.old.text ++ written.iterator_clause out.old.names opened.now kind.now section) }
     ensures names { out.new.names ≡ out.old.names }
 {
     out.words(opened)?;
@@ -176,7 +176,7 @@ pub(crate) fn reduction(
     op: Fold,
     cells: &[Cell],
 ) -> Result<(), AllocError>
-    ensures text { OnOk result (out.new.text ≡ out.old.text ++ written.reduction out.old.names opened.now op cells.now) }
+    ensures text { OnOk result (out.new.text ≡ out.old.text ++ written.c_reduction out.old.names opened.now op cells.now) }
     ensures names { out.new.names ≡ out.old.names }
 {
     if cells.is_empty() {
@@ -190,7 +190,7 @@ pub(crate) fn reduction(
 
 /// What the pointers to these cells point to, behind a colon.
 fn pointed(out: &mut Printer<'_>, op: Fold, cells: &[Cell]) -> Result<(), AllocError>
-    ensures text { OnOk result (out.new.text ≡ out.old.text ++ written.pointed out.old.names (codes ": ") op cells.now) }
+    ensures text { OnOk result (out.new.text ≡ out.old.text ++ written.pointer_items out.old.names (codes ": ") op cells.now) }
     ensures names { out.new.names ≡ out.old.names }
 {
     let mut before = ": ";

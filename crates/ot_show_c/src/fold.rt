@@ -18,7 +18,7 @@ pub(crate) fn fold(
     cell: Cell,
     expr: &Expr,
 ) -> Result<(), AllocError>
-    ensures text { OnOk result (out.new.text ≡ out.old.text ++ written.fold out.old.names own.now op cell (expr_of expr.now)) }
+    ensures text { OnOk result (out.new.text ≡ out.old.text ++ written.c_fold out.old.names own.now op cell (expr_of expr.now)) }
     ensures names { out.new.names ≡ out.old.names }
 {
     target(out, own, op, cell)?;

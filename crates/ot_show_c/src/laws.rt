@@ -1,5 +1,5 @@
 //! Laws of what is written. Each is the contract of a function that does nothing.
-ghost use Rattle.ot_show_c.specs.Laws.{NamesStayApart, ValueIsDetermined, DeclarationIsDetermined, BodyIsDetermined, CalledFoldIsWrittenAsSet, ProgramIsDetermined};
+ghost use Rattle.ot_show_c.specs.Laws.{NamesStayApart, CValueIsDetermined, DeclarationIsDetermined, BodyIsDetermined, CalledFoldIsWrittenAsSet, ProgramIsDetermined};
 
 /// Arrays whose names differ have names in C that are free for them and differ.
 pub fn names_stay_apart()
@@ -8,7 +8,7 @@ pub fn names_stay_apart()
 
 /// A value's C determines the value, over names that differ.
 pub fn value_is_determined()
-    ensures { ValueIsDetermined }
+    ensures { CValueIsDetermined }
 {}
 
 /// The clauses of a task or a wait determine what it declares, over names that differ.

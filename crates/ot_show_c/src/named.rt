@@ -139,7 +139,7 @@ fn is_op(call: Call, op: Op) -> bool
 
 /// Whether a fold by this operation calls the function.
 fn is_fold(call: Call, op: Fold) -> bool
-    ensures { result ≡ named.is_fold call op }
+    ensures { result ≡ named.is_fold_call call op }
 {
     matches!((call, op), (Call::Min, Fold::Min) | (Call::Max, Fold::Max))
 }

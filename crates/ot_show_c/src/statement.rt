@@ -37,7 +37,7 @@ fn statement(
     own: &Decl,
     stmt: &Stmt,
 ) -> Result<(), AllocError>
-    ensures text { OnOk result (out.new.text ≡ out.old.text ++ written.statement out.old.names margin.now own.now (stmt_of stmt.now)) }
+    ensures text { OnOk result (out.new.text ≡ out.old.text ++ written.c_statement out.old.names margin.now own.now (stmt_of stmt.now)) }
     ensures names { out.new.names ≡ out.old.names }
 {
     match stmt {
@@ -63,7 +63,7 @@ fn statement(
 }
 
 fn set(out: &mut Printer<'_>, margin: &str, cell: Cell, expr: &Expr) -> Result<(), AllocError>
-    ensures text { OnOk result (out.new.text ≡ out.old.text ++ written.set out.old.names margin.now cell (expr_of expr.now)) }
+    ensures text { OnOk result (out.new.text ≡ out.old.text ++ written.set_text out.old.names margin.now cell (expr_of expr.now)) }
     ensures names { out.new.names ≡ out.old.names }
 {
     out.words(margin)?;
@@ -74,7 +74,7 @@ fn set(out: &mut Printer<'_>, margin: &str, cell: Cell, expr: &Expr) -> Result<(
 }
 
 fn condition(out: &mut Printer<'_>, margin: &str, expr: &Expr) -> Result<(), AllocError>
-    ensures text { OnOk result (out.new.text ≡ out.old.text ++ written.condition out.old.names margin.now (expr_of expr.now)) }
+    ensures text { OnOk result (out.new.text ≡ out.old.text ++ written.c_condition out.old.names margin.now (expr_of expr.now)) }
     ensures names { out.new.names ≡ out.old.names }
 {
     out.words(margin)?;
@@ -204,7 +204,7 @@ fn group(
     cells: &[Cell],
     body: &[Stmt],
 ) -> Result<(), AllocError>
-    ensures text { OnOk result (out.new.text ≡ out.old.text ++ written.group out.old.names margin.now op cells.now (written.body out.old.names (written.deeper margin.now) own.now (stmts_of body.now)) (written.body out.old.names (written.deeper (written.deeper margin.now)) own.now (stmts_of body.now))) }
+    ensures text { OnOk result (out.new.text ≡ out.old.text ++ written.group_text out.old.names margin.now op cells.now (written.body out.old.names (written.deeper margin.now) own.now (stmts_of body.now)) (written.body out.old.names (written.deeper (written.deeper margin.now)) own.now (stmts_of body.now))) }
     ensures names { out.new.names ≡ out.old.names }
 {
     if cells.is_empty() {
@@ -221,7 +221,7 @@ fn group(
 
 /// The pointers to the cells that a group reduces, and its first line.
 fn reduced(out: &mut Printer<'_>, margin: &str, op: Fold, cells: &[Cell]) -> Result<(), AllocError>
-    ensures text { OnOk result (out.new.text ≡ out.old.text ++ written.reduced out.old.names margin.now op cells.now) }
+    ensures text { OnOk result (out.new.text ≡ out.old.text ++ written.reduced_group out.old.names margin.now op cells.now) }
     ensures names { out.new.names ≡ out.old.names }
 {
     pointers(out, margin, op, cells)?;
@@ -272,7 +272,7 @@ pub fn each_once(alloc: Global, cells: &[Cell]) -> Result<Vec<Cell>, AllocError>
 
 /// The arrays and places of cells, in order.
 fn places_of(alloc: Global, cells: &[Cell]) -> Result<BTreeSet<(u32, u32)>, AllocError>
-    ensures { IfOk result (λ places. map written.cell_at places.keys ≡ written.each_once cells.now) }
+    ensures { IfOk result (λ places. map written.cell_of_pair places.keys ≡ written.each_once cells.now) }
 {
     let mut places = BTreeSet::new(alloc);
     for cell in cells {

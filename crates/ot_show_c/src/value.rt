@@ -33,7 +33,7 @@ fn suffix(out: &mut Printer<'_>, number: u64) -> Result<(), AllocError>
 /// A value that stands alone: a right side, a condition or an argument.
 #[cycle(value)]
 pub(crate) fn value(out: &mut Printer<'_>, expr: &Expr) -> Result<(), AllocError>
-    ensures text { OnOk result (out.new.text ≡ out.old.text ++ written.value out.old.names (expr_of expr.now)) }
+    ensures text { OnOk result (out.new.text ≡ out.old.text ++ written.c_value out.old.names (expr_of expr.now)) }
     ensures names { out.new.names ≡ out.old.names }
 {
     match expr {
@@ -100,7 +100,7 @@ fn operand(out: &mut Printer<'_>, expr: &Expr) -> Result<(), AllocError>
 
 /// `2 + ` of a section from 2 on; nothing from 0 on.
 fn first_of(out: &mut Printer<'_>, start: u32) -> Result<(), AllocError>
-    ensures text { OnOk result (out.new.text ≡ out.old.text ++ written.first_of start) }
+    ensures text { OnOk result (out.new.text ≡ out.old.text ++ written.first_offset start) }
     ensures names { out.new.names ≡ out.old.names }
 {
     if start == 0 {

@@ -156,7 +156,7 @@ fn declaration_if(
     array: &ArrayShape,
     numbers: &[u64],
 ) -> Result<(), AllocError>
-    ensures text { OnOk result (out.new.text ≡ out.old.text ++ written.words_if wanted (written.declaration margin.now (written.declared (written.array_of array.now) numbers.now))) }
+    ensures text { OnOk result (out.new.text ≡ out.old.text ++ written.words_if wanted (written.declaration margin.now (written.c_declared (written.array_of array.now) numbers.now))) }
     ensures names { out.new.names ≡ out.old.names }
 {
     if wanted {

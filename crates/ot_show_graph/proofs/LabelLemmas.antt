@@ -24,7 +24,7 @@ use Rattle.ot_depend.proofs.ListLemmas.{slice_get-push_place}
 use Rattle.ot_depend.specs.Siblings.{is_direct, is_write, times, uses_cell, writes_cell}
 use Rattle.ot_show_graph.specs.Links.{cells_at, siblings_with}
 use Rattle.ot_show_graph.proofs.LinkLemmas.{bit, same_number, other_number}
-use Rattle.ot_show_graph.specs.Written.{Entry, nobody, Tells, AreMet, AreLabels, is_met, found, entered, entered_by, cells_with}
+use Rattle.ot_show_graph.specs.Written.{CellRow, no_child, TellsRows, AreMet, AreLabels, is_met, waited_for, row_behind, entered_by, cells_with}
 
 -- what a list of uses reads past its end
 abbrev pub nowhere : Use
@@ -66,20 +66,20 @@ unused-first us i d c (suc n) order l is early =
 -- ---- one use more of a child
 
 -- by whether the use more is one of the cell
-entered_more : (child : ℕ) (mode : Mode) (used wrote same : Bool) (start old new : Entry) → (same ≡ true → (used ≡ false) × (wrote ≡ false))
-    → old ≡ entered child used wrote start → new ≡ cond same (entered_by child mode old) old
-    → new ≡ entered child (used || same) (wrote || (same && is_write mode)) start
+entered_more : (child : ℕ) (mode : Mode) (used wrote same : Bool) (start old new : CellRow) → (same ≡ true → (used ≡ false) × (wrote ≡ false))
+    → old ≡ row_behind child used wrote start → new ≡ cond same (entered_by child mode old) old
+    → new ≡ row_behind child (used || same) (wrote || (same && is_write mode)) start
 entered_more child mode true wrote true start old new first so is = let none : true ≡ false = (first refl).0 in cc
 entered_more child mode false true true start old new first so is = let none : true ≡ false = (first refl).1 in cc
 entered_more child mode false false true start old new first so is = is ∙ ap (entered_by child mode) so
 entered_more child mode used wrote false start old new first so is =
-    is ∙ so ∙ ap (λ b. entered child b wrote start) (sym (or-false used)) ∙ ap (λ b. entered child (used || false) b start) (sym (or-false wrote))
+    is ∙ so ∙ ap (λ b. row_behind child b wrote start) (sym (or-false used)) ∙ ap (λ b. row_behind child (used || false) b start) (sym (or-false wrote))
 
-pub enter_more : (child : ℕ) (uses : List Use) (i : ℕ) (d : Use) (start old new : Cell → Entry) → AreInOrder uses → i < length uses
-    → ((c : Cell) → old c ≡ entered child (uses_cell c (take i uses)) (writes_cell c (take i uses)) (start c))
+pub enter_more : (child : ℕ) (uses : List Use) (i : ℕ) (d : Use) (start old new : Cell → CellRow) → AreInOrder uses → i < length uses
+    → ((c : Cell) → old c ≡ row_behind child (uses_cell c (take i uses)) (writes_cell c (take i uses)) (start c))
     → new (get_or uses i d).cell ≡ entered_by child (get_or uses i d).mode (old (get_or uses i d).cell)
     → ((c : Cell) → c ≢ (get_or uses i d).cell → new c ≡ old c)
-    → (c : Cell) → new c ≡ entered child (uses_cell c (take (i + 1) uses)) (writes_cell c (take (i + 1) uses)) (start c)
+    → (c : Cell) → new c ≡ row_behind child (uses_cell c (take (i + 1) uses)) (writes_cell c (take (i + 1) uses)) (start c)
 enter_more child uses i d start old new order l so there others c =
     let one = get_or uses i d in
     let first : same_cell one.cell c ≡ true → (uses_cell c (take i uses) ≡ false) × (writes_cell c (take i uses) ≡ false) =
@@ -88,8 +88,8 @@ enter_more child uses i d start old new order l so there others c =
     (none, unused-unwritten c (take i uses) none) in
     entered_more child one.mode (uses_cell c (take i uses)) (writes_cell c (take i uses)) (same_cell one.cell c) (start c) (old c) (new c) first (so c)
     (by one.cell one.mode (same_cell one.cell c) refl there others)
-    ∙ ap (λ b. entered child b (writes_cell c (take i uses) || (same_cell one.cell c && is_write one.mode)) (start c)) (sym (list_any_more (λ v. same_cell v.cell c) uses i d l))
-    ∙ ap (λ b. entered child (uses_cell c (take (i + 1) uses)) b (start c)) (sym (list_any_more (λ v. same_cell v.cell c && is_write v.mode) uses i d l))
+    ∙ ap (λ b. row_behind child b (writes_cell c (take i uses) || (same_cell one.cell c && is_write one.mode)) (start c)) (sym (list_any_more (λ v. same_cell v.cell c) uses i d l))
+    ∙ ap (λ b. row_behind child (uses_cell c (take (i + 1) uses)) b (start c)) (sym (list_any_more (λ v. same_cell v.cell c && is_write v.mode) uses i d l))
   where
     by : (at : Cell) (mode : Mode) (b : Bool) → same_cell at c ≡ b → new at ≡ entered_by child mode (old at) → ((c : Cell) → c ≢ at → new c ≡ old c)
         → new c ≡ cond b (entered_by child mode (old c)) (old c)
@@ -104,8 +104,8 @@ times-append n xs ys = sum_by-append (λ x. bit (x == n)) xs ys
 times-one : (n m : ℕ) → times n (m ∷ []) ≡ bit (m == n)
 times-one n m = omega (arith, sum_by-cons (λ x. bit (x == n)) m [])
 
-found-entered : (child n : ℕ) (used wrote : Bool) (e : Entry) (m : Mode)
-    → times n (found (entered child used wrote e) m) ≡ cond used (cond wrote (bit (child == n)) (times n (found e m) + cond (is_write m) (bit (child == n)) 0)) (times n (found e m))
+found-entered : (child n : ℕ) (used wrote : Bool) (e : CellRow) (m : Mode)
+    → times n (waited_for (row_behind child used wrote e) m) ≡ cond used (cond wrote (bit (child == n)) (times n (waited_for e m) + cond (is_write m) (bit (child == n)) 0)) (times n (waited_for e m))
 found-entered child n false wrote e m = refl
 found-entered child n true true e m = by (is_write m)
   where
@@ -180,16 +180,16 @@ step_last true true w true t both same none = refl
 step_last true false true true t both same none = omega (arith, none)
 step_last true false false true t both same none = omega (arith, none)
 
-pub tells_more : (before : List (List Use)) (d : List Use) (child : ℕ) (old new : Cell → Entry) → child ≡ length before → Tells before old
-    → ((c : Cell) → new c ≡ entered child (uses_cell c d) (writes_cell c d) (old c)) → Tells (before ++ d ∷ []) new
+pub tells_more : (before : List (List Use)) (d : List Use) (child : ℕ) (old new : Cell → CellRow) → child ≡ length before → TellsRows before old
+    → ((c : Cell) → new c ≡ row_behind child (uses_cell c d) (writes_cell c d) (old c)) → TellsRows (before ++ d ∷ []) new
 tells_more before d child old new at tells is = λ u earlier.
     let c = u.cell in
     let w = is_write u.mode in
-    let was : times earlier (found (old c) u.mode) ≡ bit (met_at before earlier c w) = tells u earlier ∙ ap bit (met-is before earlier u) in
-    let now : times earlier (found (new c) u.mode)
-    ≡ cond (uses_cell c d) (cond (writes_cell c d) (bit (child == earlier)) (times earlier (found (old c) u.mode) + cond w (bit (child == earlier)) 0)) (times earlier (found (old c) u.mode)) =
-    ap (λ x. times earlier (found x u.mode)) (is c) ∙ found-entered child earlier (uses_cell c d) (writes_cell c d) (old c) u.mode in
-    now ∙ by earlier c w (times earlier (found (old c) u.mode)) was (cases_lt earlier child) ∙ ap bit (sym (met-is (before ++ d ∷ []) earlier u))
+    let was : times earlier (waited_for (old c) u.mode) ≡ bit (met_at before earlier c w) = tells u earlier ∙ ap bit (met-is before earlier u) in
+    let now : times earlier (waited_for (new c) u.mode)
+    ≡ cond (uses_cell c d) (cond (writes_cell c d) (bit (child == earlier)) (times earlier (waited_for (old c) u.mode) + cond w (bit (child == earlier)) 0)) (times earlier (waited_for (old c) u.mode)) =
+    ap (λ x. times earlier (waited_for x u.mode)) (is c) ∙ found-entered child earlier (uses_cell c d) (writes_cell c d) (old c) u.mode in
+    now ∙ by earlier c w (times earlier (waited_for (old c) u.mode)) was (cases_lt earlier child) ∙ ap bit (sym (met-is (before ++ d ∷ []) earlier u))
   where
     by : (earlier : ℕ) (c : Cell) (w : Bool) (t : ℕ) → t ≡ bit (met_at before earlier c w) → (earlier < child) ⊎ (child ≤ earlier)
         → cond (uses_cell c d) (cond (writes_cell c d) (bit (child == earlier)) (t + cond w (bit (child == earlier)) 0)) t ≡ bit (met_at (before ++ d ∷ []) earlier c w)
@@ -231,13 +231,13 @@ replicate_bit : (b : Bool) (c : Cell) → replicate (bit b) c ≡ cond b (c ∷ 
 replicate_bit true c = refl
 replicate_bit false c = refl
 
-pub met_more : (before : List (List Use)) (rows : Cell → Entry) (uses : List Use) (i : ℕ) (d : Use) (old new : BTreeMap ℕ (Vec Cell Global) Global) → Tells before rows → i < length uses
+pub met_more : (before : List (List Use)) (rows : Cell → CellRow) (uses : List Use) (i : ℕ) (d : Use) (old new : BTreeMap ℕ (Vec Cell Global) Global) → TellsRows before rows → i < length uses
     → AreMet before (take i uses) old
-    → ((e : ℕ) → cells_with new e ≡ cells_with old e ++ replicate (times e (found (rows (get_or uses i d).cell) (get_or uses i d).mode)) (get_or uses i d).cell)
+    → ((e : ℕ) → cells_with new e ≡ cells_with old e ++ replicate (times e (waited_for (rows (get_or uses i d).cell) (get_or uses i d).mode)) (get_or uses i d).cell)
     → AreMet before (take (i + 1) uses) new
 met_more before rows uses i d old new tells l so is = λ e.
     let one = get_or uses i d in
-    is e ∙ ap (λ xs. xs ++ replicate (times e (found (rows one.cell) one.mode)) one.cell) (so e)
+    is e ∙ ap (λ xs. xs ++ replicate (times e (waited_for (rows one.cell) one.mode)) one.cell) (so e)
     ∙ ap (λ n. cells_at (get_or before e []) (drop (suc e) before) (take i uses) ++ replicate n one.cell) (tells one e)
     ∙ ap (λ xs. cells_at (get_or before e []) (drop (suc e) before) (take i uses) ++ xs) (replicate_bit (is_met before e one) one.cell)
     ∙ sym (cells-more (get_or before e []) (drop (suc e) before) uses i d l)
@@ -251,9 +251,9 @@ put_both c xs ys e start mid new first second =
     ∙ ap (λ zs. start ++ zs) (replicate-append-replicate (times e xs) (times e ys) c ∙ ap (λ n. replicate n c) (sym (times-append e xs ys)))
 
 -- nobody is found
-pub put_none : (e : ℕ) (mode : Mode) (c : Cell) (row : Entry) (cells : List Cell) → row ≡ nobody → cells ≡ cells ++ replicate (times e (found row mode)) c
+pub put_none : (e : ℕ) (mode : Mode) (c : Cell) (row : CellRow) (cells : List Cell) → row ≡ no_child → cells ≡ cells ++ replicate (times e (waited_for row mode)) c
 put_none e mode c row cells is =
-    sym (append-nil cells) ∙ ap (λ n. cells ++ replicate n c) (sym (ap (λ x. times e (found x mode)) is ∙ none-found e (is_write mode)))
+    sym (append-nil cells) ∙ ap (λ n. cells ++ replicate n c) (sym (ap (λ x. times e (waited_for x mode)) is ∙ none-found e (is_write mode)))
 
 -- one more of the children to which a cell is put
 pub put_more : (c : Cell) (children : List ℕ) (i d e : ℕ) (start old new : List Cell) → i < length children
@@ -285,10 +285,10 @@ labels_more decls labels new met i long so one is = λ later m there.
 split : (a rest : Bool) → (a || rest) ≡ ((a || false) || rest)
 split a rest = ap (λ b. b || rest) (sym (or-false a))
 
-cell_more : (d rest : Bool) (v : Use) (found : List Use) → rest ≡ false ↔ map (λ (u : Use). u.cell) found ≡ []
-    → (d || rest) ≡ false ↔ map (λ (u : Use). u.cell) (cond d (v ∷ found) found) ≡ []
-cell_more true rest v found h = (λ met. cc, λ none. cc)
-cell_more false rest v found h = h
+cell_more : (d rest : Bool) (v : Use) (waited_for : List Use) → rest ≡ false ↔ map (λ (u : Use). u.cell) waited_for ≡ []
+    → (d || rest) ≡ false ↔ map (λ (u : Use). u.cell) (cond d (v ∷ waited_for) waited_for) ≡ []
+cell_more true rest v waited_for h = (λ met. cc, λ none. cc)
+cell_more false rest v waited_for h = h
 
 pub waits_at_cells : (earlier : List Use) (between : List (List Use)) (later : List Use)
     → is_direct earlier (siblings_with between) later ≡ false ↔ cells_at earlier between later ≡ []

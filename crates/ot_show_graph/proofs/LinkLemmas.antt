@@ -2,7 +2,7 @@
 use Rattle.std.proofs.Common.{◌≡◌, ℕ, zero, suc, ◌+◌, ◌<◌, ◌≤◌, ◌≢◌, List, [], ◌∷◌, ◌++◌, length, take, map, refl, sym, ap, ◌∙◌, subst, arith, inl, inr, le_refl, Bool, true, false}
 use Rattle.std.specs.Prelude.{Option, Some, None, slice_get, option_map, unwrap_or, cond, not, ◌&&◌, ◌==◌, count_by, IsTrue}
 use Rattle.ot_model.specs.declared.stmt.Use.{Use}
-use Rattle.ot_depend.specs.Siblings.{Sibling, created, with_finished, IsReady, IsUnfinished, is_direct, count_direct, waiting_for, times, WaitForLess}
+use Rattle.ot_depend.specs.Siblings.{Sibling, sibling_created, with_finished, IsReady, IsUnfinished, is_direct, count_direct, waiting_for, times, WaitForLess}
 use Rattle.std.proofs.lemmas.Bool.Decides.{nat_tests, leb_tells}
 use Rattle.std.proofs.Math.ListN.{length-map}
 use Rattle.std.proofs.lemmas.List.Sums.{sum_by-cons, sum_by-append}
@@ -41,7 +41,7 @@ at_place (suc n) (x ∷ xs) = at_place n xs
 
 pub known : (decls : List (List Use)) (n : ℕ) → n < length decls → (s : Sibling) × (slice_get (siblings_with decls) n ≡ Some s) × (s.finished ≡ false)
 known [] n within = absurd (omega (arith, within))
-known (d ∷ ds) zero within = (created d [], refl, refl)
+known (d ∷ ds) zero within = (sibling_created d [], refl, refl)
 known (d ∷ ds) (suc n) within = known ds n (omega (arith, within))
 
 pub ready : (decls : List (List Use)) (n : ℕ) → n < length decls → IsReady (finished_first n (siblings_with decls)) n
@@ -87,13 +87,13 @@ pub waits_less : (decls : List (List Use)) (n j : ℕ) → n < length decls →
     ≡ waiting_for (finished_first (suc n) (siblings_with decls)) j + bit (waits_itself (siblings_with decls) n j)
 waits_less [] n j within = absurd (omega (arith, within))
 waits_less (d ∷ ds) zero zero within = refl
-waits_less (d ∷ ds) zero (suc j) within = first_of (created d []) (take j (siblings_with ds)) (slice_get (siblings_with ds) j) refl
+waits_less (d ∷ ds) zero (suc j) within = first_of (sibling_created d []) (take j (siblings_with ds)) (slice_get (siblings_with ds) j) refl
 waits_less (d ∷ ds) (suc n) zero within = refl
 waits_less (d ∷ ds) (suc n) (suc j) within =
     let xs = siblings_with ds in
-    later_of (created d []) (take j (finished_first n xs)) (slice_get (finished_first n xs) j)
+    later_of (sibling_created d []) (take j (finished_first n xs)) (slice_get (finished_first n xs) j)
     ∙ waits_less ds n j (omega (arith, within))
-    ∙ ap (λ k. k + bit (waits_itself xs n j)) (sym (later_of (created d []) (take j (finished_first (suc n) xs)) (slice_get (finished_first (suc n) xs) j)))
+    ∙ ap (λ k. k + bit (waits_itself xs n j)) (sym (later_of (sibling_created d []) (take j (finished_first (suc n) xs)) (slice_get (finished_first (suc n) xs) j)))
 
 -- so those that are released are those that waited for it by themselves
 pub released : (decls : List (List Use)) (n j : ℕ) (waiters : List ℕ) → n < length decls →
@@ -148,7 +148,7 @@ pub record AreSoFar (decls : List (List Use)) (n : ℕ) (links : List Link) (sib
   pub counted : (j : ℕ) → count_by (is_into j) links + waiting_for (finished_first n (siblings_with decls)) j ≡ waiting_for (siblings_with decls) j
 
 length-siblings_with : (decls : List (List Use)) → length (siblings_with decls) ≡ length decls
-length-siblings_with decls = length-map decls (λ uses. created uses [])
+length-siblings_with decls = length-map decls (λ uses. sibling_created uses [])
 
 earlier_on : (decls : List (List Use)) (n : ℕ) (links now : List Link) (ws : List ℕ) (e j : ℕ) → {siblings : List Sibling} → AreSoFar decls n links siblings → n < length decls →
     count_by (is_link e j) now ≡ count_by (is_link e j) links + count_by (is_link e j) (map (link_from n) ws) →

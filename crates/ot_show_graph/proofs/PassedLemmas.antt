@@ -7,7 +7,7 @@ use Rattle.std.proofs.lemmas.Bool.Decides.{nat_tests}
 use Rattle.std.proofs.lemmas.List.Folds.{list_any-append}
 use Rattle.ot_model.specs.declared.stmt.Use.{Use}
 use Rattle.ot_show_graph.specs.Created.{Created, Passed, Creates, Awaits, Enters, Leaves}
-use Rattle.ot_show_graph.specs.Passing.{takes, is_within, stays_within, is_wait_for, unawaited_of}
+use Rattle.ot_show_graph.specs.Passing.{takes_child, is_within, stays_in_groups, is_wait_taking, unawaited_of}
 
 -- ---- tests and filters
 
@@ -82,7 +82,7 @@ pub unawaited-others : (q : ℕ) (ms rest : List Passed) → list_any (is_by q) 
 unawaited-others q [] rest h = refl
 unawaited-others q (Creates own c ∷ ms) rest h =
     let parts = or_parts (own == q) (list_any (is_by q) ms) h in
-    skip (own == q) (stays_within 0 (ms ++ rest) && not (list_any (is_wait_for q c) (ms ++ rest))) c (unawaited_of q (ms ++ rest)) parts.0
+    skip (own == q) (stays_in_groups 0 (ms ++ rest) && not (list_any (is_wait_taking q c) (ms ++ rest))) c (unawaited_of q (ms ++ rest)) parts.0
     ∙ unawaited-others q ms rest parts.1
 unawaited-others q (Awaits own w awaited ∷ ms) rest h = unawaited-others q ms rest (or_parts (own == q) (list_any (is_by q) ms) h).1
 unawaited-others q (Enters op cs ∷ ms) rest h = unawaited-others q ms rest h
@@ -91,12 +91,12 @@ unawaited-others q (Leaves ∷ ms) rest h = unawaited-others q ms rest h
 pub none-of-others : (q : ℕ) (ms : List Passed) → list_any (is_by q) ms ≡ false → unawaited_of q ms ≡ []
 none-of-others q ms h = ap (unawaited_of q) (sym (append-nil ms)) ∙ unawaited-others q ms [] h
 
-pub waits-of-others : (q : ℕ) (c : Created) (ms : List Passed) → list_any (is_by q) ms ≡ false → list_any (is_wait_for q c) ms ≡ false
+pub waits-of-others : (q : ℕ) (c : Created) (ms : List Passed) → list_any (is_by q) ms ≡ false → list_any (is_wait_taking q c) ms ≡ false
 waits-of-others q c [] h = refl
 waits-of-others q c (Creates own d ∷ ms) h = waits-of-others q c ms (or_parts (own == q) (list_any (is_by q) ms) h).1
 waits-of-others q c (Awaits own w awaited ∷ ms) h =
     let parts = or_parts (own == q) (list_any (is_by q) ms) h in
-    or_none ((own == q) && takes w c) (list_any (is_wait_for q c) ms) (not_by (own == q) (takes w c) parts.0) (waits-of-others q c ms parts.1)
+    or_none ((own == q) && takes_child w c) (list_any (is_wait_taking q c) ms) (not_by (own == q) (takes_child w c) parts.0) (waits-of-others q c ms parts.1)
 waits-of-others q c (Enters op cs ∷ ms) h = waits-of-others q c ms h
 waits-of-others q c (Leaves ∷ ms) h = waits-of-others q c ms h
 
@@ -104,13 +104,13 @@ waits-of-others q c (Leaves ∷ ms) h = waits-of-others q c ms h
 
 -- these leave no group that was open before them
 abbrev pub LeavesNone : List Passed → Type 0
-LeavesNone ms = (n : ℕ) (before : List Passed) → stays_within n (before ++ ms) ≡ stays_within n before
+LeavesNone ms = (n : ℕ) (before : List Passed) → stays_in_groups n (before ++ ms) ≡ stays_in_groups n before
 
 -- each group that they enter they leave, and no other
 abbrev pub IsBalanced : List Passed → Type 0
-IsBalanced ms = (n : ℕ) (rest : List Passed) → stays_within n (ms ++ rest) ≡ stays_within n rest
+IsBalanced ms = (n : ℕ) (rest : List Passed) → stays_in_groups n (ms ++ rest) ≡ stays_in_groups n rest
 
-leaves-none : (ms : List Passed) → ((n : ℕ) → stays_within n ms ≡ true) → LeavesNone ms
+leaves-none : (ms : List Passed) → ((n : ℕ) → stays_in_groups n ms ≡ true) → LeavesNone ms
 leaves-none ms none n [] = none n
 leaves-none ms none n (Creates own c ∷ before) = leaves-none ms none n before
 leaves-none ms none n (Awaits own w awaited ∷ before) = leaves-none ms none n before
@@ -119,14 +119,14 @@ leaves-none ms none zero (Leaves ∷ before) = refl
 leaves-none ms none (suc n) (Leaves ∷ before) = leaves-none ms none n before
 
 pub leaves-none-balanced : (ms : List Passed) → IsBalanced ms → LeavesNone ms
-leaves-none-balanced ms balanced = leaves-none ms (λ n. ap (stays_within n) (sym (append-nil ms)) ∙ balanced n [])
+leaves-none-balanced ms balanced = leaves-none ms (λ n. ap (stays_in_groups n) (sym (append-nil ms)) ∙ balanced n [])
 
-pub leaves-none-alone : (m : Passed) → ((n : ℕ) → stays_within n (m ∷ []) ≡ true) → LeavesNone (m ∷ [])
+pub leaves-none-alone : (m : Passed) → ((n : ℕ) → stays_in_groups n (m ∷ []) ≡ true) → LeavesNone (m ∷ [])
 leaves-none-alone m none = leaves-none (m ∷ []) none
 
 -- whether no wait in these takes the child
 abbrev pub survives : ℕ → List Passed → Created → Bool
-survives q ms c = not (list_any (is_wait_for q c) ms)
+survives q ms c = not (list_any (is_wait_taking q c) ms)
 
 kept : (e st a b : Bool) (c : Created) (s : Created → Bool) (us vs ws : List Created) → s c ≡ not b → vs ≡ filter s us ++ ws
     → cond (e && (st && not (a || b))) (c ∷ vs) vs ≡ filter s (cond (e && (st && not a)) (c ∷ us) us) ++ ws
@@ -144,9 +144,9 @@ kept true true false b c s us vs ws here is =
 pub unawaited-append : (q : ℕ) (ms rest : List Passed) → LeavesNone rest → unawaited_of q (ms ++ rest) ≡ filter (survives q rest) (unawaited_of q ms) ++ unawaited_of q rest
 unawaited-append q [] rest none = refl
 unawaited-append q (Creates own c ∷ ms) rest none =
-    ap (λ st. cond ((own == q) && (st && not (list_any (is_wait_for q c) (ms ++ rest)))) (c ∷ unawaited_of q (ms ++ rest)) (unawaited_of q (ms ++ rest))) (none 0 ms)
-    ∙ ap (λ x. cond ((own == q) && (stays_within 0 ms && not x)) (c ∷ unawaited_of q (ms ++ rest)) (unawaited_of q (ms ++ rest))) (list_any-append (is_wait_for q c) ms rest)
-    ∙ kept (own == q) (stays_within 0 ms) (list_any (is_wait_for q c) ms) (list_any (is_wait_for q c) rest) c (survives q rest)
+    ap (λ st. cond ((own == q) && (st && not (list_any (is_wait_taking q c) (ms ++ rest)))) (c ∷ unawaited_of q (ms ++ rest)) (unawaited_of q (ms ++ rest))) (none 0 ms)
+    ∙ ap (λ x. cond ((own == q) && (stays_in_groups 0 ms && not x)) (c ∷ unawaited_of q (ms ++ rest)) (unawaited_of q (ms ++ rest))) (list_any-append (is_wait_taking q c) ms rest)
+    ∙ kept (own == q) (stays_in_groups 0 ms) (list_any (is_wait_taking q c) ms) (list_any (is_wait_taking q c) rest) c (survives q rest)
     (unawaited_of q ms) (unawaited_of q (ms ++ rest)) (unawaited_of q rest) refl (unawaited-append q ms rest none)
 unawaited-append q (Awaits own w awaited ∷ ms) rest none = unawaited-append q ms rest none
 unawaited-append q (Enters op cs ∷ ms) rest none = unawaited-append q ms rest none
@@ -158,7 +158,7 @@ unawaited-append q (Leaves ∷ ms) rest none = unawaited-append q ms rest none
 abbrev pub AreRight : List Passed → List Passed → Type 0
 AreRight before [] = Unit {0}
 AreRight before (Creates own c ∷ ms) = AreRight (before ++ Creates own c ∷ []) ms
-AreRight before (Awaits own w awaited ∷ ms) = (awaited ≡ filter (takes w) (unawaited_of own before)) × AreRight (before ++ Awaits own w awaited ∷ []) ms
+AreRight before (Awaits own w awaited ∷ ms) = (awaited ≡ filter (takes_child w) (unawaited_of own before)) × AreRight (before ++ Awaits own w awaited ∷ []) ms
 AreRight before (Enters op cs ∷ ms) = AreRight (before ++ Enters op cs ∷ []) ms
 AreRight before (Leaves ∷ ms) = AreRight (before ++ Leaves ∷ []) ms
 
@@ -174,13 +174,13 @@ right-append before (Leaves ∷ ms) rest one two =
     right-append (before ++ Leaves ∷ []) ms rest one (subst (λ b. AreRight b rest) (sym (append_assoc before (Leaves ∷ []) ms)) two)
 
 pub right-at : (before ms later : List Passed) (own : ℕ) (w : Option (List Use)) (awaited : List Created) → AreRight before (ms ++ Awaits own w awaited ∷ later)
-    → awaited ≡ filter (takes w) (unawaited_of own (before ++ ms))
-right-at before [] later own w awaited right = right.0 ∙ ap (λ b. filter (takes w) (unawaited_of own b)) (sym (append-nil before))
+    → awaited ≡ filter (takes_child w) (unawaited_of own (before ++ ms))
+right-at before [] later own w awaited right = right.0 ∙ ap (λ b. filter (takes_child w) (unawaited_of own b)) (sym (append-nil before))
 right-at before (Creates o c ∷ ms) later own w awaited right =
-    right-at (before ++ Creates o c ∷ []) ms later own w awaited right ∙ ap (λ b. filter (takes w) (unawaited_of own b)) (append_assoc before (Creates o c ∷ []) ms)
+    right-at (before ++ Creates o c ∷ []) ms later own w awaited right ∙ ap (λ b. filter (takes_child w) (unawaited_of own b)) (append_assoc before (Creates o c ∷ []) ms)
 right-at before (Awaits o v cs ∷ ms) later own w awaited right =
-    right-at (before ++ Awaits o v cs ∷ []) ms later own w awaited right.1 ∙ ap (λ b. filter (takes w) (unawaited_of own b)) (append_assoc before (Awaits o v cs ∷ []) ms)
+    right-at (before ++ Awaits o v cs ∷ []) ms later own w awaited right.1 ∙ ap (λ b. filter (takes_child w) (unawaited_of own b)) (append_assoc before (Awaits o v cs ∷ []) ms)
 right-at before (Enters op cs ∷ ms) later own w awaited right =
-    right-at (before ++ Enters op cs ∷ []) ms later own w awaited right ∙ ap (λ b. filter (takes w) (unawaited_of own b)) (append_assoc before (Enters op cs ∷ []) ms)
+    right-at (before ++ Enters op cs ∷ []) ms later own w awaited right ∙ ap (λ b. filter (takes_child w) (unawaited_of own b)) (append_assoc before (Enters op cs ∷ []) ms)
 right-at before (Leaves ∷ ms) later own w awaited right =
-    right-at (before ++ Leaves ∷ []) ms later own w awaited right ∙ ap (λ b. filter (takes w) (unawaited_of own b)) (append_assoc before (Leaves ∷ []) ms)
+    right-at (before ++ Leaves ∷ []) ms later own w awaited right ∙ ap (λ b. filter (takes_child w) (unawaited_of own b)) (append_assoc before (Leaves ∷ []) ms)

@@ -3,7 +3,7 @@ use Rattle.std.proofs.Common.{◌≡◌, ◌≢◌, ℕ, zero, suc, ◌<◌, ◌
 use Rattle.std.specs.Prelude.{Some, slice_get, unwrap_or, option_map}
 use Rattle.std.proofs.Math.Nat.{div-add-mod}
 use Rattle.std.proofs.lemmas.Option.{slice_get_past}
-use Rattle.ot_show_graph.specs.Written.{Entry, nobody}
+use Rattle.ot_show_graph.specs.Written.{CellRow, no_child}
 
 -- an element whose place is known
 pub place_read : {A : Type 0} (xs : List A) (k : ℕ) (x : A) → k < length xs → x ≡ get_or xs k x → slice_get xs k ≡ Some x
@@ -25,24 +25,24 @@ get_other (y ∷ xs) (suc i) zero x apart = refl
 get_other (y ∷ xs) (suc i) (suc j) x apart = get_other xs i j x (λ e. apart (ap suc e))
 
 -- one more that says what none says
-pub pushed : {A : Type 0} (f : A → Entry) (xs : List A) (y : A) (k : ℕ) → f y ≡ nobody
-    → unwrap_or (option_map f (slice_get (xs ++ y ∷ []) k)) nobody ≡ unwrap_or (option_map f (slice_get xs k)) nobody
+pub pushed : {A : Type 0} (f : A → CellRow) (xs : List A) (y : A) (k : ℕ) → f y ≡ no_child
+    → unwrap_or (option_map f (slice_get (xs ++ y ∷ []) k)) no_child ≡ unwrap_or (option_map f (slice_get xs k)) no_child
 pushed f [] y zero e = e
 pushed f [] y (suc k) e = refl
 pushed f (x ∷ xs) y zero e = refl
 pushed f (x ∷ xs) y (suc k) e = pushed f xs y k e
 
 -- what a list says of the cells of one place, and of another
-pub said_here : {A : Type 0} (f : A → Entry) (xs : List A) (k : ℕ) (x : A) → slice_get xs k ≡ Some x → unwrap_or (option_map f (slice_get xs k)) nobody ≡ f x
-said_here f xs k x is = ap (λ o. unwrap_or (option_map f o) nobody) is
+pub said_here : {A : Type 0} (f : A → CellRow) (xs : List A) (k : ℕ) (x : A) → slice_get xs k ≡ Some x → unwrap_or (option_map f (slice_get xs k)) no_child ≡ f x
+said_here f xs k x is = ap (λ o. unwrap_or (option_map f o) no_child) is
 
-pub said_other : {A : Type 0} (f : A → Entry) (xs : List A) (k j : ℕ) (x : A) → j ≢ k
-    → unwrap_or (option_map f (slice_get (set xs k x) j)) nobody ≡ unwrap_or (option_map f (slice_get xs j)) nobody
-said_other f xs k j x apart = ap (λ o. unwrap_or (option_map f o) nobody) (get_other xs k j x apart)
+pub said_other : {A : Type 0} (f : A → CellRow) (xs : List A) (k j : ℕ) (x : A) → j ≢ k
+    → unwrap_or (option_map f (slice_get (set xs k x) j)) no_child ≡ unwrap_or (option_map f (slice_get xs j)) no_child
+said_other f xs k j x apart = ap (λ o. unwrap_or (option_map f o) no_child) (get_other xs k j x apart)
 
 -- what it says of those past its end
-pub said_none : {A : Type 0} (f : A → Entry) (xs : List A) (k : ℕ) → length xs ≤ k → unwrap_or (option_map f (slice_get xs k)) nobody ≡ nobody
-said_none f xs k past = ap (λ o. unwrap_or (option_map f o) nobody) (slice_get_past xs k past)
+pub said_none : {A : Type 0} (f : A → CellRow) (xs : List A) (k : ℕ) → length xs ≤ k → unwrap_or (option_map f (slice_get xs k)) no_child ≡ no_child
+said_none f xs k past = ap (λ o. unwrap_or (option_map f o) no_child) (slice_get_past xs k past)
 
 -- two cells of a page have two places
 pub place_apart : (i k : ℕ) → i / 32 ≡ k / 32 → i ≢ k → i % 32 ≢ k % 32

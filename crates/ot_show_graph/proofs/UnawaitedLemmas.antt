@@ -11,7 +11,7 @@ use Rattle.ot_model.specs.Cells.{cell_of}
 use Rattle.ot_model.specs.Serial.{State, bump, either, serial, serial_one, serial_run}
 use Rattle.ot_model.proofs.SerialLemmas.{either-both, serial-from}
 use Rattle.ot_show_graph.specs.Created.{Created, Passed, Creates, Enters, Leaves}
-use Rattle.ot_show_graph.specs.Passing.{begun, created, takes, spares, is_within, unawaited, unawaited_one, passes, passes_one, marks, stays_within, is_wait_for, unawaited_of, AwaitExactly}
+use Rattle.ot_show_graph.specs.Passing.{state_begun, created_at, takes_child, spares, is_within, children_unawaited, unawaited_one, passes, passes_one, passed_by, stays_in_groups, is_wait_taking, unawaited_of, AwaitExactly}
 use Rattle.ot_show_graph.proofs.LinkLemmas.{other_number, same_number}
 use Rattle.ot_show_graph.proofs.PassedLemmas.{or_none, filter_same, filter_all, filter_both, filter_swap, filter_weaker, within_more, within-more, none-fewer, is_by, unawaited-others, none-of-others, waits-of-others, IsBalanced, leaves-none-balanced, leaves-none-alone, survives, unawaited-append, AreRight, right-append, right-at}
 
@@ -54,13 +54,13 @@ mutual
   balanced_one own k (Task d b) s p = λ n rest. balanced (s.tasks + 1) (k + 1) b (bump 1 1 s) [] n rest
   balanced_one own k (Wait w) s p = λ n rest. refl
   balanced_one own k (Group o cs b) s p = λ n rest.
-      ap (stays_within (suc n)) (append_assoc (passes own (k + 1) b (bump 0 1 s) p) (Leaves ∷ []) rest) ∙ balanced own (k + 1) b (bump 0 1 s) p (suc n) (Leaves ∷ rest)
+      ap (stays_in_groups (suc n)) (append_assoc (passes own (k + 1) b (bump 0 1 s) p) (Leaves ∷ []) rest) ∙ balanced own (k + 1) b (bump 0 1 s) p (suc n) (Leaves ∷ rest)
 
   balanced : (own k : ℕ) (b : Body) (s : State) (p : List Created) → IsBalanced (passes own k b s p)
   balanced own k End s p = λ n rest. refl
   balanced own k (Next x rest) s p = λ n more.
       let later = passes own (k + size_one x) rest (serial_one x s) (unawaited_one k x s p) in
-      ap (stays_within n) (append_assoc (passes_one own k x s p) later more) ∙ balanced_one own k x s p n (later ++ more)
+      ap (stays_in_groups n) (append_assoc (passes_one own k x s p) later more) ∙ balanced_one own k x s p n (later ++ more)
       ∙ balanced own (k + size_one x) rest (serial_one x s) (unawaited_one k x s p) n more
 
 -- ---- numbers: a body is that of its own task, and those of the tasks in it have new numbers
@@ -109,7 +109,7 @@ closed true false more c cs h = refl
 closed false st more c cs h = refl
 
 mutual
-  ended_one : (own k : ℕ) (x : S) (s : State) (p : List Created) (rest : List Passed) → own ≤ s.tasks → stays_within 0 rest ≡ false
+  ended_one : (own k : ℕ) (x : S) (s : State) (p : List Created) (rest : List Passed) → own ≤ s.tasks → stays_in_groups 0 rest ≡ false
       → unawaited_of own (passes_one own k x s p ++ rest) ≡ unawaited_of own rest
   ended_one own k (Set c e) s p rest old h = refl
   ended_one own k (Fold o c e) s p rest old h = refl
@@ -119,7 +119,7 @@ mutual
       (ended own (k + 1) a (bump 0 1 s) p rest (omega (arith, old)) h) (ended own (k + 1 + size a) b (bump 0 1 s) p rest (omega (arith, old)) h)
   ended_one own k (Task d b) s p rest old h =
       let ms = passes (s.tasks + 1) (k + 1) b (bump 1 1 s) [] in
-      closed (own == own) (stays_within 0 (ms ++ rest)) (not (list_any (is_wait_for own (created k d s)) (ms ++ rest))) (created k d s) (unawaited_of own (ms ++ rest))
+      closed (own == own) (stays_in_groups 0 (ms ++ rest)) (not (list_any (is_wait_taking own (created_at k d s)) (ms ++ rest))) (created_at k d s) (unawaited_of own (ms ++ rest))
       (balanced (s.tasks + 1) (k + 1) b (bump 1 1 s) [] 0 rest ∙ h)
       ∙ unawaited-others own ms rest (others_inside own k b s old)
   ended_one own k (Wait w) s p rest old h = refl
@@ -127,7 +127,7 @@ mutual
       ap (unawaited_of own) (append_assoc (passes own (k + 1) b (bump 0 1 s) p) (Leaves ∷ []) rest) ∙ ended own (k + 1) b (bump 0 1 s) p (Leaves ∷ rest) (omega (arith, old)) refl
 
   -- behind the end of a group none of those is unawaited that were created in it
-  ended : (own k : ℕ) (b : Body) (s : State) (p : List Created) (rest : List Passed) → own ≤ s.tasks → stays_within 0 rest ≡ false
+  ended : (own k : ℕ) (b : Body) (s : State) (p : List Created) (rest : List Passed) → own ≤ s.tasks → stays_in_groups 0 rest ≡ false
       → unawaited_of own (passes own k b s p ++ rest) ≡ unawaited_of own rest
   ended own k End s p rest old h = refl
   ended own k (Next x more) s p rest old h =
@@ -158,7 +158,7 @@ mutual
       (none_same s.tasks (unawaited_of own (passes own (k + 1 + size a) b (bump 0 1 s) p)) (fresh own (k + 1 + size a) b (bump 0 1 s) p (omega (arith, old))))
   fresh_one own k (Task d b) s p old =
       let ms = passes (s.tasks + 1) (k + 1) b (bump 1 1 s) [] in
-      alone s.tasks ((own == own) && (stays_within 0 ms && not (list_any (is_wait_for own (created k d s)) ms))) (created k d s) (unawaited_of own ms)
+      alone s.tasks ((own == own) && (stays_in_groups 0 ms && not (list_any (is_wait_taking own (created_at k d s)) ms))) (created_at k d s) (unawaited_of own ms)
       (none-of-others own ms (others_inside own k b s old)) (past_last s.tasks)
   fresh_one own k (Wait w) s p old = refl
   fresh_one own k (Group o cs b) s p old = ap (filter (is_within s.tasks)) (ended own (k + 1) b (bump 0 1 s) p (Leaves ∷ []) (omega (arith, old)) refl)
@@ -188,20 +188,20 @@ mutual
   few_one k (Fold o c e) s p h = within_same s.tasks p h
   few_one k (If e a b) s p h =
       either-two (val (cell_of s.cells) e) (λ cs (t : State). filter (is_within t.tasks) cs ≡ cs)
-      (unawaited (k + 1) a (bump 0 1 s) p) (unawaited (k + 1 + size a) b (bump 0 1 s) p) (serial a (bump 0 1 s)) (serial b (bump 0 1 s))
+      (children_unawaited (k + 1) a (bump 0 1 s) p) (children_unawaited (k + 1 + size a) b (bump 0 1 s) p) (serial a (bump 0 1 s)) (serial b (bump 0 1 s))
       (few (k + 1) a (bump 0 1 s) p (within_same s.tasks p h)) (few (k + 1 + size a) b (bump 0 1 s) p (within_same s.tasks p h))
   few_one k (Task d b) s p h =
       let t = (serial b (bump 1 1 s)).tasks in
-      let c = created k d s in
+      let c = created_at k d s in
       filter-append (is_within t) p (c ∷ [])
       ∙ ap (λ cs. cs ++ filter (is_within t) (c ∷ [])) (within-more s.tasks t p (omega (arith, serial-more b (bump 1 1 s))) h)
       ∙ ap (λ x. p ++ cond x (c ∷ []) []) (up_to_last (s.tasks + 1) t (serial-more b (bump 1 1 s)))
   few_one k (Wait w) s p h = within_same s.tasks (filter (spares w) p) (filter_swap (spares w) (is_within s.tasks) p ∙ ap (filter (spares w)) h)
   few_one k (Group o cs b) s p h =
       filter_weaker (is_within s.tasks) (is_within (serial b (bump 0 1 s)).tasks)
-      (λ c. within_more s.tasks (serial b (bump 0 1 s)).tasks c (omega (arith, serial-more b (bump 0 1 s)))) (unawaited (k + 1) b (bump 0 1 s) p)
+      (λ c. within_more s.tasks (serial b (bump 0 1 s)).tasks c (omega (arith, serial-more b (bump 0 1 s)))) (children_unawaited (k + 1) b (bump 0 1 s) p)
 
-  few : (k : ℕ) (b : Body) (s : State) (p : List Created) → filter (is_within s.tasks) p ≡ p → filter (is_within (serial b s).tasks) (unawaited k b s p) ≡ unawaited k b s p
+  few : (k : ℕ) (b : Body) (s : State) (p : List Created) → filter (is_within s.tasks) p ≡ p → filter (is_within (serial b s).tasks) (children_unawaited k b s p) ≡ children_unawaited k b s p
   few k End s p h = h
   few k (Next x rest) s p h = few (k + size_one x) rest (serial_one x s) (unawaited_one k x s p) (few_one k x s p h)
 
@@ -227,20 +227,20 @@ mutual
   unawaited_one-is own k (Fold o c e) s p old h = sym (append-nil _ ∙ filter_all (survives own []) (λ c. refl) p)
   unawaited_one-is own k (If e a b) s p old h =
       either-two (val (cell_of s.cells) e) (λ cs ms. cs ≡ filter (survives own ms) p ++ unawaited_of own ms)
-      (unawaited (k + 1) a (bump 0 1 s) p) (unawaited (k + 1 + size a) b (bump 0 1 s) p)
+      (children_unawaited (k + 1) a (bump 0 1 s) p) (children_unawaited (k + 1 + size a) b (bump 0 1 s) p)
       (passes own (k + 1) a (bump 0 1 s) p) (passes own (k + 1 + size a) b (bump 0 1 s) p)
       (unawaited-is own (k + 1) a (bump 0 1 s) p (omega (arith, old)) (within_same s.tasks p h))
       (unawaited-is own (k + 1 + size a) b (bump 0 1 s) p (omega (arith, old)) (within_same s.tasks p h))
   unawaited_one-is own k (Task d b) s p old h =
       let ms = passes (s.tasks + 1) (k + 1) b (bump 1 1 s) [] in
-      let c = created k d s in
+      let c = created_at k d s in
       let others = others_inside own k b s old in
-      let stays : stays_within 0 ms ≡ true = ap (stays_within 0) (sym (append-nil ms)) ∙ balanced (s.tasks + 1) (k + 1) b (bump 1 1 s) [] 0 [] in
+      let stays : stays_in_groups 0 ms ≡ true = ap (stays_in_groups 0) (sym (append-nil ms)) ∙ balanced (s.tasks + 1) (k + 1) b (bump 1 1 s) [] 0 [] in
       sym (ap (λ cs. cs ++ unawaited_of own (Creates own c ∷ ms)) (filter_all (survives own (Creates own c ∷ ms)) (λ d. ap not (waits-of-others own d ms others)) p)
-      ∙ ap (λ cs. p ++ cs) (sure (own == own) (stays_within 0 ms) (list_any (is_wait_for own c) ms) c (unawaited_of own ms)
+      ∙ ap (λ cs. p ++ cs) (sure (own == own) (stays_in_groups 0 ms) (list_any (is_wait_taking own c) ms) c (unawaited_of own ms)
       (same_number own) stays (waits-of-others own c ms others) (none-of-others own ms others)))
   unawaited_one-is own k (Wait w) s p old h =
-      filter_same (spares w) (λ c. not (((own == own) && takes w c) || false)) (λ c. spared (own == own) (takes w c) (same_number own)) p ∙ sym (append-nil _)
+      filter_same (spares w) (λ c. not (((own == own) && takes_child w c) || false)) (λ c. spared (own == own) (takes_child w c) (same_number own)) p ∙ sym (append-nil _)
   unawaited_one-is own k (Group o cs b) s p old h =
       let ms = passes own (k + 1) b (bump 0 1 s) p in
       let left = filter (survives own ms) p in
@@ -250,10 +250,10 @@ mutual
       ∙ ap (λ cs. left ++ cs) (none_same s.tasks (unawaited_of own ms) (fresh own (k + 1) b (bump 0 1 s) p (omega (arith, old))) ∙ sym (ended own (k + 1) b (bump 0 1 s) p (Leaves ∷ []) (omega (arith, old)) refl))
       ∙ ap (λ cs. cs ++ unawaited_of own (ms ++ Leaves ∷ []))
       (filter_same (survives own ms) (survives own (ms ++ Leaves ∷ []))
-      (λ c. ap not (sym (list_any-append (is_wait_for own c) ms (Leaves ∷ []) ∙ or-false (list_any (is_wait_for own c) ms)))) p)
+      (λ c. ap not (sym (list_any-append (is_wait_taking own c) ms (Leaves ∷ []) ∙ or-false (list_any (is_wait_taking own c) ms)))) p)
 
   unawaited-is : (own k : ℕ) (b : Body) (s : State) (p : List Created) → own ≤ s.tasks → filter (is_within s.tasks) p ≡ p
-      → unawaited k b s p ≡ filter (survives own (passes own k b s p)) p ++ unawaited_of own (passes own k b s p)
+      → children_unawaited k b s p ≡ filter (survives own (passes own k b s p)) p ++ unawaited_of own (passes own k b s p)
   unawaited-is own k End s p old h = sym (append-nil _ ∙ filter_all (survives own []) (λ c. refl) p)
   unawaited-is own k (Next x rest) s p old h =
       let t = serial_one x s in
@@ -268,7 +268,7 @@ mutual
       ∙ ap (λ cs. cs ++ (left ++ unawaited_of own later))
       (filter_both (survives own first) (survives own later) p
       ∙ filter_same (λ c. survives own first c && survives own later c) (survives own (first ++ later))
-      (λ c. not_or (list_any (is_wait_for own c) first) (list_any (is_wait_for own c) later) ∙ ap not (sym (list_any-append (is_wait_for own c) first later))) p)
+      (λ c. not_or (list_any (is_wait_taking own c) first) (list_any (is_wait_taking own c) later) ∙ ap not (sym (list_any-append (is_wait_taking own c) first later))) p)
       ∙ ap (λ cs. filter (survives own (first ++ later)) p ++ cs)
       (sym (unawaited-append own first later (leaves-none-balanced later (balanced own (k + size_one x) rest t q))))
 
@@ -286,12 +286,12 @@ old-created : (t own : ℕ) (c : Created) → own ≤ t → AreOld t (Creates ow
 old-created t own c le = λ q past. or_none (own == q) false (other_number own q (λ is. absurd (omega (arith, is, le, past)))) refl
 
 -- before a group begins as many are unawaited as behind
-entered-same : (own : ℕ) (ms : List Passed) (m : Passed) → ((n : ℕ) → stays_within n (m ∷ []) ≡ true) → unawaited_of own (m ∷ []) ≡ []
-    → ((c : Created) → is_wait_for own c m ≡ false) → unawaited_of own ms ≡ unawaited_of own (ms ++ m ∷ [])
+entered-same : (own : ℕ) (ms : List Passed) (m : Passed) → ((n : ℕ) → stays_in_groups n (m ∷ []) ≡ true) → unawaited_of own (m ∷ []) ≡ []
+    → ((c : Created) → is_wait_taking own c m ≡ false) → unawaited_of own ms ≡ unawaited_of own (ms ++ m ∷ [])
 entered-same own ms m stays none waits =
     sym (unawaited-append own ms (m ∷ []) (leaves-none-alone m stays)
     ∙ ap (λ cs. filter (survives own (m ∷ [])) (unawaited_of own ms) ++ cs) none ∙ append-nil _
-    ∙ filter_all (survives own (m ∷ [])) (λ c. ap not (or_none (is_wait_for own c m) false (waits c) refl)) (unawaited_of own ms))
+    ∙ filter_all (survives own (m ∷ [])) (λ c. ap not (or_none (is_wait_taking own c m) false (waits c) refl)) (unawaited_of own ms))
 
 mutual
   right_one : (before : List Passed) (own k : ℕ) (x : S) (s : State) (p : List Created) → AreOld s.tasks before → own ≤ s.tasks → p ≡ unawaited_of own before
@@ -303,13 +303,13 @@ mutual
       (right before own (k + 1) a (bump 0 1 s) p (λ q past. olds q (omega (arith, past))) (omega (arith, old)) is (within_same s.tasks p h))
       (right before own (k + 1 + size a) b (bump 0 1 s) p (λ q past. olds q (omega (arith, past))) (omega (arith, old)) is (within_same s.tasks p h))
   right_one before own k (Task d b) s p olds old is h =
-      let c = created k d s in
+      let c = created_at k d s in
       let new : list_any (is_by (s.tasks + 1)) (before ++ Creates own c ∷ []) ≡ false =
       old-push s.tasks s.tasks before (Creates own c) olds (omega arith) (old-created s.tasks own c old) (s.tasks + 1) (omega arith) in
       right (before ++ Creates own c ∷ []) (s.tasks + 1) (k + 1) b (bump 1 1 s) []
       (old-push s.tasks (s.tasks + 1) before (Creates own c) olds (omega arith) (old-created (s.tasks + 1) own c (omega (arith, old)))) (omega arith)
       (sym (none-of-others (s.tasks + 1) (before ++ Creates own c ∷ []) new)) refl
-  right_one before own k (Wait w) s p olds old is h = (ap (filter (takes w)) is, tt)
+  right_one before own k (Wait w) s p olds old is h = (ap (filter (takes_child w)) is, tt)
   right_one before own k (Group o cs b) s p olds old is h =
       let ms = passes own (k + 1) b (bump 0 1 s) p in
       let begins = Enters o cs in
@@ -335,7 +335,7 @@ mutual
       right-append before first (passes own (k + size_one x) rest t q) (right_one before own k x s p olds old is h)
       (right (before ++ first) own (k + size_one x) rest t q olds_later (omega (arith, old, serial_one-more x s)) pending (few_one k x s p h))
 
-pub await-exactly : (body : Body) (cells : List (List ℕ)) → AwaitExactly (marks body cells)
+pub await-exactly : (body : Body) (cells : List (List ℕ)) → AwaitExactly (passed_by body cells)
 await-exactly body cells = λ before later own w awaited is.
     right-at [] before later own w awaited
-    (subst (AreRight []) is (right [] 0 1 body (begun cells) [] (λ q past. refl) (omega arith) refl refl))
+    (subst (AreRight []) is (right [] 0 1 body (state_begun cells) [] (λ q past. refl) (omega arith) refl refl))

@@ -6,7 +6,7 @@ use Rattle.ot_check.specs.Jobs.{Spec, meaning_of}
 use Rattle.ot_show_print.specs.Shown.{names_of}
 use Rattle.ot_show_last.specs.LastRuns.{Finds}
 use Rattle.ot_show_last.specs.declared.found.LastRun.{LastRun}
-use Rattle.ot_show_graph.specs.Passing.{families, marks}
+use Rattle.ot_show_graph.specs.Passing.{families, passed_by}
 use Rattle.ot_show_graph.specs.Graphs.{families_of, marks_of}
 use Rattle.ot_show_graph.specs.Dot as dot
 use Rattle.ot_show_graph.specs.declared.drawing.Drawing.{Drawing}
@@ -16,7 +16,7 @@ use Rattle.ot_show_graph.specs.declared.graph.Graph.{Graph}
 pub record Draws (spec : Spec) (arrays : List ArrayShape) (drawing : Drawing) : Type 0 where
   pub graph : Graph
   pub families : families_of graph.families.items ≡ families (expanded_of spec.checked.program).body spec.before
-  pub marks : marks_of graph.marks.items ≡ marks (expanded_of spec.checked.program).body spec.before
+  pub marks : marks_of graph.marks.items ≡ passed_by (expanded_of spec.checked.program).body spec.before
   pub text : string_bytes drawing.text ≡ dot.text (names_of arrays) graph
   pub tasks : drawing.tasks ≡ (meaning_of spec).tasks
 

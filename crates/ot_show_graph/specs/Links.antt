@@ -3,12 +3,12 @@ use Rattle.std.specs.Prelude.{◌≡◌, [], ℕ, suc, ◌==◌, ◌&&◌, Bool,
 use Rattle.std.specs.List.{filter}
 use Rattle.ot_model.specs.declared.expr.Cell.{Cell}
 use Rattle.ot_model.specs.declared.stmt.Use.{Use}
-use Rattle.ot_depend.specs.Siblings.{Sibling, created, is_direct, waiting_for}
+use Rattle.ot_depend.specs.Siblings.{Sibling, sibling_created, is_direct, waiting_for}
 use Rattle.ot_show_graph.specs.declared.link.Link.{Link}
 
 -- children with these declarations, none of which has finished
 abbrev pub siblings_with : List (List Use) → List Sibling
-siblings_with decls = map (λ uses. created uses []) decls
+siblings_with decls = map (λ uses. sibling_created uses []) decls
 
 -- whether the later of two siblings depends on the earlier one at a cell that none between the two writes
 abbrev pub waits_itself : List Sibling → ℕ → ℕ → Bool

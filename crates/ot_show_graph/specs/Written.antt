@@ -18,46 +18,46 @@ use Rattle.std.specs.declared.vec.Vec.{Vec}
 use Rattle.std.specs.declared.alloc.Global.{Global}
 
 -- a cell's row: the last child that writes it, and those that use it since
-pub record Entry : Type 0 where
+pub record CellRow : Type 0 where
   pub writer : Option ℕ
   pub users : List ℕ
 
-abbrev pub nobody : Entry
-nobody = record { writer = None; users = [] }
+abbrev pub no_child : CellRow
+no_child = record { writer = None; users = [] }
 
-abbrev pub entry_in : Row → Entry
-entry_in r = record { writer = r.writer; users = r.users.items }
+abbrev pub row_seen : Row → CellRow
+row_seen r = record { writer = r.writer; users = r.users.items }
 
 -- those in the row for whom a child waits by itself that uses the cell next
-abbrev pub found : Entry → Mode → List ℕ
-found e mode = option_to_list e.writer ++ cond (is_write mode) e.users []
+abbrev pub waited_for : CellRow → Mode → List ℕ
+waited_for e mode = option_to_list e.writer ++ cond (is_write mode) e.users []
 
 -- the row behind a child, which uses the cell or doesn't, and writes it or doesn't
-abbrev pub entered : ℕ → Bool → Bool → Entry → Entry
-entered child uses writes e =
+abbrev pub row_behind : ℕ → Bool → Bool → CellRow → CellRow
+row_behind child uses writes e =
     cond uses (record { writer = cond writes (Some child) e.writer; users = cond writes [] (e.users ++ child ∷ []) }) e
 
 -- the row once a child uses the cell so
-abbrev pub entered_by : ℕ → Mode → Entry → Entry
-entered_by child mode e = entered child true (is_write mode) e
+abbrev pub entered_by : ℕ → Mode → CellRow → CellRow
+entered_by child mode e = row_behind child true (is_write mode) e
 
 -- the row of the cell at a place of a page, that at an index of an array, and that of a cell
-abbrev pub entry_on : Page → ℕ → Entry
-entry_on page place = unwrap_or (option_map entry_in (slice_get page.rows.items place)) nobody
+abbrev pub entry_on : Page → ℕ → CellRow
+entry_on page place = unwrap_or (option_map row_seen (slice_get page.rows.items place)) no_child
 
-abbrev pub entry_at : Shelf → ℕ → Entry
-entry_at shelf index = unwrap_or (option_map (λ page. entry_on page (index % 32)) (slice_get shelf.pages.items (index / 32))) nobody
+abbrev pub row_on_shelf : Shelf → ℕ → CellRow
+row_on_shelf shelf index = unwrap_or (option_map (λ page. entry_on page (index % 32)) (slice_get shelf.pages.items (index / 32))) no_child
 
-abbrev pub entry_of : Rows → Cell → Entry
-entry_of rows c = unwrap_or (option_map (λ shelf. entry_at shelf c.index) (slice_get rows.shelves.items c.array)) nobody
+abbrev pub row_in_rows : Rows → Cell → CellRow
+row_in_rows rows c = unwrap_or (option_map (λ shelf. row_on_shelf shelf c.index) (slice_get rows.shelves.items c.array)) no_child
 
 -- whether a child that comes after these, with this use, waits by itself for one of them
 abbrev pub is_met : List (List Use) → ℕ → Use → Bool
 is_met before earlier used = is_direct (slice_index_or before earlier []) (siblings_with (drop (suc earlier) before)) (used ∷ [])
 
 -- the rows of the cells have each of these children once for whom one that comes after them waits by itself
-abbrev pub Tells : List (List Use) → (Cell → Entry) → Type 0
-Tells before rows = (u : Use) (earlier : ℕ) → times earlier (found (rows u.cell) u.mode) ≡ cond (is_met before earlier u) 1 0
+abbrev pub TellsRows : List (List Use) → (Cell → CellRow) → Type 0
+TellsRows before rows = (u : Use) (earlier : ℕ) → times earlier (waited_for (rows u.cell) u.mode) ≡ cond (is_met before earlier u) 1 0
 
 -- the cells that are kept beside an earlier child
 abbrev pub cells_with : BTreeMap ℕ (Vec Cell Global) Global → ℕ → List Cell

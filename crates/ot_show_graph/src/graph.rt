@@ -2,7 +2,7 @@
 ghost use Rattle.std.specs.Prelude.{◌≡◌, IfOk};
 ghost use Rattle.ot_model.specs.Programs.{expanded_of};
 ghost use Rattle.ot_check.specs.Jobs.{meaning_of};
-ghost use Rattle.ot_show_graph.specs.Passing.{families, marks, AwaitExactly};
+ghost use Rattle.ot_show_graph.specs.Passing.{families, passed_by, AwaitExactly};
 ghost use Rattle.ot_show_graph.specs.Graphs.{families_of, marks_of};
 
 use crate::family::Family;
@@ -29,7 +29,7 @@ pub struct Graph<'a> {
 /// family are those of its children.
 pub fn graph_of<'a>(alloc: Global, spec: &'a JobSpec) -> Result<Graph<'a>, AllocError>
     ensures families { IfOk result (λ graph. families_of graph.families.items ≡ families (expanded_of spec.now.checked.program).body spec.now.before) }
-    ensures marks { IfOk result (λ graph. marks_of graph.marks.items ≡ marks (expanded_of spec.now.checked.program).body spec.now.before) }
+    ensures marks { IfOk result (λ graph. marks_of graph.marks.items ≡ passed_by (expanded_of spec.now.checked.program).body spec.now.before) }
     ensures awaited { IfOk result (λ graph. AwaitExactly (marks_of graph.marks.items)) }
     ensures tasks { IfOk result (λ graph. graph.tasks ≡ (meaning_of spec.now).tasks) }
 {

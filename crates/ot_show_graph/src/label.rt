@@ -5,7 +5,7 @@ ghost use Rattle.ot_model.specs.declared.expr.Cell.{Cell};
 ghost use Rattle.ot_model.specs.declared.stmt.Use.{Use};
 ghost use Rattle.ot_depend.specs.Siblings.{uses_cell, writes_cell};
 ghost use Rattle.ot_show_graph.specs.Children.{decls_of};
-ghost use Rattle.ot_show_graph.specs.Written.{AreLabels, AreMet, Tells, entered, entry_of};
+ghost use Rattle.ot_show_graph.specs.Written.{AreLabels, AreMet, TellsRows, row_behind, row_in_rows};
 
 use crate::child::Child;
 use crate::met::Met;
@@ -32,7 +32,7 @@ pub(crate) fn labels_of(alloc: Global, children: &[Child<'_>]) -> Result<Vec<Met
 
 /// The cells at which a child with these uses waits by itself for those in the rows.
 fn met_by(alloc: Global, rows: &Rows, uses: &[Use]) -> Result<Met, AllocError>
-    ensures { IfOk result (λ met. (before : List (List Use)) → Tells before (entry_of rows.now) → AreMet before uses.now met) }
+    ensures { IfOk result (λ met. (before : List (List Use)) → TellsRows before (row_in_rows rows.now) → AreMet before uses.now met) }
 {
     let mut met = BTreeMap::new(alloc);
     for used in uses {
@@ -44,7 +44,7 @@ fn met_by(alloc: Global, rows: &Rows, uses: &[Use]) -> Result<Met, AllocError>
 /// A child has these uses.
 fn enter(alloc: Global, rows: &mut Rows, uses: &[Use], child: usize) -> Result<(), AllocError>
     requires { AreInOrder uses.now }
-    ensures { OnOk result ((c : Cell) → entry_of rows.new c ≡ entered child (uses_cell c uses.now) (writes_cell c uses.now) (entry_of rows.old c)) }
+    ensures { OnOk result ((c : Cell) → row_in_rows rows.new c ≡ row_behind child (uses_cell c uses.now) (writes_cell c uses.now) (row_in_rows rows.old c)) }
 {
     for used in uses {
         rows.enter(alloc, child, *used)?;

@@ -3,7 +3,7 @@ ghost use Rattle.std.specs.Prelude.{◌≡◌, ◌≢◌, ◌<◌, ◌++◌, ◌
 ghost use Rattle.std.specs.Option.{option_to_list};
 ghost use Rattle.ot_model.specs.declared.expr.Cell.{Cell};
 ghost use Rattle.ot_depend.specs.Siblings.{is_write, times};
-ghost use Rattle.ot_show_graph.specs.Written.{cells_with, entered_by, entry_at, entry_in, entry_of, entry_on, found, nobody};
+ghost use Rattle.ot_show_graph.specs.Written.{cells_with, entered_by, row_on_shelf, row_seen, row_in_rows, entry_on, waited_for, no_child};
 
 use crate::met::{Met, put_all, put_cell};
 use ot_model::{Cell, Mode, Use};
@@ -42,7 +42,7 @@ pub(crate) struct Rows {
 impl Rows {
     /// No child uses a cell. It takes no memory.
     pub(crate) fn new(alloc: Global) -> Rows
-        ensures { (c : Cell) → entry_of result c ≡ nobody }
+        ensures { (c : Cell) → row_in_rows result c ≡ no_child }
     {
         Rows {
             shelves: Vec::new(alloc),
@@ -51,7 +51,7 @@ impl Rows {
 
     /// Puts the cell of a use to each for whom a child waits by itself that uses it so.
     pub(crate) fn put(&self, alloc: Global, met: &mut Met, used: Use) -> Result<(), AllocError>
-        ensures { OnOk result ((e : ℕ) → cells_with met.new e ≡ cells_with met.old e ++ replicate (times e (found (entry_of self.now used.cell) used.mode)) used.cell) }
+        ensures { OnOk result ((e : ℕ) → cells_with met.new e ≡ cells_with met.old e ++ replicate (times e (waited_for (row_in_rows self.now used.cell) used.mode)) used.cell) }
     {
         match self.shelves.get(used.cell.array as usize) {
             Some(shelf) => shelf.put(alloc, met, used),
@@ -61,8 +61,8 @@ impl Rows {
 
     /// A child has this use.
     pub(crate) fn enter(&mut self, alloc: Global, child: usize, used: Use) -> Result<(), AllocError>
-        ensures there { OnOk result (entry_of self.new used.cell ≡ entered_by child used.mode (entry_of self.old used.cell)) }
-        ensures others { OnOk result ((c : Cell) → c ≢ used.cell → entry_of self.new c ≡ entry_of self.old c) }
+        ensures there { OnOk result (row_in_rows self.new used.cell ≡ entered_by child used.mode (row_in_rows self.old used.cell)) }
+        ensures others { OnOk result ((c : Cell) → c ≢ used.cell → row_in_rows self.new c ≡ row_in_rows self.old c) }
     {
         self.reach(alloc, used.cell.array)?;
         self.shelves[used.cell.array as usize].enter(alloc, child, used.cell.index, used.mode)
@@ -70,7 +70,7 @@ impl Rows {
 
     /// Makes a shelf for the array.
     fn reach(&mut self, alloc: Global, array: u32) -> Result<(), AllocError>
-        ensures same { (c : Cell) → entry_of self.new c ≡ entry_of self.old c }
+        ensures same { (c : Cell) → row_in_rows self.new c ≡ row_in_rows self.old c }
         ensures there { OnOk result (array < length self.new.shelves.items) }
     {
         for _ in self.shelves.len()..array as usize + 1 {
@@ -85,7 +85,7 @@ impl Rows {
 impl Shelf {
     /// Puts the cell of a use, which is of the shelf's array, to each for whom a child waits by itself that uses it so.
     fn put(&self, alloc: Global, met: &mut Met, used: Use) -> Result<(), AllocError>
-        ensures { OnOk result ((e : ℕ) → cells_with met.new e ≡ cells_with met.old e ++ replicate (times e (found (entry_at self.now used.cell.index) used.mode)) used.cell) }
+        ensures { OnOk result ((e : ℕ) → cells_with met.new e ≡ cells_with met.old e ++ replicate (times e (waited_for (row_on_shelf self.now used.cell.index) used.mode)) used.cell) }
     {
         match self.pages.get((used.cell.index / CELLS) as usize) {
             Some(page) => page.put(alloc, met, used),
@@ -101,8 +101,8 @@ impl Shelf {
         index: u32,
         mode: Mode,
     ) -> Result<(), AllocError>
-        ensures there { OnOk result (entry_at self.new index ≡ entered_by child mode (entry_at self.old index)) }
-        ensures others { OnOk result ((i : ℕ) → i ≢ index → entry_at self.new i ≡ entry_at self.old i) }
+        ensures there { OnOk result (row_on_shelf self.new index ≡ entered_by child mode (row_on_shelf self.old index)) }
+        ensures others { OnOk result ((i : ℕ) → i ≢ index → row_on_shelf self.new i ≡ row_on_shelf self.old i) }
     {
         let page = index / CELLS;
         self.reach(alloc, page)?;
@@ -111,7 +111,7 @@ impl Shelf {
 
     /// Makes a page.
     fn reach(&mut self, alloc: Global, page: u32) -> Result<(), AllocError>
-        ensures same { (i : ℕ) → entry_at self.new i ≡ entry_at self.old i }
+        ensures same { (i : ℕ) → row_on_shelf self.new i ≡ row_on_shelf self.old i }
         ensures there { OnOk result (page < length self.new.pages.items) }
     {
         for _ in self.pages.len()..page as usize + 1 {
@@ -126,7 +126,7 @@ impl Shelf {
 impl Page {
     /// Puts the cell of a use, which is of this page, to each for whom a child waits by itself that uses it so.
     fn put(&self, alloc: Global, met: &mut Met, used: Use) -> Result<(), AllocError>
-        ensures { OnOk result ((e : ℕ) → cells_with met.new e ≡ cells_with met.old e ++ replicate (times e (found (entry_on self.now (used.cell.index % 32)) used.mode)) used.cell) }
+        ensures { OnOk result ((e : ℕ) → cells_with met.new e ≡ cells_with met.old e ++ replicate (times e (waited_for (entry_on self.now (used.cell.index % 32)) used.mode)) used.cell) }
     {
         match self.rows.get((used.cell.index % CELLS) as usize) {
             Some(row) => row.put(alloc, met, used),
@@ -164,7 +164,7 @@ impl Page {
 impl Row {
     /// No child uses the cell. It takes no memory.
     fn new(alloc: Global) -> Row
-        ensures { entry_in result ≡ nobody }
+        ensures { row_seen result ≡ no_child }
     {
         Row {
             writer: None,
@@ -174,7 +174,7 @@ impl Row {
 
     /// A child uses the cell so.
     fn enter(&mut self, child: usize, mode: Mode) -> Result<(), AllocError>
-        ensures { OnOk result (entry_in self.new ≡ entered_by child mode (entry_in self.old)) }
+        ensures { OnOk result (row_seen self.new ≡ entered_by child mode (row_seen self.old)) }
     {
         if is_write(mode) {
             self.writer = Some(child);
@@ -187,7 +187,7 @@ impl Row {
 
     /// Puts the cell of a use to each for whom a child waits by itself that uses it so.
     fn put(&self, alloc: Global, met: &mut Met, used: Use) -> Result<(), AllocError>
-        ensures { OnOk result ((e : ℕ) → cells_with met.new e ≡ cells_with met.old e ++ replicate (times e (found (entry_in self.now) used.mode)) used.cell) }
+        ensures { OnOk result ((e : ℕ) → cells_with met.new e ≡ cells_with met.old e ++ replicate (times e (waited_for (row_seen self.now) used.mode)) used.cell) }
     {
         self.put_writer(alloc, met, used.cell)?;
         if is_write(used.mode) {

@@ -10,7 +10,7 @@ ghost use Rattle.ot_check.specs.Offences.{awaits};
 ghost use Rattle.ot_show_graph.specs.Created.{Creates, Awaits, Enters, Leaves};
 ghost use Rattle.ot_show_graph.specs.Children.{created_of, all_of};
 ghost use Rattle.ot_show_graph.specs.Graphs.{families_of, marks_of};
-ghost use Rattle.ot_show_graph.specs.Passing.{children_in, children_one, created, entered, inside, inside_one, kin_within, is_within, passes, passes_one, spares, takes, unawaited, unawaited_one};
+ghost use Rattle.ot_show_graph.specs.Passing.{children_in, children_one, created_at, task_entered, inside, inside_one, kin_within, is_within, passes, passes_one, spares, takes_child, children_unawaited, unawaited_one};
 
 use crate::child::Child;
 use crate::family::Family;
@@ -63,7 +63,7 @@ pub(crate) fn run_all<'a>(
     ensures families { OnOk result (families_of run.new.families.items
         ≡ families_of run.old.families.items ++ inside place (stmts_of body.now.items) (state_of run.old.cells run.old.counts)) }
     ensures pending { OnOk result (all_of region.new.pending.items
-        ≡ unawaited place (stmts_of body.now.items) (state_of run.old.cells run.old.counts) (all_of region.old.pending.items)) }
+        ≡ children_unawaited place (stmts_of body.now.items) (state_of run.old.cells run.old.counts) (all_of region.old.pending.items)) }
     ensures marks { OnOk result (marks_of run.new.marks.items
         ≡ marks_of run.old.marks.items ++ passes region.old.parent place (stmts_of body.now.items) (state_of run.old.cells run.old.counts) (all_of region.old.pending.items)) }
 {
@@ -142,21 +142,21 @@ fn run_task<'a>(
     requires units_fit { run.old.counts.units + size (stmts_of body.now.items) < 2 ^ 32 }
     requires tasks_fit { run.old.counts.tasks + (1 + tasks_in (stmts_of body.now.items)) < 2 ^ 32 }
     requires short { place + 1 + size (stmts_of body.now.items) < 2 ^ 32 }
-    ensures run { OnOk result (state_of run.new.cells run.new.counts ≡ serial (stmts_of body.now.items) (entered (state_of run.old.cells run.old.counts))) }
+    ensures run { OnOk result (state_of run.new.cells run.new.counts ≡ serial (stmts_of body.now.items) (task_entered (state_of run.old.cells run.old.counts))) }
     ensures kept { OnOk result (lengths run.new.cells ≡ lengths run.old.cells) }
     ensures units { OnOk result (run.new.counts.units ≤ run.old.counts.units + size (stmts_of body.now.items)) }
     ensures tasks { OnOk result (run.new.counts.tasks ≤ run.old.counts.tasks + (1 + tasks_in (stmts_of body.now.items))) }
     ensures parent { OnOk result (region.new.parent ≡ region.old.parent) }
     ensures children { OnOk result (all_of region.new.children.items
-        ≡ all_of region.old.children.items ++ created place decl.now (state_of run.old.cells run.old.counts) ∷ []) }
+        ≡ all_of region.old.children.items ++ created_at place decl.now (state_of run.old.cells run.old.counts) ∷ []) }
     ensures families { OnOk result (families_of run.new.families.items
-        ≡ families_of run.old.families.items ++ (inside (place + 1) (stmts_of body.now.items) (entered (state_of run.old.cells run.old.counts))
-        ++ kin_within place (stmts_of body.now.items) (entered (state_of run.old.cells run.old.counts)) ∷ [])) }
+        ≡ families_of run.old.families.items ++ (inside (place + 1) (stmts_of body.now.items) (task_entered (state_of run.old.cells run.old.counts))
+        ++ kin_within place (stmts_of body.now.items) (task_entered (state_of run.old.cells run.old.counts)) ∷ [])) }
     ensures pending { OnOk result (all_of region.new.pending.items
-        ≡ all_of region.old.pending.items ++ created place decl.now (state_of run.old.cells run.old.counts) ∷ []) }
+        ≡ all_of region.old.pending.items ++ created_at place decl.now (state_of run.old.cells run.old.counts) ∷ []) }
     ensures marks { OnOk result (marks_of run.new.marks.items
-        ≡ marks_of run.old.marks.items ++ Creates region.old.parent (created place decl.now (state_of run.old.cells run.old.counts))
-        ∷ passes (run.old.counts.tasks + 1) (place + 1) (stmts_of body.now.items) (entered (state_of run.old.cells run.old.counts)) []) }
+        ≡ marks_of run.old.marks.items ++ Creates region.old.parent (created_at place decl.now (state_of run.old.cells run.old.counts))
+        ∷ passes (run.old.counts.tasks + 1) (place + 1) (stmts_of body.now.items) (task_entered (state_of run.old.cells run.old.counts)) []) }
 {
     run.counts.tasks += 1;
     let number = run.counts.tasks;
@@ -218,7 +218,7 @@ fn run_group<'a>(
     ensures families { OnOk result (families_of run.new.families.items
         ≡ families_of run.old.families.items ++ inside (place + 1) (stmts_of body.now.items) (state_of run.old.cells run.old.counts)) }
     ensures pending { OnOk result (all_of region.new.pending.items
-        ≡ filter (is_within run.old.counts.tasks) (unawaited (place + 1) (stmts_of body.now.items) (state_of run.old.cells run.old.counts) (all_of region.old.pending.items))) }
+        ≡ filter (is_within run.old.counts.tasks) (children_unawaited (place + 1) (stmts_of body.now.items) (state_of run.old.cells run.old.counts) (all_of region.old.pending.items))) }
     ensures marks { OnOk result (marks_of run.new.marks.items
         ≡ marks_of run.old.marks.items ++ Enters op cells.now.items
         ∷ (passes region.old.parent (place + 1) (stmts_of body.now.items) (state_of run.old.cells run.old.counts) (all_of region.old.pending.items) ++ Leaves ∷ [])) }
@@ -249,7 +249,7 @@ fn await_children<'a>(
     ensures children { region.new.children ≡ region.old.children }
     ensures pending { OnOk result (all_of region.new.pending.items ≡ filter (spares (option_copied decl.entry)) (all_of region.old.pending.items)) }
     ensures marks { OnOk result (marks_of run.new.marks.items
-        ≡ marks_of run.old.marks.items ++ Awaits region.old.parent (option_copied decl.entry) (filter (takes (option_copied decl.entry)) (all_of region.old.pending.items)) ∷ []) }
+        ≡ marks_of run.old.marks.items ++ Awaits region.old.parent (option_copied decl.entry) (filter (takes_child (option_copied decl.entry)) (all_of region.old.pending.items)) ∷ []) }
     ensures families { run.new.families ≡ run.old.families }
     ensures cells { run.new.cells ≡ run.old.cells }
     ensures counts { run.new.counts ≡ run.old.counts }
@@ -266,7 +266,7 @@ fn parted<'a>(
     wait: Option<&Decl>,
     pending: &[Child<'a>],
 ) -> Result<(Vec<Child<'a>>, Vec<Child<'a>>), AllocError>
-    ensures awaited { IfOk result (λ both. all_of both.0.items ≡ filter (takes (option_copied wait.entry)) (all_of pending.now)) }
+    ensures awaited { IfOk result (λ both. all_of both.0.items ≡ filter (takes_child (option_copied wait.entry)) (all_of pending.now)) }
     ensures left { IfOk result (λ both. all_of both.1.items ≡ filter (spares (option_copied wait.entry)) (all_of pending.now)) }
 {
     let mut awaited = Vec::new(alloc);

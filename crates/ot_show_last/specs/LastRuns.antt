@@ -1,11 +1,11 @@
 -- The last program that a session runs, or its first line that isn't taken.
 use Rattle.std.specs.Prelude.{ℕ, [], ◌+◌, List, ◌∷◌, length, codes, Bool, true, false, if◌then◌else◌, Option, Some, None, ◌≡◌, Result, Ok, Err, ◌⊎◌}
 use Rattle.ot_model.specs.Programs.{Expanded, expanded_of, arrays_of}
-use Rattle.ot_store.specs.Arrays.{Named, listed, cells_in}
+use Rattle.ot_store.specs.Arrays.{Named, arrays_listed, cells_in}
 use Rattle.ot_store.specs.Refusals.{usual_limits}
 use Rattle.ot_book.specs.Answers as r
 use Rattle.ot_book.specs.Answers.{Step, Now, Runs}
-use Rattle.ot_book.specs.Books.{Register, new_register, next_number, next_step, logged}
+use Rattle.ot_book.specs.Books.{Register, new_register, next_number, next_step, line_logged}
 use Rattle.ot_session.specs.Session.{heard_in}
 use Rattle.ot_session.specs.declared.fault.End.{End}
 use Rattle.ot_session.specs.declared.fault.End.TheVariants.{Full, LongLine}
@@ -47,7 +47,7 @@ run_with program arrays cells = record { program = program; arrays = arrays; cel
 
 -- a program that runs over these arrays
 abbrev pub run_over : List Named → Expanded → Run
-run_over arrays program = run_with program (listed arrays) (cells_in arrays)
+run_over arrays program = run_with program (arrays_listed arrays) (cells_in arrays)
 
 -- what a line comes to with those behind it, which go on from the run that is the last so far
 abbrev pub found_by : Step → Register → Option Run → (Option Run → Found) → Found
@@ -55,9 +55,9 @@ found_by (Runs program) book last more = more (Some (run_over book.store program
 found_by (Now told arrays) book last more = if is_refusal told then BadAt (next_number book) (answer_of told) else more last
 
 -- what lines come to as the next requests of a book, where this is the last run so far
-abbrev pub found : Register → Option Run → List (List ℕ) → Found
-found book last [] = Taken last
-found book last (line ∷ lines) = found_by (next_step book line) book last (λ now. found (logged book line false) now lines)
+abbrev pub last_found : Register → Option Run → List (List ℕ) → Found
+last_found book last [] = Taken last
+last_found book last (line ∷ lines) = found_by (next_step book line) book last (λ now. last_found (line_logged book line false) now lines)
 
 -- a line at which a session closes isn't taken where it is too long, or the log is full; a goodbye isn't bad
 abbrev pub closed_by : Option End → ℕ → Found → Found
@@ -67,7 +67,7 @@ closed_by end number all = all
 
 -- what a session comes to that hears these bytes
 abbrev pub found_in : Register → List ℕ → Found
-found_in book bytes = let h = heard_in book bytes in closed_by h.end (next_number book + length h.lines) (found book None h.lines)
+found_in book bytes = let h = heard_in book bytes in closed_by h.end (next_number book + length h.lines) (last_found book None h.lines)
 
 -- a tenant that begins, as `solo` has it
 abbrev pub beginner : Register

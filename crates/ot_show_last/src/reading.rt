@@ -1,9 +1,9 @@
 //! A session that is read to its end.
 ghost use Rattle.std.specs.Prelude.{◌≡◌, ◌≢◌, [], Err, IfOk};
-ghost use Rattle.ot_lines.specs.Lines.{opened};
+ghost use Rattle.ot_lines.specs.Lines.{hearing_opened};
 ghost use Rattle.ot_session.specs.Serving.{next_count, session_bounds};
 ghost use Rattle.ot_show_last.specs.LastRuns.{Finds, beginner};
-ghost use Rattle.ot_show_last.specs.Going.{Going, HearsSession, run_in, told_at_end};
+ghost use Rattle.ot_show_last.specs.Going.{GoesOnHearing, HearsSession, run_in, told_at_end};
 ghost use Rattle.ot_show_last.specs.declared.fault.LastFault.TheVariants.{ReadFailed};
 
 use crate::fault::{LastFault, Untaken};
@@ -79,8 +79,8 @@ fn hear_all<R: Source>(
     last: &mut Option<LastRun>,
     source: &mut R,
 ) -> Result<(), LastFault>
-    requires begins { Going [] [] book.old (run_in last.old) }
-    requires begun { lines.old ≡ opened session_bounds }
+    requires begins { GoesOnHearing [] [] book.old (run_in last.old) }
+    requires begun { lines.old ≡ hearing_opened session_bounds }
     ensures hears { HearsSession (R.flow source.old).ahead (R.flow source.new).ahead (run_in last.new) result }
     ensures read_failed { result ≡ Err ReadFailed → (R.flow source.new).failures ≡ next_count (R.flow source.old).failures }
     ensures read_worked { result ≢ Err ReadFailed → (R.flow source.new).failures ≡ (R.flow source.old).failures }

@@ -1,13 +1,13 @@
 //! One line of a session: the book takes it, and its program is run.
 ghost use Rattle.std.specs.Prelude.{◌≡◌, ◌++◌, ◌∷◌, ◌<◌, [], ℕ, List, Some, Err, length, OnOk, OnErr};
 ghost use Rattle.ot_model.specs.Programs.{expanded_of};
-ghost use Rattle.ot_store.specs.Arrays.{listed};
+ghost use Rattle.ot_store.specs.Arrays.{arrays_listed};
 ghost use Rattle.ot_book.specs.Answers as replies;
 ghost use Rattle.ot_book.specs.ReplyView.{told_of};
-ghost use Rattle.ot_book.specs.Books.{IsOpenFor, closed, last_told};
+ghost use Rattle.ot_book.specs.Books.{IsOpenFor, request_closed, last_told};
 ghost use Rattle.ot_show_last.specs.LastRuns.{run_with};
 ghost use Rattle.ot_show_last.specs.declared.stop.Stop.TheVariants.{Memory};
-ghost use Rattle.ot_show_last.specs.Going.{Going, Goes, run_in, judged, TakesLine};
+ghost use Rattle.ot_show_last.specs.Going.{GoesOnHearing, GoesOrStops, run_in, told_result, TakesHeardLine};
 
 use crate::fault::Untaken;
 use crate::found::LastRun;
@@ -24,7 +24,7 @@ pub(crate) struct Runner {
 }
 
 impl Listener<Book, Option<LastRun>, Stop> for Runner {
-    ghost took = { λ old last line new next result. TakesLine old (run_in last) line new (run_in next) result };
+    ghost took = { λ old last line new next result. TakesHeardLine old (run_in last) line new (run_in next) result };
 
     fn take(
         &mut self,
@@ -43,8 +43,8 @@ fn take_line(
     last: &mut Option<LastRun>,
     line: &[u8],
 ) -> Result<(), Stop>
-    ensures { (bytes : List ℕ) → Going bytes line.now book.old (run_in last.old) →
-        Goes (bytes ++ 10 ∷ []) [] book.new (run_in last.new) result }
+    ensures { (bytes : List ℕ) → GoesOnHearing bytes line.now book.old (run_in last.old) →
+        GoesOrStops (bytes ++ 10 ∷ []) [] book.new (run_in last.new) result }
 {
     if is_bye(line) {
         return Err(Stop::Bye);
@@ -63,7 +63,7 @@ fn take_line(
 /// What a line comes to that was answered at once, as the request of this number.
 fn answered(book: &Book, number: u64) -> Result<(), Stop>
     requires { 0 < length book.now.log }
-    ensures { (told : replies.Told) → last_told book.now ≡ Some told → result ≡ judged told number }
+    ensures { (told : replies.Told) → last_told book.now ≡ Some told → result ≡ told_result told number }
 {
     let Some(reply) = book.reply_at(book.log().len() - 1) else {
         unreachable!()
@@ -73,7 +73,7 @@ fn answered(book: &Book, number: u64) -> Result<(), Stop>
 
 /// What a line comes to that was told this.
 fn judge(told: &Told, number: u64) -> Result<(), Stop>
-    ensures { result ≡ judged (told_of told.now) number }
+    ensures { result ≡ told_result (told_of told.now) number }
 {
     match told {
         Told::Lost => Err(Stop::Memory),
@@ -94,8 +94,8 @@ fn run(
     spec: JobSpec,
 ) -> Result<(), Stop>
     requires { IsOpenFor book.old spec }
-    ensures closed { OnOk result (book.new ≡ closed book.old) }
-    ensures last { OnOk result (run_in last.new ≡ Some (run_with (expanded_of spec.checked.program) (listed book.old.store) spec.before)) }
+    ensures closed { OnOk result (book.new ≡ request_closed book.old) }
+    ensures last { OnOk result (run_in last.new ≡ Some (run_with (expanded_of spec.checked.program) (arrays_listed book.old.store) spec.before)) }
     ensures memory { OnErr result (result ≡ Err Memory) }
 {
     let Ok(kept) = spec.copy(alloc) else {

@@ -1,6 +1,6 @@
 //! Why a session stops in the middle of what was read.
 ghost use Rattle.std.specs.Prelude.{◌≡◌};
-ghost use Rattle.ot_show_last.specs.Going.{result_of};
+ghost use Rattle.ot_show_last.specs.Going.{stop_result};
 
 use crate::fault::{LastFault, Untaken};
 
@@ -18,7 +18,7 @@ pub(crate) enum Stop {
 impl Stop {
     /// What is told then.
     pub(crate) fn result(self) -> Result<(), LastFault>
-        ensures { result ≡ result_of self }
+        ensures { result ≡ stop_result self }
     {
         match self {
             Stop::Bye => Ok(()),

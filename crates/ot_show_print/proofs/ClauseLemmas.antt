@@ -13,7 +13,7 @@ use Rattle.ot_model.specs.declared.stmt.Use.{Use}
 use Rattle.ot_model.specs.Cells.{AreInOrder, Precedes, same_mode}
 use Rattle.ot_model.proofs.EqualLemmas.{mode-decides}
 use Rattle.ot_model.proofs.OrderLemmas.{precedes_trans, precedes_apart, rest_in_order}
-use Rattle.ot_show_print.specs.Shown.{Text, sections, clause, declared, folded, task, cells_in, sections_of, cells_of}
+use Rattle.ot_show_print.specs.Shown.{Text, sections, clause, mode_clause, fold_clause, task, cells_in, sections_of, section_cells}
 use Rattle.ot_model.specs.Signs.{identifier}
 use Rattle.ot_show_print.specs.Laws.{AreNames, AllFit, CellsFit, UsesFit, TaskIsDetermined}
 use Rattle.ot_show_print.proofs.WordLemmas.{head_of, tail_of}
@@ -94,7 +94,7 @@ same_clauses names are (k ∷ ks) us vs r u apart f g hr hu is =
     (all_fit names (cells_in us k.mode) (cells_fit names us k.mode f)) (all_fit names (cells_in vs k.mode) (cells_fit names vs k.mode g))
     (apart.0.others us names r hr.0) (apart.0.others vs names u hu.0) is in
     let rest = same_clauses names are ks us vs r u apart.1 f g hr.1 hu.1 first.1 in
-    ((sym (come_back (cells_in us k.mode)) ∙ ap cells_of first.0 ∙ come_back (cells_in vs k.mode), rest.0), rest.1)
+    ((sym (come_back (cells_in us k.mode)) ∙ ap section_cells first.0 ∙ come_back (cells_in vs k.mode), rest.0), rest.1)
 
 alone_nil : (w : Text) → Alone w []
 alone_nil w = record { others = λ us names r h. h }
@@ -184,8 +184,8 @@ task_ends = (refl, (refl, (refl, (refl, (refl, (refl, (refl, (refl, (refl, tt)))
 
 pub task_shown : (names : List Text) (us : List Use) → task names us ≡ codes "task" ++ clauses names task_kinds us []
 task_shown names us =
-    parts (codes "task") (declared names (codes " in(") us m.Reads) (declared names (codes " out(") us m.Writes)
-    (folded names us f.Plus) (folded names us f.Times) (folded names us f.And) (folded names us f.Or) (folded names us f.Xor) (folded names us f.Min) (folded names us f.Max)
+    parts (codes "task") (mode_clause names (codes " in(") us m.Reads) (mode_clause names (codes " out(") us m.Writes)
+    (fold_clause names us f.Plus) (fold_clause names us f.Times) (fold_clause names us f.And) (fold_clause names us f.Or) (fold_clause names us f.Xor) (fold_clause names us f.Min) (fold_clause names us f.Max)
   where
     parts : (a i o x1 x2 x3 x4 x5 x6 x7 : Text) → a ++ (i ++ o) ++ x1 ++ x2 ++ x3 ++ x4 ++ x5 ++ x6 ++ x7 ≡ a ++ (i ++ (o ++ (x1 ++ (x2 ++ (x3 ++ (x4 ++ (x5 ++ (x6 ++ (x7 ++ [])))))))))
     parts a i o x1 x2 x3 x4 x5 x6 x7 = simp (append_assoc, append-nil) refl

@@ -6,7 +6,7 @@ use Rattle.ot_model.specs.declared.expr.Cell.{Cell}
 use Rattle.ot_model.specs.declared.expr.Section.{Section}
 use Rattle.ot_model.specs.declared.fold.Fold.{Fold as Operation}
 use Rattle.ot_model.specs.declared.fold.Fold.TheVariants as f
-use Rattle.ot_show_print.specs.Shown.{Text, sections, clause, sections_of, cells_of}
+use Rattle.ot_show_print.specs.Shown.{Text, sections, clause, sections_of, section_cells}
 use Rattle.ot_model.specs.Signs.{identifier}
 use Rattle.ot_show_print.specs.Laws.{AreNames, AllFit, GroupIsDetermined}
 use Rattle.ot_show_print.proofs.WordLemmas.{head_of, tail_of}
@@ -60,6 +60,6 @@ not_none c cs is = cc
 
 pub group_law : GroupIsDetermined
 group_law names are op other c cs ds p q is =
-    let both = same_lists names are op other (sections_of (c ∷ cs)) (sections_of ds) (λ none. not_none c cs (ap cells_of none ∙ come_back (c ∷ cs))) (all_fit names (c ∷ cs) p) (all_fit names ds q)
+    let both = same_lists names are op other (sections_of (c ∷ cs)) (sections_of ds) (λ none. not_none c cs (ap section_cells none ∙ come_back (c ∷ cs))) (all_fit names (c ∷ cs) p) (all_fit names ds q)
     (append_cancel_left (codes "taskgroup") (clause names (words_of op) (sections_of (c ∷ cs))) (clause names (words_of other) (sections_of ds)) is) in
-    (both.0, sym (come_back (c ∷ cs)) ∙ ap cells_of both.1 ∙ come_back ds)
+    (both.0, sym (come_back (c ∷ cs)) ∙ ap section_cells both.1 ∙ come_back ds)

@@ -5,7 +5,7 @@ use Rattle.std.proofs.lemmas.Bool.Decides.{nat_tests}
 use Rattle.std.proofs.lemmas.Fmt.{decimal_injective}
 use Rattle.ot_model.specs.declared.expr.Cell.{Cell}
 use Rattle.ot_model.specs.declared.expr.Section.{Section}
-use Rattle.ot_show_print.specs.Shown.{Text, name, length_of, section, further, sections, alone, longer, goes_on, behind, sections_of, row, cells_of}
+use Rattle.ot_show_print.specs.Shown.{Text, name, length_of, section, further, sections, alone, longer, goes_on, sections_behind, sections_of, row, section_cells}
 use Rattle.ot_show_print.specs.Laws.{AreNames, FitsSection, AllFit, CellsFit, CellsComeBack, SectionsAreDetermined, CellsAreDetermined}
 use Rattle.ot_show_print.proofs.WordLemmas.{and_true, head_of, tail_of, starts, split, digits_are}
 use Rattle.ot_show_print.proofs.ValueLemmas.{opened, same_cell, same_section}
@@ -49,15 +49,15 @@ longer_row s c cs h =
     ∙ ap (λ t. t ++ cs) (row_more s.array s.start s.len ∙ ap (λ d. row s.array s.start s.len ++ (d ∷ [])) (same_cell (at s.array (s.start + s.len)) c is.array is.index))
     ∙ append_assoc (row s.array s.start s.len) (c ∷ []) cs
 
-back : (s : Section) (cs : List Cell) → cells_of (behind s cs) ≡ row s.array s.start s.len ++ cs
+back : (s : Section) (cs : List Cell) → section_cells (sections_behind s cs) ≡ row s.array s.start s.len ++ cs
 back s [] = refl
 back s (c ∷ cs) = at_once (goes_on s c) refl (back (longer s) cs) (back (alone c) cs)
   where
-    at_once : (b : Bool) → goes_on s c ≡ b → cells_of (behind (longer s) cs) ≡ row s.array s.start (s.len + 1) ++ cs → cells_of (behind (alone c) cs) ≡ c ∷ cs → cells_of (behind s (c ∷ cs)) ≡ row s.array s.start s.len ++ (c ∷ cs)
+    at_once : (b : Bool) → goes_on s c ≡ b → section_cells (sections_behind (longer s) cs) ≡ row s.array s.start (s.len + 1) ++ cs → section_cells (sections_behind (alone c) cs) ≡ c ∷ cs → section_cells (sections_behind s (c ∷ cs)) ≡ row s.array s.start s.len ++ (c ∷ cs)
     at_once true h long new = rw h (long ∙ longer_row s c cs h)
     at_once false h long new = rw h (ap (λ t. row s.array s.start s.len ++ t) new)
 
-pub comes_back : (cs : List Cell) → cells_of (sections_of cs) ≡ cs
+pub comes_back : (cs : List Cell) → section_cells (sections_of cs) ≡ cs
 comes_back [] = refl
 comes_back (c ∷ cs) = back (alone c) cs
 
@@ -143,11 +143,11 @@ sections_law names are (s ∷ ss) (t ∷ ts) f g is = (same_sections names are s
 
 -- ---- sections of cells fit
 
-behind_fit : (names : List Text) (s : Section) (cs : List Cell) → FitsSection names s → CellsFit names cs → AllFit names (behind s cs)
+behind_fit : (names : List Text) (s : Section) (cs : List Cell) → FitsSection names s → CellsFit names cs → AllFit names (sections_behind s cs)
 behind_fit names s [] f g = (f, tt)
 behind_fit names s (c ∷ cs) f g = at_once (goes_on s c) refl (λ long. behind_fit names (longer s) cs long g.1) (behind_fit names (alone c) cs (g.0.0, g.0.1, omega arith, omega arith) g.1)
   where
-    at_once : (b : Bool) → goes_on s c ≡ b → (FitsSection names (longer s) → AllFit names (behind (longer s) cs)) → AllFit names (behind (alone c) cs) → AllFit names (behind s (c ∷ cs))
+    at_once : (b : Bool) → goes_on s c ≡ b → (FitsSection names (longer s) → AllFit names (sections_behind (longer s) cs)) → AllFit names (sections_behind (alone c) cs) → AllFit names (sections_behind s (c ∷ cs))
     at_once true h long new = rw h (long (f.0, f.1, omega arith, omega (arith, (goes_on_is s c h).small)))
     at_once false h long new = rw h (f, new)
 
@@ -156,4 +156,4 @@ all_fit names [] g = tt
 all_fit names (c ∷ cs) g = behind_fit names (alone c) cs (g.0.0, g.0.1, omega arith, omega arith) g.1
 
 pub cells_law : CellsAreDetermined
-cells_law names are cs ds f g is = sym (come_back cs) ∙ ap cells_of (sections_law names are (sections_of cs) (sections_of ds) (all_fit names cs f) (all_fit names ds g) is) ∙ come_back ds
+cells_law names are cs ds f g is = sym (come_back cs) ∙ ap section_cells (sections_law names are (sections_of cs) (sections_of ds) (all_fit names cs f) (all_fit names ds g) is) ∙ come_back ds

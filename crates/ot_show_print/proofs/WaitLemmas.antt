@@ -8,7 +8,7 @@ use Rattle.ot_model.specs.declared.stmt.Mode.{Mode}
 use Rattle.ot_model.specs.declared.stmt.Mode.TheVariants as m
 use Rattle.ot_model.specs.declared.stmt.Use.{Use}
 use Rattle.ot_model.specs.Cells.{is_fold, same_mode}
-use Rattle.ot_show_print.specs.Shown.{Text, name, section, sections, further, clause, declared, dependences, waited, cells_in, sections_of}
+use Rattle.ot_show_print.specs.Shown.{Text, name, section, sections, further, clause, mode_clause, dependences, wait_declares, cells_in, sections_of}
 use Rattle.ot_show_print.specs.Laws.{in_word, all_word, is_digit, is_name, AreNames, AllFit, UsesFit, OnlyDepends, WaitFits, WaitIsDetermined}
 use Rattle.ot_show_print.proofs.WordLemmas.{and_true, head_of, tail_of}
 use Rattle.ot_show_print.proofs.SectionLemmas.{section_shown, all_fit, behind_start}
@@ -22,7 +22,7 @@ wait_apart = (alone reads.words (writes ∷ []) (λ t. refl, tt), (alone writes.
 
 pub dependences_shown : (names : List Text) (us : List Use) → dependences names us ≡ clauses names wait_kinds us []
 dependences_shown names us =
-    ap (λ t. declared names (codes " in(") us m.Reads ++ t) (sym (append-nil (declared names (codes " out(") us m.Writes)))
+    ap (λ t. mode_clause names (codes " in(") us m.Reads ++ t) (sym (append-nil (mode_clause names (codes " out(") us m.Writes)))
 
 -- ---- none of the uses folds
 
@@ -75,18 +75,18 @@ not_empty names are us f is = no_cells names are (sections_of (cells_in us m.Rea
 not_none : (u : Use) (us : List Use) → [] ≡ u ∷ us → ⊥
 not_none u us is = cc
 
-same_waited : (names : List Text) → AreNames names → (us vs : List Use) → WaitFits names (Some us) → WaitFits names (Some vs) → waited names us ≡ waited names vs → us ≡ vs
+same_waited : (names : List Text) → AreNames names → (us vs : List Use) → WaitFits names (Some us) → WaitFits names (Some vs) → wait_declares names us ≡ wait_declares names vs → us ≡ vs
 same_waited names are [] [] f g is = refl
 same_waited names are [] (v ∷ vs) f g is = absurd (not_empty names are (v ∷ vs) g.1 is)
 same_waited names are (u ∷ us) [] f g is = absurd (not_empty names are (u ∷ us) f.1 (sym is))
 same_waited names are (u ∷ us) (v ∷ vs) f g is = same_dependences names are (u ∷ us) (v ∷ vs) f g is
 
-something : (names : List Text) → AreNames names → (us : List Use) → WaitFits names (Some us) → [] ≡ waited names us → ⊥
+something : (names : List Text) → AreNames names → (us : List Use) → WaitFits names (Some us) → [] ≡ wait_declares names us → ⊥
 something names are [] f is = omega (arith, ap head_of is)
 something names are (u ∷ us) f is = not_none u us (same_dependences names are [] (u ∷ us) (tt, tt, tt) f is)
 
 pub wait_law : WaitIsDetermined
 wait_law names are None None f g is = refl
-wait_law names are None (Some vs) f g is = absurd (something names are vs g (append_cancel_left (codes "taskwait") [] (waited names vs) is))
-wait_law names are (Some us) None f g is = absurd (something names are us f (append_cancel_left (codes "taskwait") [] (waited names us) (sym is)))
-wait_law names are (Some us) (Some vs) f g is = ap Some (same_waited names are us vs f g (append_cancel_left (codes "taskwait") (waited names us) (waited names vs) is))
+wait_law names are None (Some vs) f g is = absurd (something names are vs g (append_cancel_left (codes "taskwait") [] (wait_declares names vs) is))
+wait_law names are (Some us) None f g is = absurd (something names are us f (append_cancel_left (codes "taskwait") [] (wait_declares names us) (sym is)))
+wait_law names are (Some us) (Some vs) f g is = ap Some (same_waited names are us vs f g (append_cancel_left (codes "taskwait") (wait_declares names us) (wait_declares names vs) is))

@@ -8,7 +8,7 @@ use Rattle.ot_model.specs.Cells.{AreInOrder, is_fold}
 use Rattle.ot_model.specs.declared.fold.Fold.{Fold as Operation}
 use Rattle.ot_model.specs.declared.expr.Op.TheVariants as o
 use Rattle.ot_model.specs.declared.fold.Fold.TheVariants as f
-use Rattle.ot_show_print.specs.Shown.{Text, name, cell, value, sections, task, wait, group, statement, sections_of, cells_of}
+use Rattle.ot_show_print.specs.Shown.{Text, name, cell, value, sections, task, wait, group, statement, sections_of, section_cells}
 use Rattle.ot_model.specs.Signs.{fold_sign, is_called}
 
 abbrev pub is_digit : ℕ → Bool
@@ -61,7 +61,7 @@ CellsFit names (c ∷ cs) = ((c.array < length names) × (c.index < 2 ^ 64)) × 
 
 -- a section's cells come back, in order, whatever they are
 abbrev pub CellsComeBack : Type 0
-CellsComeBack = (cs : List Cell) → cells_of (sections_of cs) ≡ cs
+CellsComeBack = (cs : List Cell) → section_cells (sections_of cs) ≡ cs
 
 abbrev pub SectionsAreDetermined : Type 0
 SectionsAreDetermined = (names : List Text) → AreNames names → (ss ts : List Section) → AllFit names ss → AllFit names ts → sections names ss ≡ sections names ts → ss ≡ ts

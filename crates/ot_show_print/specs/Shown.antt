@@ -28,14 +28,14 @@ abbrev pub goes_on : Section → Cell → Bool
 goes_on s c = (s.array == c.array) && ((s.start + s.len == c.index) && nat_lt (s.len + 1) (2 ^ 32))
 
 -- the sections of the cells, behind one that is still open
-abbrev pub behind : Section → List Cell → List Section
-behind s [] = s ∷ []
-behind s (c ∷ cs) = if goes_on s c then behind (longer s) cs else s ∷ behind (alone c) cs
+abbrev pub sections_behind : Section → List Cell → List Section
+sections_behind s [] = s ∷ []
+sections_behind s (c ∷ cs) = if goes_on s c then sections_behind (longer s) cs else s ∷ sections_behind (alone c) cs
 
 -- the cells as sections, those in a row as one
 abbrev pub sections_of : List Cell → List Section
 sections_of [] = []
-sections_of (c ∷ cs) = behind (alone c) cs
+sections_of (c ∷ cs) = sections_behind (alone c) cs
 
 -- so many cells of an array from a place on
 abbrev pub row : ℕ → ℕ → ℕ → List Cell
@@ -43,9 +43,9 @@ row a i zero = []
 row a i (suc n) = record { array = a; index = i } ∷ row a (i + 1) n
 
 -- the cells of sections, in order
-abbrev pub cells_of : List Section → List Cell
-cells_of [] = []
-cells_of (s ∷ ss) = row s.array s.start s.len ++ cells_of ss
+abbrev pub section_cells : List Section → List Cell
+section_cells [] = []
+section_cells (s ∷ ss) = row s.array s.start s.len ++ section_cells ss
 
 -- The text of values, cells, sections, declarations and the beginnings of statements, over the names of arrays.
 
@@ -106,32 +106,32 @@ abbrev pub clause : List Text → Text → List Section → Text
 clause names words [] = []
 clause names words (s ∷ ss) = words ++ sections names (s ∷ ss) ++ codes ")"
 
-abbrev pub declared : List Text → Text → List Use → Mode → Text
-declared names words us m = clause names words (sections_of (cells_in us m))
+abbrev pub mode_clause : List Text → Text → List Use → Mode → Text
+mode_clause names words us m = clause names words (sections_of (cells_in us m))
 
 abbrev pub dependences : List Text → List Use → Text
-dependences names us = declared names (codes " in(") us m.Reads ++ declared names (codes " out(") us m.Writes
+dependences names us = mode_clause names (codes " in(") us m.Reads ++ mode_clause names (codes " out(") us m.Writes
 
 abbrev pub reduction : List Text → Text → Operation → List Section → Text
 reduction names words op ss = clause names (words ++ identifier op ++ codes ": ") ss
 
-abbrev pub folded : List Text → List Use → Operation → Text
-folded names us op = reduction names (codes " in_reduction(") op (sections_of (cells_in us (m.Folds op)))
+abbrev pub fold_clause : List Text → List Use → Operation → Text
+fold_clause names us op = reduction names (codes " in_reduction(") op (sections_of (cells_in us (m.Folds op)))
 
 abbrev pub task_as : List Text → Text → List Use → Text
-task_as names head us = head ++ dependences names us ++ folded names us f.Plus ++ folded names us f.Times ++ folded names us f.And ++ folded names us f.Or ++ folded names us f.Xor ++ folded names us f.Min ++ folded names us f.Max
+task_as names head us = head ++ dependences names us ++ fold_clause names us f.Plus ++ fold_clause names us f.Times ++ fold_clause names us f.And ++ fold_clause names us f.Or ++ fold_clause names us f.Xor ++ fold_clause names us f.Min ++ fold_clause names us f.Max
 
 abbrev pub task : List Text → List Use → Text
 task names us = task_as names (codes "task") us
 
 -- what a wait declares, also where that is no cell
-abbrev pub waited : List Text → List Use → Text
-waited names [] = codes " in()"
-waited names (u ∷ us) = dependences names (u ∷ us)
+abbrev pub wait_declares : List Text → List Use → Text
+wait_declares names [] = codes " in()"
+wait_declares names (u ∷ us) = dependences names (u ∷ us)
 
 abbrev pub wait : List Text → Option (List Use) → Text
 wait names None = codes "taskwait"
-wait names (Some us) = codes "taskwait" ++ waited names us
+wait names (Some us) = codes "taskwait" ++ wait_declares names us
 
 abbrev pub group_as : List Text → Text → Operation → List Cell → Text
 group_as names head op cs = head ++ reduction names (codes " task_reduction(") op (sections_of cs)

@@ -211,7 +211,7 @@ impl<'a> Printer<'a> {
     }
 
     fn folded(&mut self, decl: &Decl, op: Fold) -> Result<(), AllocError>
-        ensures text { OnOk result (self.new.text ≡ self.old.text ++ shown.folded self.old.names decl.now op) }
+        ensures text { OnOk result (self.new.text ≡ self.old.text ++ shown.fold_clause self.old.names decl.now op) }
         ensures names { self.new.names ≡ self.old.names }
     {
         let sections = sections_in(self.alloc, decl, Mode::Folds(op))?;
@@ -236,7 +236,7 @@ impl<'a> Printer<'a> {
     }
 
     fn waited(&mut self, decl: &Decl) -> Result<(), AllocError>
-        ensures text { OnOk result (self.new.text ≡ self.old.text ++ shown.waited self.old.names decl.now) }
+        ensures text { OnOk result (self.new.text ≡ self.old.text ++ shown.wait_declares self.old.names decl.now) }
         ensures names { self.new.names ≡ self.old.names }
     {
         if decl.uses().is_empty() {
@@ -257,7 +257,7 @@ impl<'a> Printer<'a> {
 
     /// The cells that are declared in this mode, if any.
     fn clause(&mut self, words: &str, decl: &Decl, mode: Mode) -> Result<(), AllocError>
-        ensures text { OnOk result (self.new.text ≡ self.old.text ++ shown.declared self.old.names words.now decl.now mode) }
+        ensures text { OnOk result (self.new.text ≡ self.old.text ++ shown.mode_clause self.old.names words.now decl.now mode) }
         ensures names { self.new.names ≡ self.old.names }
     {
         let sections = sections_in(self.alloc, decl, mode)?;

@@ -67,7 +67,7 @@ pub(crate) fn sections_of(alloc: Global, cells: &[Cell]) -> Result<Vec<Section>,
 /// The cells that are declared in this mode, those side by side as one section.
 #[tactic(auto, using(crate::proofs::SectionLemmas::comes_back))]
 pub fn sections_in(alloc: Global, decl: &Decl, mode: Mode) -> Result<Vec<Section>, AllocError>
-    ensures cells { IfOk result (λ sections. rows.cells_of sections.items ≡ rows.cells_in decl.now mode) }
+    ensures cells { IfOk result (λ sections. rows.section_cells sections.items ≡ rows.cells_in decl.now mode) }
     ensures exact { IfOk result (λ sections. sections.items ≡ rows.sections_of (rows.cells_in decl.now mode)) }
 {
     let cells = cells_in(alloc, decl, mode)?;

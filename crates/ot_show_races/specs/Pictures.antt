@@ -12,11 +12,11 @@ use Rattle.ot_show_races.specs.declared.picture.Wait.{Wait}
 abbrev pub quoted_byte : ℕ → List ℕ
 quoted_byte byte = if (byte == 34) || (byte == 92) then 92 ∷ byte ∷ [] else byte ∷ []
 
-abbrev pub quoted : List ℕ → List ℕ
-quoted text = flat_map quoted_byte text
+abbrev pub quoted_text : List ℕ → List ℕ
+quoted_text text = flat_map quoted_byte text
 
 unfoldable pub label_text : List ℕ → List ℕ
-label_text label = codes "label=\"" ++ (quoted label ++ codes "\"];\n")
+label_text label = codes "label=\"" ++ (quoted_text label ++ codes "\"];\n")
 
 -- a node of a name with a number
 abbrev pub node_text : List ℕ → ℕ → List ℕ → List ℕ

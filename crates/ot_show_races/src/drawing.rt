@@ -53,7 +53,7 @@ fn put_numbered(
 
 /// Writes a text as it stands within quotes.
 fn put_quoted(text: &str, out: &mut Vec<u8>) -> Result<(), AllocError>
-    ensures { OnOk result (out.new.items ≡ out.old.items ++ meant.quoted text.now) }
+    ensures { OnOk result (out.new.items ≡ out.old.items ++ meant.quoted_text text.now) }
 {
     for byte in text.as_bytes() {
         put_byte(*byte, out)?;

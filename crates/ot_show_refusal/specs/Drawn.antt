@@ -16,16 +16,16 @@ use Rattle.ot_show_refusal.specs.MarkedView.{HasTasks, IsMarked}
 use Rattle.ot_show_refusal.specs.declared.refused.Refused.{Refused}
 
 -- the names of the arrays
-abbrev pub names_in : Arrays → List Text
-names_in shape = map (λ array. array.0) shape.arrays
+abbrev pub array_names : Arrays → List Text
+array_names shape = map (λ array. array.0) shape.arrays
 
 -- The text is that of the picture of the program that the line runs over these arrays.
 pub record Draws (shape : Arrays) (line : List ℕ) (offence : Offence) (place : ℕ) (refused : Refused) : Type 0 where
   pub program : Expanded
   pub picture : Picture
   pub runs : option_and_then (run_of shape) (value_of line) ≡ Some program
-  pub tasks : HasTasks (names_in shape) program.body picture
-  pub race : MatchOption picture.race (Offends program.body place offence → ⊥) (IsMarked (names_in shape) program.body place offence)
+  pub tasks : HasTasks (array_names shape) program.body picture
+  pub race : MatchOption picture.race (Offends program.body place offence → ⊥) (IsMarked (array_names shape) program.body place offence)
   pub text : refused.text.items ≡ picture_text picture
   pub count : refused.tasks ≡ tasks_in program.body
 

@@ -1,7 +1,7 @@
 -- What is drawn of a program, and which of its statements are marked.
 use Rattle.std.specs.Prelude.{ℕ, List, [], ◌∷◌, ◌++◌, Option, Some, None, codes, decimal, flat_map, if◌then◌else◌}
 use Rattle.ot_show_print.specs.Shown.{Text, statement}
-use Rattle.ot_show_refusal.specs.Stands.{Standing, found, is_task, holder}
+use Rattle.ot_show_refusal.specs.Stands.{Standing, standing_found, is_task, holder}
 
 -- a statement with its number
 abbrev pub label_of : List Text → Standing → Text
@@ -11,8 +11,8 @@ label_of names s = decimal s.place ++ (codes ": " ++ statement names s.statement
 abbrev pub task_in : List Text → Standing → List (ℕ × ℕ × Text)
 task_in names s = if is_task s.statement then (s.place, s.owner, label_of names s) ∷ [] else []
 
-abbrev pub tasks_in : List Text → List Standing → List (ℕ × ℕ × Text)
-tasks_in names ss = flat_map (task_in names) ss
+abbrev pub marked_tasks : List Text → List Standing → List (ℕ × ℕ × Text)
+marked_tasks names ss = flat_map (task_in names) ss
 
 -- a statement that is marked: the task that does it, and what stands in its box
 abbrev pub touch : List Text → Standing → ℕ × Text
@@ -23,7 +23,7 @@ touch_found names None = (0, [])
 touch_found names (Some s) = touch names s
 
 abbrev pub touch_at : List Text → List Standing → ℕ → ℕ × Text
-touch_at names ss place = touch_found names (found place ss)
+touch_at names ss place = touch_found names (standing_found place ss)
 
 -- the other statement, or words at the task of the one that offends
 abbrev pub other_at : List Text → List Standing → ℕ → Option ℕ → Text → ℕ × Text

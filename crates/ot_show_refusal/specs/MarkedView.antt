@@ -9,7 +9,7 @@ use Rattle.ot_show_races.specs.declared.picture.Picture.{Picture}
 use Rattle.ot_show_races.specs.declared.picture.Task.{Task}
 use Rattle.ot_show_races.specs.declared.picture.Touch.{Touch}
 use Rattle.ot_show_refusal.specs.Stands.{stands}
-use Rattle.ot_show_refusal.specs.Marked.{tasks_in, pair}
+use Rattle.ot_show_refusal.specs.Marked.{marked_tasks, pair}
 
 abbrev pub task_by : Task → ℕ × ℕ × Text
 task_by task = (task.number, task.parent, string_bytes task.label)
@@ -22,7 +22,7 @@ pair_by pair = (touch_by pair.first, touch_by pair.second)
 
 -- it has the tasks of the program, and nothing beside them
 pub record HasTasks (names : List Text) (body : Body) (picture : Picture) : Type 0 where
-  pub tasks : map task_by picture.tasks.items ≡ tasks_in names (stands 0 1 body)
+  pub tasks : map task_by picture.tasks.items ≡ marked_tasks names (stands 0 1 body)
   pub more : picture.more ≡ 0
   pub waits : picture.waits.items ≡ []
   pub links : picture.links.items ≡ []

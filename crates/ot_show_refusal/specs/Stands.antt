@@ -14,22 +14,22 @@ standing owner k x = record { place = k; owner = owner; statement = x }
 -- the statements in the bodies of one, and those of a body with all in them, which are counted in their order; what stands in a
 -- task's body is the task's own
 abbrev mutual
-  pub within : ℕ → ℕ → S → List Standing
-  within owner k (Set c e) = []
-  within owner k (Fold o c e) = []
-  within owner k (If e a b) = stands owner (k + 1) a ++ stands owner (k + 1 + size a) b
-  within owner k (Task d b) = stands k (k + 1) b
-  within owner k (Wait w) = []
-  within owner k (Group o cs b) = stands owner (k + 1) b
+  pub standings_within : ℕ → ℕ → S → List Standing
+  standings_within owner k (Set c e) = []
+  standings_within owner k (Fold o c e) = []
+  standings_within owner k (If e a b) = stands owner (k + 1) a ++ stands owner (k + 1 + size a) b
+  standings_within owner k (Task d b) = stands k (k + 1) b
+  standings_within owner k (Wait w) = []
+  standings_within owner k (Group o cs b) = stands owner (k + 1) b
 
   pub stands : ℕ → ℕ → Body → List Standing
   stands owner k End = []
-  stands owner k (Next x rest) = standing owner k x ∷ (within owner k x ++ stands owner (k + size_one x) rest)
+  stands owner k (Next x rest) = standing owner k x ∷ (standings_within owner k x ++ stands owner (k + size_one x) rest)
 
 -- the statement with this number
-abbrev pub found : ℕ → List Standing → Option Standing
-found place [] = None
-found place (s ∷ ss) = if s.place == place then Some s else found place ss
+abbrev pub standing_found : ℕ → List Standing → Option Standing
+standing_found place [] = None
+standing_found place (s ∷ ss) = if s.place == place then Some s else standing_found place ss
 
 abbrev pub is_task : S → Bool
 is_task (Task d b) = true

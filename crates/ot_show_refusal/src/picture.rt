@@ -4,7 +4,7 @@ ghost use Rattle.ot_model.specs.View.{stmts_of};
 ghost use Rattle.ot_show_print.specs.Shown.{names_of};
 ghost use Rattle.ot_check.specs.Offences.{Offends};
 ghost use Rattle.ot_show_refusal.specs.Stands as placed;
-ghost use Rattle.ot_show_refusal.specs.Marked.{tasks_in, task_in};
+ghost use Rattle.ot_show_refusal.specs.Marked.{marked_tasks, task_in};
 ghost use Rattle.ot_show_refusal.specs.MarkedView.{IsMarked, HasTasks, task_by};
 ghost use Rattle.ot_show_refusal.specs.StandView.{standing_of, standings_of};
 
@@ -64,7 +64,7 @@ fn tasks_of(
     arrays: &[ArrayShape],
     stands: &[Stand<'_>],
 ) -> Result<Vec<Task>, AllocError>
-    ensures { IfOk result (λ tasks. map task_by tasks.items ≡ tasks_in (names_of arrays.now) (standings_of stands.now)) }
+    ensures { IfOk result (λ tasks. map task_by tasks.items ≡ marked_tasks (names_of arrays.now) (standings_of stands.now)) }
 {
     let mut tasks = Vec::new(alloc);
     for stand in stands {

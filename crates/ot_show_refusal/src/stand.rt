@@ -2,7 +2,7 @@
 ghost use Rattle.std.specs.Prelude.{◌≡◌, ◌+◌, ◌++◌, ◌<◌, ◌^◌, IfOk, OnOk, option_map};
 ghost use Rattle.ot_model.specs.View.{stmt_of, stmts_of};
 ghost use Rattle.ot_model.specs.Tree.{size, size_one};
-ghost use Rattle.ot_show_refusal.specs.Stands.{found, holder, is_task, stands, within};
+ghost use Rattle.ot_show_refusal.specs.Stands.{standing_found, holder, is_task, stands, standings_within};
 ghost use Rattle.ot_show_refusal.specs.StandView.{standing_of, standings_of};
 
 use ot_model::{Program, Stmt};
@@ -23,7 +23,7 @@ pub(crate) fn stands_in<'a>(
     alloc: Global,
     program: &'a Program,
 ) -> Result<Vec<Stand<'a>>, AllocError>
-    ensures { IfOk result (λ found. standings_of found.items ≡ stands 0 1 (stmts_of program.now.body.items)) }
+    ensures { IfOk result (λ standing_found. standings_of standing_found.items ≡ stands 0 1 (stmts_of program.now.body.items)) }
 {
     let mut found = Vec::new(alloc);
     put_all(0, 1, &program.body, &mut found)?;
@@ -64,7 +64,7 @@ fn put_within<'a>(
 ) -> Result<u32, AllocError>
     requires { place + size_one (stmt_of stmt.now) < 2 ^ 32 }
     ensures next { IfOk result (λ next. next ≡ place + size_one (stmt_of stmt.now)) }
-    ensures found { OnOk result (standings_of found.new.items ≡ standings_of found.old.items ++ within owner place (stmt_of stmt.now)) }
+    ensures found { OnOk result (standings_of found.new.items ≡ standings_of found.old.items ++ standings_within owner place (stmt_of stmt.now)) }
 {
     let inside = place + 1;
     match stmt {
@@ -80,7 +80,7 @@ fn put_within<'a>(
 
 /// The statement with this number.
 pub(crate) fn stand_at<'a>(stands: &[Stand<'a>], place: u32) -> Option<Stand<'a>>
-    ensures { option_map standing_of result ≡ found place (standings_of stands.now) }
+    ensures { option_map standing_of result ≡ standing_found place (standings_of stands.now) }
 {
     for stand in stands {
         if stand.place == place {

@@ -3,7 +3,7 @@ use Rattle.std.proofs.Common.{◌≡◌, ◌≢◌, ℕ, ◌+◌, List, [], ◌�
 use Rattle.std.specs.Prelude.{Option, Result, Ok, Err, OnOk, ⊤}
 use Rattle.std.specs.Io.KnownBytes.{Appends, IsAtEnd}
 use Rattle.std.proofs.KnownBytes.{Appends-nil, Appends-trans}
-use Rattle.ot_lines.specs.Lines.{Flow, next_count, count_after, Hearing, HasNoEnd, opened, IsIdle, ended, Went, Through, Ends, Listens, Stops as StopsAt}
+use Rattle.ot_lines.specs.Lines.{Flow, next_count, count_after, Hearing, HasNoEnd, hearing_opened, IsIdle, lines_ended, Went, Through, Ends, Listens, Stops as StopsAt}
 use Rattle.ot_lines.specs.declared.lines.LineFault.{LineFault}
 use Rattle.ot_lines.specs.declared.lines.LineFault.TheVariants as lines
 use Rattle.ot_lines.specs.declared.listener.Ended.{Ended}
@@ -16,7 +16,7 @@ use Rattle.ot_sim.specs.declared.fault.SimFault.{SimFault}
 use Rattle.ot_sim.specs.declared.fault.SimFault.TheVariants as fault
 use Rattle.ot_sim.specs.Playing.{empty_play}
 use Rattle.ot_sim.specs.Talk.{PlaysAll, Talks, TalksAll, StopsAtLong, TalksBy, TalksOver}
-use Rattle.ot_sim.specs.Running.{untold_fault, untold_writes, sim_bounds, TakesLine, IsRun}
+use Rattle.ot_sim.specs.Running.{untold_fault, untold_writes, sim_bounds, PlaysHeldLine, IsSimRun}
 
 -- ---- what is told
 
@@ -38,7 +38,7 @@ no_write_failed result other = refl
 
 run : {f h : Flow} {start held : Option (List ℕ)} {result : Result ⊤ SimFault} (before later reads left : ℕ) → TalksOver f.ahead h.ahead start held result → reads + left ≡ 1000000 →
     h.reads ≡ count_after reads f.reads → (result ≡ Err fault.TooManyTurns → left ≡ 0) → OnOk result (IsAtEnd h.ahead) → OnOk result (h.ends ≡ next_count f.ends) →
-    h.failures ≡ count_after (read_failures result) f.failures → later ≡ count_after (write_failures result) before → IsRun f h start held before later result
+    h.failures ≡ count_after (read_failures result) f.failures → later ≡ count_after (write_failures result) before → IsSimRun f h start held before later result
 run {f = f} {h = h} {result = result} before later reads left talks sum counted turns at_end end_told failures writes = record {
   talks = talks;
   reads = (reads, omega (arith, sum), counted);
@@ -55,7 +55,7 @@ run {f = f} {h = h} {result = result} before later reads left talks sum counted 
 
 module _ {A : Type 0} (contents : A → Option (List ℕ)) (failures : A → ℕ) where
   abbrev pub Took : Play → A → List ℕ → Play → A → Result ⊤ Untold → Type 0
-  Took old a line new b result = TakesLine old (contents a) (failures a) line new (contents b) (failures b) result
+  Took old a line new b result = PlaysHeldLine old (contents a) (failures a) line new (contents b) (failures b) result
 
   -- lines that were played, and what was written
   record Played (old : Play) (a : A) (lines : List (List ℕ)) (new : Play) (b : A) : Type 0 where
@@ -81,48 +81,48 @@ module _ {A : Type 0} (contents : A → Option (List ℕ)) (failures : A → ℕ
       }
 
   talks : {to : Hearing} {f h : Flow} {new : Play} {a b : A} {rest : List ℕ} {n m : ℕ} (more : List ℕ) →
-      (t : Through Took (opened sim_bounds) f empty_play a to h new b rest n m) → Talks ((ended t.lines ++ rest) ++ more) (rest ++ more) (contents a) (contents b) new
+      (t : Through Took (hearing_opened sim_bounds) f empty_play a to h new b rest n m) → Talks ((lines_ended t.lines ++ rest) ++ more) (rest ++ more) (contents a) (contents b) new
   talks {new = new} {a = a} {b = b} {rest = rest} more t =
       let p = played t.lines empty_play a new b t.went in record {
         lines = t.lines;
-        heard = append_assoc (ended t.lines) rest more;
+        heard = append_assoc (lines_ended t.lines) rest more;
         are = λ k line within. let is = t.are k line within in (is.clean, is.short);
         text = p.text;
         plays = p.plays;
         writes = p.writes;
       }
 
-  worked : {to : Hearing} {f h : Flow} {new : Play} {a b : A} {rest : List ℕ} {n m : ℕ} → (t : Through Took (opened sim_bounds) f empty_play a to h new b rest n m) → failures b ≡ failures a
+  worked : {to : Hearing} {f h : Flow} {new : Play} {a b : A} {rest : List ℕ} {n m : ℕ} → (t : Through Took (hearing_opened sim_bounds) f empty_play a to h new b rest n m) → failures b ≡ failures a
   worked {new = new} {a = a} {b = b} t = (played t.lines empty_play a new b t.went).worked
 
   -- all that was read is lines and a rest
-  talks_all : {to : Hearing} {f h : Flow} {new : Play} {a b : A} {n m : ℕ} (t : Through Took (opened sim_bounds) f empty_play a to h new b to.line n m) → HasNoEnd to.line → IsIdle to →
-      TalksAll ((ended t.lines ++ to.line) ++ to.ahead) (contents a) (contents b)
+  talks_all : {to : Hearing} {f h : Flow} {new : Play} {a b : A} {n m : ℕ} (t : Through Took (hearing_opened sim_bounds) f empty_play a to h new b to.line n m) → HasNoEnd to.line → IsIdle to →
+      TalksAll ((lines_ended t.lines ++ to.line) ++ to.ahead) (contents a) (contents b)
   talks_all {to} {new = new} {a = a} {b = b} t clean idle =
       let top : to.longest ≡ 65600 = t.passes.longest in record {
         rest = to.line;
         is_rest = (clean, omega (arith, idle.short, top));
         play = new;
-        talks = subst (λ rest. Talks ((ended t.lines ++ to.line) ++ to.ahead) rest (contents a) (contents b) new)
+        talks = subst (λ rest. Talks ((lines_ended t.lines ++ to.line) ++ to.ahead) rest (contents a) (contents b) new)
             (ap (λ ahead. to.line ++ ahead) idle.none ∙ append-nil to.line) (talks to.ahead t);
       }
 
-  over : {to : Hearing} {f h : Flow} {new : Play} {a b : A} {rest : List ℕ} {n m : ℕ} (held : Option (List ℕ)) (result : Result ⊤ SimFault) (t : Through Took (opened sim_bounds) f empty_play a to h new b rest n m) →
-      TalksBy ((ended t.lines ++ rest) ++ to.ahead) (contents a) held result → TalksOver f.ahead h.ahead (contents a) held result
+  over : {to : Hearing} {f h : Flow} {new : Play} {a b : A} {rest : List ℕ} {n m : ℕ} (held : Option (List ℕ)) (result : Result ⊤ SimFault) (t : Through Took (hearing_opened sim_bounds) f empty_play a to h new b rest n m) →
+      TalksBy ((lines_ended t.lines ++ rest) ++ to.ahead) (contents a) held result → TalksOver f.ahead h.ahead (contents a) held result
   over {to} {f} {h} {rest = rest} held result t talks = record {
-    bytes = (ended t.lines ++ rest) ++ to.ahead;
-    reads = consumed f.ahead h.ahead to.ahead (ended t.lines ++ rest) t.passes.heard;
+    bytes = (lines_ended t.lines ++ rest) ++ to.ahead;
+    reads = consumed f.ahead h.ahead to.ahead (lines_ended t.lines ++ rest) t.passes.heard;
     talks = talks;
   }
 
   -- ---- by how it was listened to
 
   -- lines that are listened to from the start
-  begun : (from to : Hearing) (f h : Flow) (first new : Play) (a b : A) (told is : Result (Ended Untold) LineFault) → told ≡ is → from ≡ opened sim_bounds → first ≡ empty_play →
-      Listens Took from f first a to h new b told → Listens Took (opened sim_bounds) f empty_play a to h new b is
+  begun : (from to : Hearing) (f h : Flow) (first new : Play) (a b : A) (told is : Result (Ended Untold) LineFault) → told ≡ is → from ≡ hearing_opened sim_bounds → first ≡ empty_play →
+      Listens Took from f first a to h new b told → Listens Took (hearing_opened sim_bounds) f empty_play a to h new b is
   begun from to f h first new a b told is same begins nobody l =
-      subst (λ r. Listens Took (opened sim_bounds) f empty_play a to h new b r) same
-      (subst (λ p. Listens Took (opened sim_bounds) f p a to h new b told) nobody (subst (λ x. Listens Took x f first a to h new b told) begins l))
+      subst (λ r. Listens Took (hearing_opened sim_bounds) f empty_play a to h new b r) same
+      (subst (λ p. Listens Took (hearing_opened sim_bounds) f p a to h new b told) nobody (subst (λ x. Listens Took x f first a to h new b told) begins l))
 
   what_stops : (why : Untold) → (untold_writes (Err why) ≡ write_failures (Err (untold_fault why))) × (read_failures (Err (untold_fault why)) ≡ 0) × (untold_fault why ≢ fault.TooManyTurns)
       × ((bytes : List ℕ) (start held : Option (List ℕ)) → TalksBy bytes start held (Err (untold_fault why)))
@@ -130,33 +130,33 @@ module _ {A : Type 0} (contents : A → Option (List ℕ)) (failures : A → ℕ
   what_stops untold.Memory = (refl, refl, (λ is. cc), (λ bytes start held. tt))
 
   pub by_stop : (from to : Hearing) (f h : Flow) (first new : Play) (a b : A) (field : Ended Untold) (why : Untold) (told : SimFault) →
-      field ≡ ended_as.Stopped why → told ≡ untold_fault why → from ≡ opened sim_bounds → first ≡ empty_play → Listens Took from f first a to h new b (Ok field) →
-      IsRun f h (contents a) (contents b) (failures a) (failures b) (Err told)
+      field ≡ ended_as.Stopped why → told ≡ untold_fault why → from ≡ hearing_opened sim_bounds → first ≡ empty_play → Listens Took from f first a to h new b (Ok field) →
+      IsSimRun f h (contents a) (contents b) (failures a) (failures b) (Err told)
   by_stop from to f h first new a b field why told is fault_is begins nobody l =
-      let s : StopsAt Took (opened sim_bounds) f empty_play a to h new b why = begun from to f h first new a b (Ok field) (Ok (ended_as.Stopped why)) (ap Ok is) begins nobody l in
+      let s : StopsAt Took (hearing_opened sim_bounds) f empty_play a to h new b why = begun from to f h first new a b (Ok field) (Ok (ended_as.Stopped why)) (ap Ok is) begins nobody l in
       let t = s.through in
-      subst (λ e. IsRun f h (contents a) (contents b) (failures a) (failures b) (Err e)) (sym fault_is)
+      subst (λ e. IsSimRun f h (contents a) (contents b) (failures a) (failures b) (Err e)) (sym fault_is)
       (run (failures a) (failures b) t.passes.reads to.left (over (contents b) (Err (untold_fault why)) t ((what_stops why).3 _ (contents a) (contents b))) t.passes.left t.passes.counted
       (λ same. absurd ((what_stops why).2 (cc))) tt tt
       (t.passes.failed ∙ ap (λ n. count_after n f.failures) (sym (what_stops why).1))
       (s.last.failures ∙ ap (λ n. count_after n (failures s.more)) (what_stops why).0 ∙ ap (count_after (write_failures (Err (untold_fault why)))) (worked t)))
 
   pub by_end : (from to : Hearing) (f h : Flow) (first new : Play) (a b : A) (field : Ended Untold) →
-      field ≡ ended_as.End → from ≡ opened sim_bounds → first ≡ empty_play → Listens Took from f first a to h new b (Ok field) →
-      IsRun f h (contents a) (contents b) (failures a) (failures b) (Ok tt)
+      field ≡ ended_as.End → from ≡ hearing_opened sim_bounds → first ≡ empty_play → Listens Took from f first a to h new b (Ok field) →
+      IsSimRun f h (contents a) (contents b) (failures a) (failures b) (Ok tt)
   by_end from to f h first new a b field is begins nobody l =
-      let s : Ends Took (opened sim_bounds) f empty_play a to h new b (Ok ended_as.End) = begun from to f h first new a b (Ok field) (Ok ended_as.End) (ap Ok is) begins nobody l in
+      let s : Ends Took (hearing_opened sim_bounds) f empty_play a to h new b (Ok ended_as.End) = begun from to f h first new a b (Ok field) (Ok ended_as.End) (ap Ok is) begins nobody l in
       let t = s.through in
       run (failures a) (failures b) t.passes.reads to.left (over (contents b) (Ok tt) t (talks_all t s.clean s.is.0)) t.passes.left t.passes.counted (λ same. absurd (cc)) s.is.1 t.passes.ended t.passes.failed (worked t)
 
   pub by_long : (from to : Hearing) (f h : Flow) (first new : Play) (a b : A) (field : Ended Untold) →
-      field ≡ ended_as.Long → from ≡ opened sim_bounds → first ≡ empty_play → Listens Took from f first a to h new b (Ok field) →
-      IsRun f h (contents a) (contents b) (failures a) (failures b) (Err fault.LongLine)
+      field ≡ ended_as.Long → from ≡ hearing_opened sim_bounds → first ≡ empty_play → Listens Took from f first a to h new b (Ok field) →
+      IsSimRun f h (contents a) (contents b) (failures a) (failures b) (Err fault.LongLine)
   by_long from to f h first new a b field is begins nobody l =
-      let s : Ends Took (opened sim_bounds) f empty_play a to h new b (Ok ended_as.Long) = begun from to f h first new a b (Ok field) (Ok ended_as.Long) (ap Ok is) begins nobody l in
+      let s : Ends Took (hearing_opened sim_bounds) f empty_play a to h new b (Ok ended_as.Long) = begun from to f h first new a b (Ok field) (Ok ended_as.Long) (ap Ok is) begins nobody l in
       let t = s.through in
       let top : to.longest ≡ 65600 = t.passes.longest in
-      let stops : StopsAtLong ((ended t.lines ++ to.line) ++ to.ahead) (contents a) (contents b) = record {
+      let stops : StopsAtLong ((lines_ended t.lines ++ to.line) ++ to.ahead) (contents a) (contents b) = record {
         front = to.line;
         behind = to.ahead;
         no_end = s.clean;
@@ -167,17 +167,17 @@ module _ {A : Type 0} (contents : A → Option (List ℕ)) (failures : A → ℕ
       run (failures a) (failures b) t.passes.reads to.left (over (contents b) (Err fault.LongLine) t stops) t.passes.left t.passes.counted (λ same. absurd (cc)) tt tt t.passes.failed (worked t)
 
   pub by_read_failed : (from to : Hearing) (f h : Flow) (first new : Play) (a b : A) (field : LineFault) →
-      field ≡ lines.ReadFailed → from ≡ opened sim_bounds → first ≡ empty_play → Listens Took from f first a to h new b (Err field) →
-      IsRun f h (contents a) (contents b) (failures a) (failures b) (Err fault.ReadFailed)
+      field ≡ lines.ReadFailed → from ≡ hearing_opened sim_bounds → first ≡ empty_play → Listens Took from f first a to h new b (Err field) →
+      IsSimRun f h (contents a) (contents b) (failures a) (failures b) (Err fault.ReadFailed)
   by_read_failed from to f h first new a b field is begins nobody l =
-      let s : Ends Took (opened sim_bounds) f empty_play a to h new b (Err lines.ReadFailed) = begun from to f h first new a b (Err field) (Err lines.ReadFailed) (ap Err is) begins nobody l in
+      let s : Ends Took (hearing_opened sim_bounds) f empty_play a to h new b (Err lines.ReadFailed) = begun from to f h first new a b (Err field) (Err lines.ReadFailed) (ap Err is) begins nobody l in
       let t = s.through in
       run (failures a) (failures b) t.passes.reads to.left (over (contents b) (Err fault.ReadFailed) t (talks_all t s.clean s.is)) t.passes.left t.passes.counted (λ same. absurd (cc)) tt tt t.passes.failed (worked t)
 
   pub by_turns : (from to : Hearing) (f h : Flow) (first new : Play) (a b : A) (field : LineFault) →
-      field ≡ lines.TooManyReads → from ≡ opened sim_bounds → first ≡ empty_play → Listens Took from f first a to h new b (Err field) →
-      IsRun f h (contents a) (contents b) (failures a) (failures b) (Err fault.TooManyTurns)
+      field ≡ lines.TooManyReads → from ≡ hearing_opened sim_bounds → first ≡ empty_play → Listens Took from f first a to h new b (Err field) →
+      IsSimRun f h (contents a) (contents b) (failures a) (failures b) (Err fault.TooManyTurns)
   by_turns from to f h first new a b field is begins nobody l =
-      let s : Ends Took (opened sim_bounds) f empty_play a to h new b (Err lines.TooManyReads) = begun from to f h first new a b (Err field) (Err lines.TooManyReads) (ap Err is) begins nobody l in
+      let s : Ends Took (hearing_opened sim_bounds) f empty_play a to h new b (Err lines.TooManyReads) = begun from to f h first new a b (Err field) (Err lines.TooManyReads) (ap Err is) begins nobody l in
       let t = s.through in
       run (failures a) (failures b) t.passes.reads to.left (over (contents b) (Err fault.TooManyTurns) t (talks_all t s.clean s.is.0)) t.passes.left t.passes.counted (λ same. s.is.1) tt tt t.passes.failed (worked t)

@@ -8,7 +8,7 @@ use Rattle.std.proofs.lemmas.Str.{IsUtf8-from_ascii}
 use Rattle.std.specs.Str.{IsAscii, IsUtf8}
 use Rattle.std.specs.List.{list_all}
 use Rattle.ot_program.specs.Meanings.{is_digit, is_name, is_name_byte, is_letter}
-use Rattle.ot_sim.specs.Lines.{word, behind}
+use Rattle.ot_sim.specs.Lines.{word_before, behind_space}
 
 below : (b : ℕ) (bs : List ℕ) (j : ℕ) → Nowhere (Passes (is_byte 32) (b ∷ bs)) 0 (suc j) → Nowhere (Passes (is_byte 32) bs) 0 j
 below b bs j none = λ k low high. none (suc k) (omega arith) (omega (arith, high))
@@ -17,23 +17,23 @@ other : (b : ℕ) (bs : List ℕ) (j : ℕ) → Nowhere (Passes (is_byte 32) (b 
 other b bs j none = false_from_ne_true (b == 32) (none 0 (omega arith) (omega arith))
 
 -- before the first space, and behind it
-pub word-front : (bytes : List ℕ) (at : ℕ) → at < length bytes → Nowhere (Passes (is_byte 32) bytes) 0 at → Passes (is_byte 32) bytes at → word bytes ≡ take at bytes
+pub word-front : (bytes : List ℕ) (at : ℕ) → at < length bytes → Nowhere (Passes (is_byte 32) bytes) 0 at → Passes (is_byte 32) bytes at → word_before bytes ≡ take at bytes
 word-front [] at within none is = absurd (omega (arith, within))
 word-front (b ∷ bs) zero within none is = rw is refl
 word-front (b ∷ bs) (suc at) within none is =
     rw (other b bs at none) (ap (λ w. b ∷ w) (word-front bs at (omega (arith, within)) (below b bs at none) is))
 
-pub behind-front : (bytes : List ℕ) (at : ℕ) → at < length bytes → Nowhere (Passes (is_byte 32) bytes) 0 at → Passes (is_byte 32) bytes at → behind bytes ≡ Some (drop 1 (drop at bytes))
+pub behind-front : (bytes : List ℕ) (at : ℕ) → at < length bytes → Nowhere (Passes (is_byte 32) bytes) 0 at → Passes (is_byte 32) bytes at → behind_space bytes ≡ Some (drop 1 (drop at bytes))
 behind-front [] at within none is = absurd (omega (arith, within))
 behind-front (b ∷ bs) zero within none is = rw is refl
 behind-front (b ∷ bs) (suc at) within none is = rw (other b bs at none) (behind-front bs at (omega (arith, within)) (below b bs at none) is)
 
 -- where no space is
-pub word-all : (bytes : List ℕ) → Nowhere (Passes (is_byte 32) bytes) 0 (length bytes) → word bytes ≡ bytes
+pub word-all : (bytes : List ℕ) → Nowhere (Passes (is_byte 32) bytes) 0 (length bytes) → word_before bytes ≡ bytes
 word-all [] none = refl
 word-all (b ∷ bs) none = rw (other b bs (length bs) none) (ap (λ w. b ∷ w) (word-all bs (below b bs (length bs) none)))
 
-pub behind-none : (bytes : List ℕ) → Nowhere (Passes (is_byte 32) bytes) 0 (length bytes) → behind bytes ≡ None
+pub behind-none : (bytes : List ℕ) → Nowhere (Passes (is_byte 32) bytes) 0 (length bytes) → behind_space bytes ≡ None
 behind-none [] none = refl
 behind-none (b ∷ bs) none = rw (other b bs (length bs) none) (behind-none bs (below b bs (length bs) none))
 

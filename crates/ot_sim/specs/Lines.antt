@@ -5,14 +5,14 @@ use Rattle.ot_sim.specs.declared.line.Line.{Line}
 use Rattle.ot_sim.specs.declared.line.Line.TheVariants as line
 
 -- the bytes before the first space
-abbrev pub word : List ℕ → List ℕ
-word [] = []
-word (b ∷ bs) = if b == 32 then [] else b ∷ word bs
+abbrev pub word_before : List ℕ → List ℕ
+word_before [] = []
+word_before (b ∷ bs) = if b == 32 then [] else b ∷ word_before bs
 
 -- the bytes behind the first space, where there is one
-abbrev pub behind : List ℕ → Option (List ℕ)
-behind [] = None
-behind (b ∷ bs) = if b == 32 then Some bs else behind bs
+abbrev pub behind_space : List ℕ → Option (List ℕ)
+behind_space [] = None
+behind_space (b ∷ bs) = if b == 32 then Some bs else behind_space bs
 
 -- what the digits write behind those of n: it is below 2^32
 abbrev pub digits_behind : ℕ → List ℕ → Option ℕ
@@ -69,8 +69,8 @@ abbrev pub tenant_line : List ℕ → Said
 tenant_line rest = if is_name rest then Tenant rest else NoTenant
 
 -- a word and `T`
-abbrev pub tenant_of : (List ℕ → Said) → List ℕ → Said
-tenant_of asks rest = if is_name rest then asks rest else Bad
+abbrev pub tenant_said : (List ℕ → Said) → List ℕ → Said
+tenant_said asks rest = if is_name rest then asks rest else Bad
 
 -- `admit T REQUEST`: the request is all that stands behind the second space
 abbrev pub admit_of : List ℕ → Option (List ℕ) → Said
@@ -78,23 +78,23 @@ admit_of t None = Bad
 admit_of t (Some request) = if is_name t then Admit t request else Bad
 
 abbrev pub admit_line : List ℕ → Said
-admit_line rest = admit_of (word rest) (behind rest)
+admit_line rest = admit_of (word_before rest) (behind_space rest)
 
 -- `start W T PICK`
-abbrev pub start_of : Option ℕ → List ℕ → Option ℕ → Said
-start_of (Some w) t (Some pick) = if is_name t then Start w t pick else Bad
-start_of w t pick = Bad
+abbrev pub start_said : Option ℕ → List ℕ → Option ℕ → Said
+start_said (Some w) t (Some pick) = if is_name t then Start w t pick else Bad
+start_said w t pick = Bad
 
 abbrev pub start_behind : List ℕ → List ℕ → Option (List ℕ) → Said
 start_behind w t None = Bad
-start_behind w t (Some pick) = start_of (worker_of w) t (number_in_word pick)
+start_behind w t (Some pick) = start_said (worker_of w) t (number_in_word pick)
 
 abbrev pub start_words : List ℕ → Option (List ℕ) → Said
 start_words w None = Bad
-start_words w (Some rest) = start_behind w (word rest) (behind rest)
+start_words w (Some rest) = start_behind w (word_before rest) (behind_space rest)
 
 abbrev pub start_line : List ℕ → Said
-start_line rest = start_words (word rest) (behind rest)
+start_line rest = start_words (word_before rest) (behind_space rest)
 
 -- `finish W`
 abbrev pub finish_of : Option ℕ → Said
@@ -113,12 +113,12 @@ abbrev pub by_word : List ℕ → List ℕ → Said
 by_word w rest =
     if bytes_eq w (codes "tenant") then tenant_line rest
     else (if bytes_eq w (codes "admit") then admit_line rest
-    else (if bytes_eq w (codes "open") then tenant_of Open rest
+    else (if bytes_eq w (codes "open") then tenant_said Open rest
     else (if bytes_eq w (codes "start") then start_line rest
     else (if bytes_eq w (codes "finish") then finish_line rest
-    else (if bytes_eq w (codes "reply") then tenant_of Reply rest
-    else (if bytes_eq w (codes "abort") then tenant_of Abort rest
-    else (if bytes_eq w (codes "usage") then tenant_of Usage rest
+    else (if bytes_eq w (codes "reply") then tenant_said Reply rest
+    else (if bytes_eq w (codes "abort") then tenant_said Abort rest
+    else (if bytes_eq w (codes "usage") then tenant_said Usage rest
     else Bad)))))))
 
 abbrev pub by_words : List ℕ → Option (List ℕ) → Said
@@ -127,4 +127,4 @@ by_words w (Some rest) = by_word w rest
 
 -- the bytes of a line, without its LF
 abbrev pub said_in : List ℕ → Said
-said_in bytes = by_words (word bytes) (behind bytes)
+said_in bytes = by_words (word_before bytes) (behind_space bytes)

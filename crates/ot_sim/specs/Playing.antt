@@ -4,7 +4,7 @@ use Rattle.ot_store.specs.Refusals.{usual_limits}
 use Rattle.ot_book.specs.Books.{new_register}
 use Rattle.ot_book.specs.Answers.{Told, text_of as reply_text}
 use Rattle.ot_core.specs.Accounts.{Account, new_account, replies_of}
-use Rattle.ot_hall.specs.Floors.{new_floor, units_of, total_of}
+use Rattle.ot_hall.specs.Floors.{new_floor, tenant_units, total_of}
 use Rattle.ot_core.specs.Scenes.{Scene, Steps}
 use Rattle.ot_core.specs.Draining.{Drains, AllAnswered}
 use Rattle.ot_core.specs.declared.event.Event.{Event}
@@ -40,29 +40,29 @@ answer_text answer.BadLine = codes "badline\n"
 -- The tenants by name, in the order made.
 
 -- the number of a tenant, from 0
-abbrev pub place_of : List (List ℕ) → List ℕ → Option ℕ
-place_of [] name = None
-place_of (n ∷ ns) name = if bytes_eq n name then Some 0 else option_map suc (place_of ns name)
+abbrev pub tenant_place : List (List ℕ) → List ℕ → Option ℕ
+tenant_place [] name = None
+tenant_place (n ∷ ns) name = if bytes_eq n name then Some 0 else option_map suc (tenant_place ns name)
 
 -- no tenant can be made of this name: it is there, or 64 are
 abbrev pub is_barred : List (List ℕ) → List ℕ → Bool
-is_barred names name = nat_le 64 (length names) || is_some (place_of names name)
+is_barred names name = nat_le 64 (length names) || is_some (tenant_place names name)
 
 -- a tenant is made behind the others, or not
-abbrev pub Adds : List (List ℕ) → List ℕ → Bool → List (List ℕ) → Type 0
-Adds old name false new = (is_barred old name ≡ true) × (new ≡ old)
-Adds old name true new = (is_barred old name ≡ false) × (new ≡ old ++ name ∷ [])
+abbrev pub AddsTenant : List (List ℕ) → List ℕ → Bool → List (List ℕ) → Type 0
+AddsTenant old name false new = (is_barred old name ≡ true) × (new ≡ old)
+AddsTenant old name true new = (is_barred old name ≡ false) × (new ≡ old ++ name ∷ [])
 
 -- What a line asks of a world, and what it is answered.
 
 -- the event, where all tenants that it names are there
 abbrev pub event_of : List (List ℕ) → Line → Option Event
-event_of names (line.Admit t request) = option_map (λ k. event.Admit k request) (place_of names t.now)
-event_of names (line.Open t) = option_map event.Open (place_of names t.now)
-event_of names (line.Start w t pick) = option_map (λ k. event.Start w k pick) (place_of names t.now)
+event_of names (line.Admit t request) = option_map (λ k. event.Admit k request) (tenant_place names t.now)
+event_of names (line.Open t) = option_map event.Open (tenant_place names t.now)
+event_of names (line.Start w t pick) = option_map (λ k. event.Start w k pick) (tenant_place names t.now)
 event_of names (line.Finish w) = Some (event.Finish w)
-event_of names (line.Reply t) = option_map event.Reply (place_of names t.now)
-event_of names (line.Abort t) = option_map event.Abort (place_of names t.now)
+event_of names (line.Reply t) = option_map event.Reply (tenant_place names t.now)
+event_of names (line.Abort t) = option_map event.Abort (tenant_place names t.now)
 event_of names other = None
 
 -- what is answered where the event did this and gave no reply
@@ -95,12 +95,12 @@ abbrev pub newcomer : List ℕ → Account
 newcomer name = new_account (new_register name usual_limits [])
 
 -- the world of these tenants where nothing has happened
-abbrev pub opening : List (List ℕ) → Scene
-opening names = record { accounts = map newcomer names; floor = new_floor (length names); hands = replicate 16 None }
+abbrev pub opening_scene : List (List ℕ) → Scene
+opening_scene names = record { accounts = map newcomer names; floor = new_floor (length names); hands = replicate 16 None }
 
 -- the world, which begins now where it hasn't before
 abbrev pub world_of : Play → Scene
-world_of p = unwrap_or p.world (opening p.names)
+world_of p = unwrap_or p.world (opening_scene p.names)
 
 -- ---- `tenant T`
 
@@ -108,8 +108,8 @@ world_of p = unwrap_or p.world (opening p.names)
 abbrev pub is_late : Play → List ℕ → Bool
 is_late p name = is_some p.world || is_barred p.names name
 
-abbrev pub made : Play → List ℕ → Play
-made p name = record { names = p.names ++ name ∷ []; world = None }
+abbrev pub tenant_made : Play → List ℕ → Play
+tenant_made p name = record { names = p.names ++ name ∷ []; world = None }
 
 -- ---- replies
 
@@ -127,8 +127,8 @@ reply_lines name [] = []
 reply_lines name (r ∷ rs) = (name ++ codes " " ++ reply_text r.0 r.1 ++ codes "\n") ++ reply_lines name rs
 
 -- the reply that the tenant was given last
-abbrev pub last_reply : List ℕ → ℕ → Scene → List ℕ
-last_reply name t s = reply_lines name (drop (count_at s t - 1) (replies_at s t))
+abbrev pub reply_given : List ℕ → ℕ → Scene → List ℕ
+reply_given name t s = reply_lines name (drop (count_at s t - 1) (replies_at s t))
 
 -- the replies that the tenants were given since, one tenant after another; the first tenant has this number
 abbrev pub news : List (List ℕ) → ℕ → Scene → Scene → List ℕ
@@ -139,7 +139,7 @@ news (name ∷ names) t old new = reply_lines name (drop (count_at old t) (repli
 
 -- what is told, as text
 abbrev pub said_text : Saying → Scene → List ℕ
-said_text (saying.Reply name t) s = last_reply name.now t s
+said_text (saying.Reply name t) s = reply_given name.now t s
 said_text (saying.Answer a) s = answer_text a
 
 -- an event, where the line asks for one
@@ -148,14 +148,14 @@ Happens line None old text new = (text ≡ answer_text answer.BadLine) × (new �
 Happens line (Some e) old text new = (stepped : Stepped) × Steps old e stepped new × (text ≡ said_text (saying_of line e stepped) new)
 
 abbrev pub usage_text : Line → Option ℕ → Scene → List ℕ
-usage_text (line.Usage name) (Some t) s = answer_text (answer.Usage name (units_of s.floor t) (total_of s.floor))
+usage_text (line.Usage name) (Some t) s = answer_text (answer.Usage name (tenant_units s.floor t) (total_of s.floor))
 usage_text line t s = answer_text answer.BadLine
 
 -- a line over a world
 abbrev pub PlaysIn : List (List ℕ) → Line → Scene → List ℕ → Scene → Type 0
 PlaysIn names line.Drain old text new =
     Drains old new × AllAnswered new × (text ≡ news names 0 old new ++ answer_text answer.Drained)
-PlaysIn names (line.Usage name) old text new = (text ≡ usage_text (line.Usage name) (place_of names name.now) old) × (new ≡ old)
+PlaysIn names (line.Usage name) old text new = (text ≡ usage_text (line.Usage name) (tenant_place names name.now) old) × (new ≡ old)
 PlaysIn names line old text new = Happens line (event_of names line) old text new
 
 -- the world has begun, and the line went over it
@@ -167,7 +167,7 @@ pub record PlaysOn (old : Play) (line : Line) (text : List ℕ) (new : Play) : T
 abbrev pub Plays : Play → Line → List ℕ → Play → Type 0
 Plays old (line.Tenant name) text new =
     (text ≡ (if is_late old name.now then answer_text answer.BadLine else answer_text (answer.Tenant name)))
-    × (new ≡ (if is_late old name.now then old else made old name.now))
+    × (new ≡ (if is_late old name.now then old else tenant_made old name.now))
 Plays old line.NoTenant text new = (text ≡ answer_text answer.BadLine) × (new ≡ old)
 Plays old line text new = PlaysOn old line text new
 

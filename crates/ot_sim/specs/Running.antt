@@ -27,8 +27,8 @@ abbrev pub WritesText : Option (List ℕ) → Option (List ℕ) → (List ℕ �
 WritesText old new Holds = (text : List ℕ) × Holds text × Appends old new text
 
 -- the world has begun
-abbrev pub begun : Play → Play
-begun p = record { names = p.names; world = Some (world_of p) }
+abbrev pub world_begun : Play → Play
+world_begun p = record { names = p.names; world = Some (world_of p) }
 
 -- how many replies the first so many tenants were given
 abbrev pub counts_at : Scene → ℕ → List ℕ
@@ -42,12 +42,12 @@ abbrev pub sim_bounds : Bounds
 sim_bounds = record { line = 65600; read = 65536; reads = 1000000 }
 
 -- a line without its LF, by what it came to
-pub record TakesLine (old : Play) (held : Option (List ℕ)) (before : ℕ) (line : List ℕ) (new : Play) (now : Option (List ℕ)) (later : ℕ) (result : Result ⊤ Untold) : Type 0 where
+pub record PlaysHeldLine (old : Play) (held : Option (List ℕ)) (before : ℕ) (line : List ℕ) (new : Play) (now : Option (List ℕ)) (later : ℕ) (result : Result ⊤ Untold) : Type 0 where
   pub plays : OnOk result (WritesText held now (λ text. PlaysLine old line text new))
   pub failures : later ≡ count_after (untold_writes result) before
 
 -- A run over what a source tells before it and after it, and the failures of its sink.
-pub record IsRun (before after : Flow) (start held : Option (List ℕ)) (failures later : ℕ) (result : Result ⊤ SimFault) : Type 0 where
+pub record IsSimRun (before after : Flow) (start held : Option (List ℕ)) (failures later : ℕ) (result : Result ⊤ SimFault) : Type 0 where
   pub talks : TalksOver before.ahead after.ahead start held result
   pub reads : (k : ℕ) × (k ≤ 1000000) × (after.reads ≡ count_after k before.reads)
   pub turns : result ≡ Err fault.TooManyTurns → after.reads ≡ count_after 1000000 before.reads

@@ -1,19 +1,19 @@
 -- A whole run of sim: what it hears, and what it writes.
 use Rattle.std.specs.Prelude.{◌≡◌, [], ◌<◌, ◌≤◌, ℕ, List, ◌∷◌, ◌++◌, length, All, Option, Result, Err, ⊤}
 use Rattle.std.specs.Io.KnownBytes.{Appends, Consumes}
-use Rattle.ot_lines.specs.Lines.{HasNoEnd, ended}
+use Rattle.ot_lines.specs.Lines.{HasNoEnd, lines_ended}
 use Rattle.ot_sim.specs.declared.play.Play.{Play}
 use Rattle.ot_sim.specs.declared.fault.SimFault.{SimFault}
 use Rattle.ot_sim.specs.declared.fault.SimFault.TheVariants.{WriteFailed, Memory, LongLine}
 use Rattle.ot_sim.specs.Playing.{PlaysLine, empty_play}
 
 -- bytes of a line, without its LF
-abbrev pub max_line : ℕ
-max_line = 65600
+abbrev pub max_sim_line : ℕ
+max_sim_line = 65600
 
 -- a line, or the beginning of one
-abbrev pub IsLine : List ℕ → Type 0
-IsLine line = HasNoEnd line × (length line ≤ max_line)
+abbrev pub IsSimLine : List ℕ → Type 0
+IsSimLine line = HasNoEnd line × (length line ≤ max_sim_line)
 
 -- one line after another
 abbrev pub PlaysAll : Play → List (List ℕ) → List ℕ → Play → Type 0
@@ -24,8 +24,8 @@ PlaysAll old (line ∷ lines) text new =
 -- These bytes were heard: the lines in them, of which each is answered whole, and what stands behind the last LF.
 pub record Talks (bytes rest : List ℕ) (start held : Option (List ℕ)) (play : Play) : Type 0 where
   pub lines : List (List ℕ)
-  pub heard : bytes ≡ ended lines ++ rest
-  pub are : All IsLine lines
+  pub heard : bytes ≡ lines_ended lines ++ rest
+  pub are : All IsSimLine lines
   pub text : List ℕ
   pub plays : PlaysAll empty_play lines text play
   pub writes : Appends start held text
@@ -33,7 +33,7 @@ pub record Talks (bytes rest : List ℕ) (start held : Option (List ℕ)) (play 
 -- all lines are answered, and the rest is none
 pub record TalksAll (bytes : List ℕ) (start held : Option (List ℕ)) : Type 0 where
   pub rest : List ℕ
-  pub is_rest : IsLine rest
+  pub is_rest : IsSimLine rest
   pub play : Play
   pub talks : Talks bytes rest start held play
 
@@ -42,7 +42,7 @@ pub record StopsAtLong (bytes : List ℕ) (start held : Option (List ℕ)) : Typ
   pub front : List ℕ
   pub behind : List ℕ
   pub no_end : HasNoEnd front
-  pub long : max_line < length front
+  pub long : max_sim_line < length front
   pub play : Play
   pub talks : Talks bytes (front ++ behind) start held play
 

@@ -1,6 +1,6 @@
 //! What a line asks.
 ghost use Rattle.std.specs.Prelude.{◌≡◌, Some};
-ghost use Rattle.ot_sim.specs.Lines.{said_of, said_in, by_word, lone_word, tenant_line, admit_line, tenant_of, start_line, finish_line};
+ghost use Rattle.ot_sim.specs.Lines.{said_of, said_in, by_word, lone_word, tenant_line, admit_line, tenant_said, start_line, finish_line};
 ghost use Rattle.ot_sim.specs.Lines as of;
 
 use crate::word::{name, number, split, worker};
@@ -100,7 +100,7 @@ fn admit_line(rest: &[u8]) -> Line<'_>
 }
 
 fn open_line(rest: &[u8]) -> Line<'_>
-    ensures { said_of result ≡ tenant_of of.Open rest.now }
+    ensures { said_of result ≡ tenant_said of.Open rest.now }
 {
     match name(rest) {
         Some(tenant) => Line::Open(tenant),
@@ -133,7 +133,7 @@ fn finish_line<'a>(rest: &[u8]) -> Line<'a>
 }
 
 fn reply_line(rest: &[u8]) -> Line<'_>
-    ensures { said_of result ≡ tenant_of of.Reply rest.now }
+    ensures { said_of result ≡ tenant_said of.Reply rest.now }
 {
     match name(rest) {
         Some(tenant) => Line::Reply(tenant),
@@ -142,7 +142,7 @@ fn reply_line(rest: &[u8]) -> Line<'_>
 }
 
 fn abort_line(rest: &[u8]) -> Line<'_>
-    ensures { said_of result ≡ tenant_of of.Abort rest.now }
+    ensures { said_of result ≡ tenant_said of.Abort rest.now }
 {
     match name(rest) {
         Some(tenant) => Line::Abort(tenant),
@@ -151,7 +151,7 @@ fn abort_line(rest: &[u8]) -> Line<'_>
 }
 
 fn usage_line(rest: &[u8]) -> Line<'_>
-    ensures { said_of result ≡ tenant_of of.Usage rest.now }
+    ensures { said_of result ≡ tenant_said of.Usage rest.now }
 {
     match name(rest) {
         Some(tenant) => Line::Usage(tenant),

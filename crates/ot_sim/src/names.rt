@@ -1,6 +1,6 @@
 //! The tenants by name, in the order made.
 ghost use Rattle.std.specs.Prelude.{◌≡◌, ◌≤◌, map, length, string_bytes, [], IfOk, OnErr, vec_len};
-ghost use Rattle.ot_sim.specs.Playing.{place_of, Adds, opening};
+ghost use Rattle.ot_sim.specs.Playing.{tenant_place, AddsTenant, opening_scene};
 
 use ot_store::{Limits, Store};
 use std::alloc::{AllocError, Global};
@@ -38,14 +38,14 @@ impl Names {
 
     /// The number of a tenant, from 0.
     pub(crate) fn place(&self, name: &str) -> Option<u32>
-        ensures { result ≡ place_of self.now name.now }
+        ensures { result ≡ tenant_place self.now name.now }
     {
         place_in(self.names.as_slice(), name)
     }
 
     /// Adds a tenant, where there is room and it isn't there.
     pub(crate) fn add(&mut self, alloc: Global, name: &str) -> Result<bool, AllocError>
-        ensures added { IfOk result (λ added. Adds self.old name.now added self.new) }
+        ensures added { IfOk result (λ added. AddsTenant self.old name.now added self.new) }
         ensures memory { OnErr result (self.new ≡ self.old) }
     {
         if self.names.len() >= MAX_TENANTS || self.place(name).is_some() {
@@ -74,7 +74,7 @@ impl Names {
     /// Each tenant with the usual limits and no array.
     pub(crate) fn openings(&self, alloc: Global) -> Result<Vec<(String, Limits, Store)>, AllocError>
         ensures few { IfOk result (λ openings. vec_len openings ≤ 64) }
-        ensures are { IfOk result (λ openings. new_scene openings.items ≡ opening self.now) }
+        ensures are { IfOk result (λ openings. new_scene openings.items ≡ opening_scene self.now) }
     {
         let mut openings = Vec::new(alloc);
         for name in &self.names {
@@ -87,7 +87,7 @@ impl Names {
 
 fn place_in(names: &[String], name: &str) -> Option<u32>
     requires { length names.now ≤ 64 }
-    ensures { result ≡ place_of (map string_bytes names.now) name.now }
+    ensures { result ≡ tenant_place (map string_bytes names.now) name.now }
 {
     let mut place = 0;
     let mut rest = names;

@@ -4,8 +4,8 @@ ghost use Rattle.std.specs.Io.KnownBytes.{Appends};
 ghost use Rattle.ot_core.specs.Scenes.{Scene};
 ghost use Rattle.ot_session.specs.Serving.{count_after};
 ghost use Rattle.ot_sim.specs.declared.line.Line.TheVariants as line;
-ghost use Rattle.ot_sim.specs.Playing.{place_of, answer_text, event_of, answer_of, saying_of, PlaysIn, Happens, replies_at, count_at, last_reply, reply_lines, news, usage_text, Plays, PlaysLine, PlaysOn, empty_play};
-ghost use Rattle.ot_sim.specs.Running.{untold_writes, WritesText, counts_at, begun};
+ghost use Rattle.ot_sim.specs.Playing.{tenant_place, answer_text, event_of, answer_of, saying_of, PlaysIn, Happens, replies_at, count_at, reply_given, reply_lines, news, usage_text, Plays, PlaysLine, PlaysOn, empty_play};
+ghost use Rattle.ot_sim.specs.Running.{untold_writes, WritesText, counts_at, world_begun};
 
 use crate::answer::{Answer, write_answer};
 use crate::fault::Untold;
@@ -95,7 +95,7 @@ impl Play {
 
     /// Begins the world, where it hasn't begun.
     fn begin(&mut self, alloc: Global) -> Result<(), AllocError>
-        ensures { OnOk result (self.new ≡ begun self.old) }
+        ensures { OnOk result (self.new ≡ world_begun self.old) }
     {
         if self.world.is_none() {
             let world = World::new(alloc, self.names.openings(alloc)?)?;
@@ -199,7 +199,7 @@ fn tell_last<W: Sink>(
     name: &str,
     sink: &mut W,
 ) -> Result<(), Untold>
-    ensures told { OnOk result (Appends (W.contents sink.old) (W.contents sink.new) (last_reply name.now tenant world.now)) }
+    ensures told { OnOk result (Appends (W.contents sink.old) (W.contents sink.new) (reply_given name.now tenant world.now)) }
     ensures failures { W.failures sink.new ≡ count_after (untold_writes result) (W.failures sink.old) }
 {
     let given = count_given(world, tenant);
@@ -313,7 +313,7 @@ fn usage<W: Sink>(
     name: &str,
     sink: &mut W,
 ) -> Result<(), Untold>
-    ensures told { OnOk result (Appends (W.contents sink.old) (W.contents sink.new) (usage_text (line.Usage name.entry) (place_of names.now name.now) world.now)) }
+    ensures told { OnOk result (Appends (W.contents sink.old) (W.contents sink.new) (usage_text (line.Usage name.entry) (tenant_place names.now name.now) world.now)) }
     ensures failures { W.failures sink.new ≡ count_after (untold_writes result) (W.failures sink.old) }
 {
     let Some(tenant) = names.place(name) else {

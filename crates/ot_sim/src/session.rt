@@ -1,11 +1,11 @@
 //! Sim from bytes to bytes: lines come in, and each is answered before the next is taken.
 ghost use Rattle.std.specs.Prelude.{◌≡◌, ◌≢◌, ◌≤◌, ℕ, Err, OnOk};
 ghost use Rattle.std.specs.Io.KnownBytes.{IsAtEnd};
-ghost use Rattle.ot_lines.specs.Lines.{opened};
+ghost use Rattle.ot_lines.specs.Lines.{hearing_opened};
 ghost use Rattle.ot_session.specs.Serving.{next_count, count_after};
 ghost use Rattle.ot_sim.specs.Playing.{empty_play};
 ghost use Rattle.ot_sim.specs.Talk.{TalksOver};
-ghost use Rattle.ot_sim.specs.Running.{sim_bounds, IsRun, TakesLine};
+ghost use Rattle.ot_sim.specs.Running.{sim_bounds, IsSimRun, PlaysHeldLine};
 ghost use Rattle.ot_sim.specs.declared.fault.SimFault.TheVariants.{ReadFailed, WriteFailed, TooManyTurns};
 
 use crate::fault::{SimFault, Untold};
@@ -59,9 +59,9 @@ fn play_lines<R: Source, W: Sink>(
     source: &mut R,
     sink: &mut W,
 ) -> Result<(), SimFault>
-    requires begun { lines.old ≡ opened sim_bounds }
+    requires begun { lines.old ≡ hearing_opened sim_bounds }
     requires nobody { play.old ≡ empty_play }
-    ensures { IsRun (R.flow source.old)
+    ensures { IsSimRun (R.flow source.old)
         (R.flow source.new)
         (W.contents sink.old) (W.contents sink.new) (W.failures sink.old) (W.failures sink.new) result }
 {
@@ -81,7 +81,7 @@ struct Player {
 }
 
 impl<W: Sink> Listener<Play, W, Untold> for Player {
-    ghost took = { λ old sink line new next result. TakesLine old (W.contents sink) (W.failures sink) line new (W.contents next) (W.failures next) result };
+    ghost took = { λ old sink line new next result. PlaysHeldLine old (W.contents sink) (W.failures sink) line new (W.contents next) (W.failures next) result };
 
     fn take(&mut self, play: &mut Play, sink: &mut W, line: &[u8]) -> Result<(), Untold> {
         play.take(self.alloc, line, sink)

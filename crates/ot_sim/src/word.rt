@@ -1,15 +1,15 @@
 //! Words of a line: what stands between two spaces.
 ghost use Rattle.std.specs.Prelude.{◌≡◌, Some, None, option_map, if◌then◌else◌};
 ghost use Rattle.ot_program.specs.Meanings.{is_name, is_digit};
-ghost use Rattle.ot_sim.specs.Lines.{word, behind, digits_behind, number_in_word, worker_of};
+ghost use Rattle.ot_sim.specs.Lines.{word_before, behind_space, digits_behind, number_in_word, worker_of};
 
 use memchr::memchr;
 use ot_program::is_name;
 
 /// The bytes before the first space, and those behind it where there is one.
 pub(crate) fn split(line: &[u8]) -> (&[u8], Option<&[u8]>)
-    ensures word { result.0.now ≡ word line.now }
-    ensures behind { option_map (λ rest. rest.now) result.1 ≡ behind line.now }
+    ensures word { result.0.now ≡ word_before line.now }
+    ensures behind { option_map (λ rest. rest.now) result.1 ≡ behind_space line.now }
 {
     match memchr(b' ', line) {
         Some(at) => {

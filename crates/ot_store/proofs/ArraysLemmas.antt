@@ -15,7 +15,7 @@ use Rattle.std.proofs.lemmas.Slice.Zip.{firsts-zip, seconds-zip}
 use Rattle.ot_model.specs.Cells.{lengths}
 use Rattle.ot_model.specs.Programs.{AreShort, array_lengths}
 use Rattle.ot_store.specs.declared.limits.Limits.{Limits}
-use Rattle.ot_store.specs.Arrays.{Named, names_in, cells_in, cell_count, others, listed, shape_in, recelled, AreSound}
+use Rattle.ot_store.specs.Arrays.{Named, names_in, cells_in, cell_count, others, arrays_listed, shape_in, with_cells, AreSound}
 
 -- ---- the arrays with other names
 
@@ -154,22 +154,22 @@ cells-fit arrays cells same = lengths-same-length cells (cells_in arrays) same �
 names-fit : (arrays : List Named) (cells : List (List ℕ)) → lengths cells ≡ lengths (cells_in arrays) → length cells ≡ length (names_in arrays)
 names-fit arrays cells same = cells-fit arrays cells same ∙ sym (length-map arrays (λ (a : Named). a.0))
 
-pub names_in-recelled : (arrays : List Named) (cells : List (List ℕ)) → lengths cells ≡ lengths (cells_in arrays) → names_in (recelled arrays cells) ≡ names_in arrays
+pub names_in-recelled : (arrays : List Named) (cells : List (List ℕ)) → lengths cells ≡ lengths (cells_in arrays) → names_in (with_cells arrays cells) ≡ names_in arrays
 names_in-recelled arrays cells same = firsts-zip (names_in arrays) cells (names-fit arrays cells same)
 
-pub cells_in-recelled : (arrays : List Named) (cells : List (List ℕ)) → lengths cells ≡ lengths (cells_in arrays) → cells_in (recelled arrays cells) ≡ cells
+pub cells_in-recelled : (arrays : List Named) (cells : List (List ℕ)) → lengths cells ≡ lengths (cells_in arrays) → cells_in (with_cells arrays cells) ≡ cells
 cells_in-recelled arrays cells same = seconds-zip (names_in arrays) cells (names-fit arrays cells same)
 
-pub AreSound-recelled : (arrays : List Named) (cells : List (List ℕ)) → lengths cells ≡ lengths (cells_in arrays) → AreSound arrays → AreSound (recelled arrays cells)
+pub AreSound-recelled : (arrays : List Named) (cells : List (List ℕ)) → lengths cells ≡ lengths (cells_in arrays) → AreSound arrays → AreSound (with_cells arrays cells)
 AreSound-recelled arrays cells same =
-    AreSound-same arrays (recelled arrays cells) (names_in-recelled arrays cells same) (ap lengths (cells_in-recelled arrays cells same) ∙ same)
+    AreSound-same arrays (with_cells arrays cells) (names_in-recelled arrays cells same) (ap lengths (cells_in-recelled arrays cells same) ∙ same)
 
 -- ---- the shape
 
-pub AreShort-listed : (arrays : List Named) → AreSound arrays → AreShort (listed arrays)
+pub AreShort-listed : (arrays : List Named) → AreSound arrays → AreShort (arrays_listed arrays)
 AreShort-listed arrays h =
     let shown : Named → List ℕ × ℕ = λ a. (a.0, length a.1) in
-    let count : length (listed arrays) ≡ length arrays = length-map arrays shown in record {
+    let count : length (arrays_listed arrays) ≡ length arrays = length-map arrays shown in record {
       few = omega (arith, count, count-≤-cell_count arrays h.filled, h.few);
       short = All-map (λ a. a.1 < 2 ^ 32) shown arrays (λ k d below. omega (arith, length-≤-cell_count arrays k d below, h.few));
     }

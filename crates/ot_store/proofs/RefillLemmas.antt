@@ -4,7 +4,7 @@ use Rattle.std.specs.List.{zip}
 use Rattle.std.specs.Prelude.{sum}
 use Rattle.indexmap.specs.IndexMap.{set_value_at}
 use Rattle.ot_model.specs.Cells.{lengths}
-use Rattle.ot_store.specs.Arrays.{Named, names_in, cells_in, recelled, named_of, AreCounted}
+use Rattle.ot_store.specs.Arrays.{Named, names_in, cells_in, with_cells, named_of, AreCounted}
 use Rattle.ot_store.proofs.ArraysLemmas.{cells-fit, cells_in-recelled, AreSound-recelled}
 use Rattle.ot_store.proofs.HeldLemmas.{Entry}
 
@@ -29,7 +29,7 @@ refilled-zip (a ∷ arrays) (list ∷ lists) same =
     ∙ refilled-behind (a.0, list) arrays 0 lists
     ∙ ap (λ rest. (a.0, list) ∷ rest) (refilled-zip arrays lists (omega (arith, same)))
 
-pub refilled-recelled : (arrays : List Named) (cells : List (List ℕ)) → lengths cells ≡ lengths (cells_in arrays) → refilled arrays 0 cells ≡ recelled arrays cells
+pub refilled-recelled : (arrays : List Named) (cells : List (List ℕ)) → lengths cells ≡ lengths (cells_in arrays) → refilled arrays 0 cells ≡ with_cells arrays cells
 refilled-recelled arrays cells same = refilled-zip arrays cells (cells-fit arrays cells same)
 
 pub set_value_at-named : (entries : List Entry) (k : ℕ) (v : Vec ℕ Global) → named_of (set_value_at entries k v) ≡ set_value_at (named_of entries) k v.items
@@ -42,7 +42,7 @@ none-left [] none = refl
 none-left (x ∷ xs) none = absurd (omega (arith, none))
 
 pub AreCounted-recelled : (arrays : List Named) (cells : List (List ℕ)) (count : ℕ) → lengths cells ≡ lengths (cells_in arrays) → AreCounted arrays count →
-    AreCounted (recelled arrays cells) count
+    AreCounted (with_cells arrays cells) count
 AreCounted-recelled arrays cells count same h = record {
   sound = AreSound-recelled arrays cells same h.sound;
   counted = h.counted ∙ sym (ap sum (ap lengths (cells_in-recelled arrays cells same) ∙ same));

@@ -34,8 +34,8 @@ abbrev pub cells_called : List ℕ → List Named → Option (List ℕ)
 cells_called name arrays = lookup (bytes_eq name) arrays
 
 -- with one more array, whose cells are 0
-abbrev pub created : List ℕ → ℕ → Limits → List Named → Result (List Named) StoreRefusal
-created name len limits arrays =
+abbrev pub array_created : List ℕ → ℕ → Limits → List Named → Result (List Named) StoreRefusal
+array_created name len limits arrays =
     if is_some (cells_called name arrays) then Err NameTaken
     else (if nat_le limits.arrays (length arrays) then Err TooManyArrays
     else (if nat_lt limits.cells (cell_count arrays + len) then Err TooManyCells
@@ -46,8 +46,8 @@ abbrev pub others : List ℕ → List Named → List Named
 others name arrays = filter (λ a. not (bytes_eq name a.0)) arrays
 
 -- without the array with this name
-abbrev pub freed : List ℕ → List Named → Result (List Named) StoreRefusal
-freed name arrays = if is_some (cells_called name arrays) then Ok (others name arrays) else Err UnknownArray
+abbrev pub array_freed : List ℕ → List Named → Result (List Named) StoreRefusal
+array_freed name arrays = if is_some (cells_called name arrays) then Ok (others name arrays) else Err UnknownArray
 
 -- what f gives of an array's cells, where the array is there and has `count` cells from `start` on
 abbrev pub within : {A : Type 0} → Option (List ℕ) → ℕ → ℕ → (List ℕ → A) → Result A StoreRefusal
@@ -59,8 +59,8 @@ abbrev pub overwritten : List ℕ → ℕ → List ℕ → List ℕ
 overwritten cells start numbers = take start cells ++ (numbers ++ drop (start + length numbers) cells)
 
 -- with these numbers in the array from `start` on
-abbrev pub put : List ℕ → ℕ → List ℕ → List Named → Result (List Named) StoreRefusal
-put name start numbers arrays =
+abbrev pub numbers_put : List ℕ → ℕ → List ℕ → List Named → Result (List Named) StoreRefusal
+numbers_put name start numbers arrays =
     within (cells_called name arrays) start (length numbers)
     (λ cells. set_value (bytes_eq name) arrays (overwritten cells start numbers))
 
@@ -69,16 +69,16 @@ abbrev pub got : List ℕ → ℕ → ℕ → List Named → Result (List ℕ) S
 got name start len arrays = within (cells_called name arrays) start len (λ cells. slice_range cells start (start + len))
 
 -- names and lengths
-abbrev pub listed : List Named → List (List ℕ × ℕ)
-listed arrays = map (λ a. (a.0, length a.1)) arrays
+abbrev pub arrays_listed : List Named → List (List ℕ × ℕ)
+arrays_listed arrays = map (λ a. (a.0, length a.1)) arrays
 
 -- what programs may name
 abbrev pub shape_in : Limits → List Named → Arrays
-shape_in limits arrays = record { arrays = listed arrays; tasks = limits.tasks }
+shape_in limits arrays = record { arrays = arrays_listed arrays; tasks = limits.tasks }
 
 -- each name beside other cells
-abbrev pub recelled : List Named → List (List ℕ) → List Named
-recelled arrays cells = zip (names_in arrays) cells
+abbrev pub with_cells : List Named → List (List ℕ) → List Named
+with_cells arrays cells = zip (names_in arrays) cells
 
 -- The arrays that the code's map stands for, and what its type keeps.
 

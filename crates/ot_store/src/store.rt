@@ -1,5 +1,5 @@
 ghost use Rattle.std.specs.Prelude.{◌≡◌, ◌+◌, ◌≤◌, length, vec_len, ◌<◌, [], IfOk, IfErr, OnOk, OnErr, Ok, Err};
-ghost use Rattle.ot_store.specs.Arrays.{overwritten, created, freed, put, got, listed, shape_in, cells_in, recelled, AreSound};
+ghost use Rattle.ot_store.specs.Arrays.{overwritten, array_created, array_freed, numbers_put, got, arrays_listed, shape_in, cells_in, with_cells, AreSound};
 
 use crate::fault::{StoreFault, StoreRefusal};
 use crate::limits::Limits;
@@ -55,8 +55,8 @@ impl Store {
         limits: &Limits,
     ) -> Result<(), StoreFault>
         requires { 0 < len }
-        ensures ok { OnOk result (created name.now len limits.now self.old ≡ Ok self.new) }
-        ensures refused { IfErr result (λ fault. Fails fault (created name.now len limits.now self.old)) }
+        ensures ok { OnOk result (array_created name.now len limits.now self.old ≡ Ok self.new) }
+        ensures refused { IfErr result (λ fault. Fails fault (array_created name.now len limits.now self.old)) }
         ensures kept { OnErr result (self.new ≡ self.old) }
     {
         if self.arrays.contains_key(name) {
@@ -78,8 +78,8 @@ impl Store {
     /// Takes the array away. The others keep their order. It takes no memory, and one step for each
     /// later array. Refusal: unknown array.
     pub fn free(&mut self, name: &str) -> Result<(), StoreRefusal>
-        ensures ok { OnOk result (freed name.now self.old ≡ Ok self.new) }
-        ensures refused { IfErr result (λ refusal. freed name.now self.old ≡ Err refusal) }
+        ensures ok { OnOk result (array_freed name.now self.old ≡ Ok self.new) }
+        ensures refused { IfErr result (λ refusal. array_freed name.now self.old ≡ Err refusal) }
         ensures kept { OnErr result (self.new ≡ self.old) }
     {
         let Some(cells) = self.arrays.shift_remove(name) else {
@@ -92,8 +92,8 @@ impl Store {
     /// Writes the numbers to the array's cells from `start` on, which counts from 0. It takes no
     /// memory. Refusals in this order: unknown array, out of range.
     pub fn put(&mut self, name: &str, start: u32, numbers: &[u64]) -> Result<(), StoreRefusal>
-        ensures ok { OnOk result (put name.now start numbers.now self.old ≡ Ok self.new) }
-        ensures refused { IfErr result (λ refusal. put name.now start numbers.now self.old ≡ Err refusal) }
+        ensures ok { OnOk result (numbers_put name.now start numbers.now self.old ≡ Ok self.new) }
+        ensures refused { IfErr result (λ refusal. numbers_put name.now start numbers.now self.old ≡ Err refusal) }
         ensures kept { OnErr result (self.new ≡ self.old) }
     {
         let Some(cells) = self.arrays.get_mut(name) else {
@@ -133,7 +133,7 @@ impl Store {
 
     /// Names and lengths in order of creation.
     pub fn list(&self, alloc: Global) -> Result<Vec<ArrayShape>, AllocError>
-        ensures listed { IfOk result (λ arrays. arrays_of arrays.items ≡ listed self.now) }
+        ensures listed { IfOk result (λ arrays. arrays_of arrays.items ≡ arrays_listed self.now) }
         ensures sound { AreSound self.now }
     {
         let mut arrays = Vec::with_capacity(alloc, self.arrays.len())?;
@@ -169,7 +169,7 @@ impl Store {
     /// memory.
     pub fn set_cells(&mut self, cells: Cells)
         requires { lengths cells ≡ lengths (cells_in self.old) }
-        ensures { self.new ≡ recelled self.old cells }
+        ensures { self.new ≡ with_cells self.old cells }
     {
         for (place, list) in cells.into_arrays().into_iter().enumerate() {
             self.arrays[place] = list;

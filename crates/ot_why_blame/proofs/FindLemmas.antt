@@ -13,7 +13,7 @@ use Rattle.ot_check.specs.declared.fault.Offence.{Offence}
 use Rattle.ot_check.specs.declared.fault.Offence.TheVariants.{ConflictsWithChild, EndsWithChildren}
 use Rattle.ot_check.proofs.Cited.{or_true, true_or, or_right, or_false, and_left, and_right, any-map, Meets, MeetsInside, meets-on_path, meets-in_tasks}
 use Rattle.ot_why_blame.specs.Races.{uses_of}
-use Rattle.ot_why_blame.specs.Walk.{Pending, only, carried, carried_one, met, met_one, met_inside, inside_of, IsSpared}
+use Rattle.ot_why_blame.specs.Walk.{Pending, only, pending_carried, carried_one, met_statement, met_one, met_inside, inside_of, IsSpared}
 use Rattle.ot_why_blame.proofs.FollowLemmas.{here-is, here-not, met-here, met-past, met-first}
 
 -- ---- places
@@ -53,7 +53,7 @@ mutual
   stays-one task p k (Set c e) out = inr refl
   stays-one task p k (Fold o c e) out = inr refl
   stays-one task p k (If e a b) out =
-      stays_or p (carried task p (k + 1) a) (carried task p (k + 1 + size a) b)
+      stays_or p (pending_carried task p (k + 1) a) (pending_carried task p (k + 1 + size a) b)
       (stays-all task p (k + 1) a (elim out [ inl low ↦ inl (omega (arith, low)) | inr high ↦ inr (omega (arith, high)) ]))
       (stays-all task p (k + 1 + size a) b (elim out [ inl low ↦ inl (omega (arith, low)) | inr high ↦ inr (omega (arith, high)) ]))
   stays-one task p k (Task d b) out =
@@ -62,15 +62,15 @@ mutual
   stays-one task p k (Wait w) out = stays_only (λ d. not (awaits w d)) p
   stays-one task p k (Group o cs b) out = stays_only (λ d. through d b) p
 
-  stays-all : (task : ℕ) (p : Pending) (k : ℕ) (b : Body) → (task < k) ⊎ (k + size b ≤ task) → Stays p (carried task p k b)
+  stays-all : (task : ℕ) (p : Pending) (k : ℕ) (b : Body) → (task < k) ⊎ (k + size b ≤ task) → Stays p (pending_carried task p k b)
   stays-all task p k End out = inr refl
   stays-all task p k (Next x rest) out =
-      stays_on p (carried_one task p k x) (carried task (carried_one task p k x) (k + size_one x) rest)
+      stays_on p (carried_one task p k x) (pending_carried task (carried_one task p k x) (k + size_one x) rest)
       (stays-one task p k x (elim out [ inl low ↦ inl low | inr high ↦ inr (omega (arith, high)) ]))
       (stays-all task (carried_one task p k x) (k + size_one x) rest (elim out [ inl low ↦ inl (omega (arith, low)) | inr high ↦ inr (omega (arith, high)) ]))
 
 -- one that stands elsewhere isn't carried
-pub carried_none : (task k : ℕ) (b : Body) → (task < k) ⊎ (k + size b ≤ task) → carried task None k b ≡ None
+pub carried_none : (task k : ℕ) (b : Body) → (task < k) ⊎ (k + size b ≤ task) → pending_carried task None k b ≡ None
 carried_none task k b out = elim (stays-all task None k b out) [ inl none ↦ none | inr none ↦ none ]
 
 either_stays : (child : ℕ × List Use) (one two : Bool) →
@@ -81,8 +81,8 @@ either_stays child false true = refl
 either_stays child false false = refl
 
 after_test : (t : Bool) (task : ℕ) (child : ℕ × List Use) (k : ℕ) (rest : Body) → task < k
-    → carried task (Some child) k rest ≡ (if through child.1 rest then Some child else None)
-    → carried task (if t then Some child else None) k rest ≡ (if t && through child.1 rest then Some child else None)
+    → pending_carried task (Some child) k rest ≡ (if through child.1 rest then Some child else None)
+    → pending_carried task (if t then Some child else None) k rest ≡ (if t && through child.1 rest then Some child else None)
 after_test true task child k rest below so = so
 after_test false task child k rest below so = carried_none task k rest (inl below)
 
@@ -92,7 +92,7 @@ mutual
   after-one task child k (Set c e) below = refl
   after-one task child k (Fold o c e) below = refl
   after-one task child k (If e a b) below =
-      ap (λ p. option_or p (carried task (Some child) (k + 1) a)) (after-all task child (k + 1 + size a) b (omega (arith, below)))
+      ap (λ p. option_or p (pending_carried task (Some child) (k + 1) a)) (after-all task child (k + 1 + size a) b (omega (arith, below)))
       ∙ ap (λ p. option_or (if through child.1 b then Some child else None) p) (after-all task child (k + 1) a (omega (arith, below)))
       ∙ either_stays child (through child.1 a) (through child.1 b)
   after-one task child k (Task d b) below =
@@ -101,13 +101,13 @@ mutual
   after-one task child k (Wait w) below = refl
   after-one task child k (Group o cs b) below = refl
 
-  after-all : (task : ℕ) (child : ℕ × List Use) (k : ℕ) (b : Body) → task < k → carried task (Some child) k b ≡ (if through child.1 b then Some child else None)
+  after-all : (task : ℕ) (child : ℕ × List Use) (k : ℕ) (b : Body) → task < k → pending_carried task (Some child) k b ≡ (if through child.1 b then Some child else None)
   after-all task child k End below = refl
   after-all task child k (Next x rest) below =
-      ap (λ p. carried task p (k + size_one x) rest) (after-one task child k x below)
+      ap (λ p. pending_carried task p (k + size_one x) rest) (after-one task child k x below)
       ∙ after_test (through_one child.1 x) task child (k + size_one x) rest (omega (arith, below)) (after-all task child (k + size_one x) rest (omega (arith, below)))
 
-pub carried_after : (task : ℕ) (p : Pending) (k : ℕ) (b : Body) → task < k → carried task p k b ≡ only (λ d. through d b) p
+pub carried_after : (task : ℕ) (p : Pending) (k : ℕ) (b : Body) → task < k → pending_carried task p k b ≡ only (λ d. through d b) p
 carried_after task None k b below = carried_none task k b (inl below)
 carried_after task (Some child) k b below = after-all task child k b below
 
@@ -117,19 +117,19 @@ mutual
   none_inside place task p k (Set c e) out = refl
   none_inside place task p k (Fold o c e) out = refl
   none_inside place task p k (If e a b) out =
-      ap (λ o. option_or o (met place task p (k + 1 + size a) b)) (none_met place task p (k + 1) a (elim out [ inl low ↦ inl (omega (arith, low)) | inr high ↦ inr (omega (arith, high)) ]))
+      ap (λ o. option_or o (met_statement place task p (k + 1 + size a) b)) (none_met place task p (k + 1) a (elim out [ inl low ↦ inl (omega (arith, low)) | inr high ↦ inr (omega (arith, high)) ]))
       ∙ none_met place task p (k + 1 + size a) b (elim out [ inl low ↦ inl (omega (arith, low)) | inr high ↦ inr (omega (arith, high)) ])
   none_inside place task p k (Task d b) out = none_met place task None (k + 1) b (elim out [ inl low ↦ inl (omega (arith, low)) | inr high ↦ inr (omega (arith, high)) ])
   none_inside place task p k (Wait w) out = refl
   none_inside place task p k (Group o cs b) out = none_met place task p (k + 1) b (elim out [ inl low ↦ inl (omega (arith, low)) | inr high ↦ inr (omega (arith, high)) ])
 
-  pub none_met : (place task : ℕ) (p : Pending) (k : ℕ) (b : Body) → (place < k) ⊎ (k + size b ≤ place) → met place task p k b ≡ None
+  pub none_met : (place task : ℕ) (p : Pending) (k : ℕ) (b : Body) → (place < k) ⊎ (k + size b ≤ place) → met_statement place task p k b ≡ None
   none_met place task p k End out = refl
   none_met place task p k (Next x rest) out =
       let some = some_size x in
       let other : k ≢ place = λ is. elim out [ inl low ↦ omega (arith, low, is) | inr high ↦ omega (arith, high, is, some) ] in
-      ap (λ t. option_or (if t then Some (x, p) else met_inside place task p k x) (met place task (carried_one task p k x) (k + size_one x) rest)) (here-not k place other)
-      ∙ ap (λ o. option_or o (met place task (carried_one task p k x) (k + size_one x) rest))
+      ap (λ t. option_or (if t then Some (x, p) else met_inside place task p k x) (met_statement place task (carried_one task p k x) (k + size_one x) rest)) (here-not k place other)
+      ∙ ap (λ o. option_or o (met_statement place task (carried_one task p k x) (k + size_one x) rest))
       (none_inside place task p k x (elim out [ inl low ↦ inl (omega (arith, low)) | inr high ↦ inr (omega (arith, high)) ]))
       ∙ none_met place task (carried_one task p k x) (k + size_one x) rest (elim out [ inl low ↦ inl (omega (arith, low)) | inr high ↦ inr (omega (arith, high)) ])
 
@@ -143,7 +143,7 @@ abbrev all_one : Walks → ℕ → S → Walks
 all_one walks k x task = carried_one task (walks task) k x
 
 abbrev all : Walks → ℕ → Body → Walks
-all walks k b task = carried task (walks task) k b
+all walks k b task = pending_carried task (walks task) k b
 
 abbrev no_walk : Walks
 no_walk task = None
@@ -285,7 +285,7 @@ pub record AreThere (walks : Walks) (k : ℕ) (b : Body) (place : ℕ) (offence 
   pub opened : Openings
   pub children : Children
   pub cover : Cover place children later
-  pub met_by : (task : ℕ) → met place task (walks task) k b ≡ Some (x, later task)
+  pub met_by : (task : ℕ) → met_statement place task (walks task) k b ≡ Some (x, later task)
   pub is : is_offence own opened children x offence ≡ true
 
 record AreInside (walks : Walks) (k : ℕ) (y : S) (place : ℕ) (offence : Offence) : Type 0 where
@@ -302,10 +302,10 @@ pub not_none : (here : S × Pending) (o : Option (S × Pending)) → o ≡ Some 
 not_none here o some none = cc
 
 -- where it is met
-place_past : (place task : ℕ) (p : Pending) (k : ℕ) (b : Body) (here : S × Pending) → met place task p k b ≡ Some here → k ≤ place
+place_past : (place task : ℕ) (p : Pending) (k : ℕ) (b : Body) (here : S × Pending) → met_statement place task p k b ≡ Some here → k ≤ place
 place_past place task p k b here is = elim (leb_tells k place) [
   | inl (test, past) ↦ past
-  | inr (test, below) ↦ absurd (not_none here (met place task p k b) is (none_met place task p k b (inl (omega (arith, below)))))
+  | inr (test, below) ↦ absurd (not_none here (met_statement place task p k b) is (none_met place task p k b (inl (omega (arith, below)))))
 ]
 
 place_inside : (place task : ℕ) (p : Pending) (k : ℕ) (x : S) (here : S × Pending) → met_inside place task p k x ≡ Some here → k < place
@@ -327,7 +327,7 @@ mutual
         opened = t.opened;
         children = t.children;
         cover = t.cover;
-        met_by = λ task. ap (λ o. option_or o (met place task (walks task) (k + 1 + size a) b)) (t.met_by task);
+        met_by = λ task. ap (λ o. option_or o (met_statement place task (walks task) (k + 1 + size a) b)) (t.met_by task);
         is = t.is;
       }
   there_inside own opened children walks k (If e a b) place offence cover (inr h) =
@@ -340,7 +340,7 @@ mutual
         cover = t.cover;
         met_by = λ task.
             let past = place_past place task (walks task) (k + 1 + size a) b (t.x, t.later task) (t.met_by task) in
-            ap (λ o. option_or o (met place task (walks task) (k + 1 + size a) b)) (none_met place task (walks task) (k + 1) a (inr (omega (arith, past))))
+            ap (λ o. option_or o (met_statement place task (walks task) (k + 1 + size a) b)) (none_met place task (walks task) (k + 1) a (inr (omega (arith, past))))
             ∙ t.met_by task;
         is = t.is;
       }
@@ -410,7 +410,7 @@ mutual
             let other : k ≢ place = λ is. omega (arith, past, is, some) in
             let none : met_one place task (walks task) k x ≡ None =
             met-past place task (walks task) k x other ∙ none_inside place task (walks task) k x (inr past) in
-            ap (λ o. option_or o (met place task (all_one walks k x task) (k + size_one x) rest)) none ∙ t.met_by task;
+            ap (λ o. option_or o (met_statement place task (all_one walks k x task) (k + size_one x) rest)) none ∙ t.met_by task;
         is = t.is;
       }
 
@@ -446,7 +446,7 @@ ends_inside own opened children x h = by_statement x (by_marks (marks x) (ends_w
     by_statement (Group o cs b) h = absurd (true≢false (sym h))
 
 -- a walk carries one to the end of a body in which one may be left
-pub carried_some : (k : ℕ) (b : Body) → 0 < k → behind nobody b anyone ≡ true → (task : ℕ) × (child : ℕ × List Use) × (carried task None k b ≡ Some child)
+pub carried_some : (k : ℕ) (b : Body) → 0 < k → behind nobody b anyone ≡ true → (task : ℕ) × (child : ℕ × List Use) × (pending_carried task None k b ≡ Some child)
 carried_some k b some h = let f = found_all k b nobody no_walk (cover_nobody k some) anyone h in (f.0, f.1, f.2)
 
 -- ---- a statement that conflicts with a child
@@ -472,7 +472,7 @@ child_of k children walks (u ∷ uses) cover h = elim (or_true (children (clashe
 
 -- the walk that carries it comes to the statement with it
 pub race_met : (b : Body) (place : ℕ) → Offends b place ConflictsWithChild →
-    (task : ℕ) × (0 < task) × (task < place) × (x : S) × (child : ℕ × List Use) × (met place task None 1 b ≡ Some (x, Some child)) × (list_any (λ u. clashes u child.1) (uses_of x) ≡ true)
+    (task : ℕ) × (0 < task) × (task < place) × (x : S) × (child : ℕ × List Use) × (met_statement place task None 1 b ≡ Some (x, Some child)) × (list_any (λ u. clashes u child.1) (uses_of x) ≡ true)
 race_met b place h =
     let t = there_of b place ConflictsWithChild h in
     let f = child_of place t.children t.later (uses_of t.x) t.cover (uses_child t.own t.opened t.children t.x t.is) in
@@ -482,29 +482,29 @@ race_met b place h =
 -- ---- nothing is found only where there is nothing
 
 -- no statement stands at the place
-pub nothing_there : (b : Body) (place : ℕ) (offence : Offence) → met place 0 None 1 b ≡ None → Offends b place offence → ⊥
-nothing_there b place offence none h = let t = there_of b place offence h in not_none (t.x, t.later 0) (met place 0 None 1 b) (t.met_by 0) none
+pub nothing_there : (b : Body) (place : ℕ) (offence : Offence) → met_statement place 0 None 1 b ≡ None → Offends b place offence → ⊥
+nothing_there b place offence none h = let t = there_of b place offence h in not_none (t.x, t.later 0) (met_statement place 0 None 1 b) (t.met_by 0) none
 
 same_here : (one two : S × Pending) (o : Option (S × Pending)) → o ≡ Some one → o ≡ Some two → one.0 ≡ two.0
 same_here one two o first second = cc
 
 -- the statement that stands there is a task that can end with a child
-left_there : (b : Body) (place : ℕ) (x : S) (child : Pending) → met place 0 None 1 b ≡ Some (x, child) → Offends b place EndsWithChildren →
+left_there : (b : Body) (place : ℕ) (x : S) (child : Pending) → met_statement place 0 None 1 b ≡ Some (x, child) → Offends b place EndsWithChildren →
     (inside : Body) × (inside_of x ≡ Some inside) × (behind nobody inside anyone ≡ true)
 left_there b place x child here h =
     let t = there_of b place EndsWithChildren h in
     let e = ends_inside t.own t.opened t.children t.x t.is in
-    let same : x ≡ t.x = same_here (x, child) (t.x, t.later 0) (met place 0 None 1 b) here (t.met_by 0) in
+    let same : x ≡ t.x = same_here (x, child) (t.x, t.later 0) (met_statement place 0 None 1 b) here (t.met_by 0) in
     (e.1, ap inside_of (same ∙ e.2), e.3)
 
-pub left_no_task : (b : Body) (place : ℕ) (x : S) (child : Pending) → met place 0 None 1 b ≡ Some (x, child) → inside_of x ≡ None → Offends b place EndsWithChildren → ⊥
+pub left_no_task : (b : Body) (place : ℕ) (x : S) (child : Pending) → met_statement place 0 None 1 b ≡ Some (x, child) → inside_of x ≡ None → Offends b place EndsWithChildren → ⊥
 left_no_task b place x child here none h = let l = left_there b place x child here h in no_body l.0 (inside_of x) l.1 none
   where
     no_body : (inside : Body) (o : Option Body) → o ≡ Some inside → o ≡ None → ⊥
     no_body inside o some none = cc
 
-pub left_none : (b : Body) (place : ℕ) (x : S) (child : Pending) (inside : Body) → met place 0 None 1 b ≡ Some (x, child) → inside_of x ≡ Some inside →
-    ((task : ℕ) → carried task None (place + 1) inside ≡ None) → Offends b place EndsWithChildren → ⊥
+pub left_none : (b : Body) (place : ℕ) (x : S) (child : Pending) (inside : Body) → met_statement place 0 None 1 b ≡ Some (x, child) → inside_of x ≡ Some inside →
+    ((task : ℕ) → pending_carried task None (place + 1) inside ≡ None) → Offends b place EndsWithChildren → ⊥
 left_none b place x child inside here is none h =
     let l = left_there b place x child here h in
     let same : l.0 ≡ inside = same_body l.0 inside (inside_of x) l.1 is in

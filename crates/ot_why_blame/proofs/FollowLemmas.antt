@@ -9,7 +9,7 @@ use Rattle.ot_check.proofs.Cited.{not_true}
 use Rattle.ot_why_blame.specs.declared.walk.Search.{Search}
 use Rattle.ot_why_blame.specs.declared.walk.Arrived.{Arrived}
 use Rattle.ot_why_blame.specs.declared.walk.Behind.{Behind}
-use Rattle.ot_why_blame.specs.Walk.{Pending, pending_of, Declares, only, carried, carried_one, met, met_one, met_inside, Follows, FollowsOne, FollowsInside}
+use Rattle.ot_why_blame.specs.Walk.{Pending, pending_of, Declares, only, pending_carried, carried_one, met_statement, met_one, met_inside, Follows, FollowsOne, FollowsInside}
 
 -- ---- the choices of the code
 
@@ -63,31 +63,31 @@ follows_still s before k x y behind other is later none = follows_past s before 
 
 -- an `if` whose first body was walked, and then the second
 pub follows_other : (s : Search) (before first : Pending) (k n : ℕ) (e : E) (a b : Body) (r : Result Behind Arrived) → n ≡ k + 1 + size a →
-    first ≡ carried s.child before (k + 1) a → met s.place s.child before (k + 1) a ≡ None →
-    Follows (option_or (carried s.child before n b) first) (met s.place s.child before n b) r → FollowsInside s before k (If e a b) r
+    first ≡ pending_carried s.child before (k + 1) a → met_statement s.place s.child before (k + 1) a ≡ None →
+    Follows (option_or (pending_carried s.child before n b) first) (met_statement s.place s.child before n b) r → FollowsInside s before k (If e a b) r
 follows_other s before first k n e a b (Ok behind) at one none h = (
-  h.0 ∙ ap (λ p. option_or (carried s.child before n b) p) one ∙ ap (λ m. option_or (carried s.child before m b) (carried s.child before (k + 1) a)) at,
-  ap (λ o. option_or o (met s.place s.child before (k + 1 + size a) b)) none ∙ ap (λ m. met s.place s.child before m b) (sym at) ∙ h.1,
+  h.0 ∙ ap (λ p. option_or (pending_carried s.child before n b) p) one ∙ ap (λ m. option_or (pending_carried s.child before m b) (pending_carried s.child before (k + 1) a)) at,
+  ap (λ o. option_or o (met_statement s.place s.child before (k + 1 + size a) b)) none ∙ ap (λ m. met_statement s.place s.child before m b) (sym at) ∙ h.1,
 )
 follows_other s before first k n e a b (Err arrived) at one none h =
-    ap (λ o. option_or o (met s.place s.child before (k + 1 + size a) b)) none ∙ ap (λ m. met s.place s.child before m b) (sym at) ∙ h
+    ap (λ o. option_or o (met_statement s.place s.child before (k + 1 + size a) b)) none ∙ ap (λ m. met_statement s.place s.child before m b) (sym at) ∙ h
 
 -- an `if` in whose first body it came to the place
-pub follows_first : (s : Search) (before : Pending) (k : ℕ) (e : E) (a b : Body) (here : S × Pending) → met s.place s.child before (k + 1) a ≡ Some here →
+pub follows_first : (s : Search) (before : Pending) (k : ℕ) (e : E) (a b : Body) (here : S × Pending) → met_statement s.place s.child before (k + 1) a ≡ Some here →
     met_inside s.place s.child before k (If e a b) ≡ Some here
-follows_first s before k e a b here h = ap (λ o. option_or o (met s.place s.child before (k + 1 + size a) b)) h
+follows_first s before k e a b here h = ap (λ o. option_or o (met_statement s.place s.child before (k + 1 + size a) b)) h
 
 -- ---- a body
 
-pub carried-next : (task : ℕ) (p q : Pending) (k n : ℕ) (x : S) (more : Body) → q ≡ carried_one task p k x → n ≡ k + size_one x → carried task p k (Next x more) ≡ carried task q n more
-carried-next task p q k n x more one at = ap (λ r. carried task r (k + size_one x) more) (sym one) ∙ ap (λ m. carried task q m more) (sym at)
+pub carried-next : (task : ℕ) (p q : Pending) (k n : ℕ) (x : S) (more : Body) → q ≡ carried_one task p k x → n ≡ k + size_one x → pending_carried task p k (Next x more) ≡ pending_carried task q n more
+carried-next task p q k n x more one at = ap (λ r. pending_carried task r (k + size_one x) more) (sym one) ∙ ap (λ m. pending_carried task q m more) (sym at)
 
 pub met-next : (place task : ℕ) (p q : Pending) (k n : ℕ) (x : S) (more : Body) → q ≡ carried_one task p k x → n ≡ k + size_one x → met_one place task p k x ≡ None →
-    met place task p k (Next x more) ≡ met place task q n more
+    met_statement place task p k (Next x more) ≡ met_statement place task q n more
 met-next place task p q k n x more one at none =
-    ap (λ o. option_or o (met place task (carried_one task p k x) (k + size_one x) more)) none
-    ∙ ap (λ r. met place task r (k + size_one x) more) (sym one)
-    ∙ ap (λ m. met place task q m more) (sym at)
+    ap (λ o. option_or o (met_statement place task (carried_one task p k x) (k + size_one x) more)) none
+    ∙ ap (λ r. met_statement place task r (k + size_one x) more) (sym one)
+    ∙ ap (λ m. met_statement place task q m more) (sym at)
 
-pub met-first : (place task : ℕ) (p : Pending) (k : ℕ) (x : S) (more : Body) (here : S × Pending) → met_one place task p k x ≡ Some here → met place task p k (Next x more) ≡ Some here
-met-first place task p k x more here h = ap (λ o. option_or o (met place task (carried_one task p k x) (k + size_one x) more)) h
+pub met-first : (place task : ℕ) (p : Pending) (k : ℕ) (x : S) (more : Body) (here : S × Pending) → met_one place task p k x ≡ Some here → met_statement place task p k (Next x more) ≡ Some here
+met-first place task p k x more here h = ap (λ o. option_or o (met_statement place task (carried_one task p k x) (k + size_one x) more)) h

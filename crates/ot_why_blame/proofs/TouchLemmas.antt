@@ -15,7 +15,7 @@ use Rattle.ot_model.proofs.CellsLemmas as model
 use Rattle.ot_check.specs.Offences.{use_as, clashes}
 use Rattle.ot_check.proofs.Cited.{and_true, and_left, and_right, and_false, and_one, none_any, any-same, any-more, any-map, same_is, same_itself, section-at}
 use Rattle.ot_why_blame.specs.Races.{uses_of, conflicts_at}
-use Rattle.ot_why_blame.specs.Walk.{is_against}
+use Rattle.ot_why_blame.specs.Walk.{is_use_against}
 
 -- ---- truth values and lists
 
@@ -70,23 +70,23 @@ section-other s c out = false_unless (list_any (λ d. same_cell d c) (cells_of s
 
 -- cells used in one mode, with which it conflicts or doesn't
 pub used-so : (mode own : Mode) (c : Cell) (cells : List Cell) (found : Bool) → conflicts mode own ≡ true → found ≡ list_any (λ d. same_cell d c) cells →
-    found ≡ list_any (is_against mode c) (map (use_as own) cells)
+    found ≡ list_any (is_use_against mode c) (map (use_as own) cells)
 used-so mode own c cells found so here =
     here
     ∙ sym (any-same (λ d. same_cell d c && conflicts mode own) (λ d. same_cell d c) cells (λ d. ap (λ b. same_cell d c && b) so ∙ and_one (same_cell d c)))
-    ∙ sym (any-map (is_against mode c) (use_as own) cells)
+    ∙ sym (any-map (is_use_against mode c) (use_as own) cells)
 
-pub used-not : (mode own : Mode) (c : Cell) (cells : List Cell) → conflicts mode own ≡ false → false ≡ list_any (is_against mode c) (map (use_as own) cells)
+pub used-not : (mode own : Mode) (c : Cell) (cells : List Cell) → conflicts mode own ≡ false → false ≡ list_any (is_use_against mode c) (map (use_as own) cells)
 used-not mode own c cells so =
     none_any cells
     ∙ sym (any-same (λ d. same_cell d c && conflicts mode own) (λ d. false) cells (λ d. ap (λ b. same_cell d c && b) so ∙ and_false (same_cell d c)))
-    ∙ sym (any-map (is_against mode c) (use_as own) cells)
+    ∙ sym (any-map (is_use_against mode c) (use_as own) cells)
 
 -- ---- what a child declares
 
 -- whether a statement's uses conflict with one of a child's
 abbrev pub is_met : List Use → Use → Bool
-is_met uses d = list_any (is_against d.mode d.cell) uses
+is_met uses d = list_any (is_use_against d.mode d.cell) uses
 
 same_turned : (c d : Cell) → same_cell c d ≡ same_cell d c
 same_turned c d = ap₂ (λ a b. a && b) (turned c.array d.array) (turned c.index d.index)
@@ -100,7 +100,7 @@ clashes-met uses [] = sym (none_any uses)
 clashes-met uses (d ∷ declared) =
     any-or (λ u. same_cell d.cell u.cell && conflicts d.mode u.mode) (λ u. clashes u declared) uses
     ∙ ap₂ (λ a b. a || b)
-    (any-same (λ u. same_cell d.cell u.cell && conflicts d.mode u.mode) (is_against d.mode d.cell) uses (λ u. ap (λ b. b && conflicts d.mode u.mode) (same_turned d.cell u.cell)))
+    (any-same (λ u. same_cell d.cell u.cell && conflicts d.mode u.mode) (is_use_against d.mode d.cell) uses (λ u. ap (λ b. b && conflicts d.mode u.mode) (same_turned d.cell u.cell)))
     (clashes-met uses declared)
 
 -- one that is declared, and that is met
@@ -108,7 +108,7 @@ pub conflicts_found : (x : S) (declared : List Use) (i : ℕ) (other : Use) → 
     conflicts_at (get_or declared i other).cell x declared ≡ true
 conflicts_found x declared i other within met =
     let d = get_or declared i other in
-    any-more (is_against d.mode d.cell) (λ u. same_cell u.cell d.cell && clashes u declared) (uses_of x)
+    any-more (is_use_against d.mode d.cell) (λ u. same_cell u.cell d.cell && clashes u declared) (uses_of x)
     (λ u h. and_true (same_cell u.cell d.cell) (clashes u declared) (and_left (same_cell u.cell d.cell) (conflicts d.mode u.mode) h)
     (list_any_at (λ e. same_cell e.cell u.cell && conflicts e.mode u.mode) declared i other within
     (and_true (same_cell d.cell u.cell) (conflicts d.mode u.mode) (same_turned d.cell u.cell ∙ and_left (same_cell u.cell d.cell) (conflicts d.mode u.mode) h)

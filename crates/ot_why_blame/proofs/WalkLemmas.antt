@@ -5,7 +5,7 @@ use Rattle.ot_model.specs.Tree.{E, S, Set, Fold, If, Task, Wait, Group, Body, En
 use Rattle.ot_model.specs.declared.expr.Cell.{Cell}
 use Rattle.ot_model.specs.declared.fold.Fold.{Fold as Operation}
 use Rattle.ot_model.specs.declared.stmt.Use.{Use}
-use Rattle.ot_check.specs.Offences.{Create, Await, Enter, Leave, Step, At, touched, touches, PassesOne, Passes, stays_within, awaits, is_awaited}
+use Rattle.ot_check.specs.Offences.{Create, Await, Enter, Leave, Step, At, touch_steps, touches, PassesOne, Passes, stays_within, awaits, is_awaited}
 use Rattle.ot_check.specs.Discipline.{through}
 use Rattle.ot_check.proofs.Cited.{and_true, and_left, and_right, true_not, not_true, false_or, or_none, IsClosed, closed_of, within-closed, awaited-append, touched-balanced, touched-awaited, passes_one-closed, some_path, some_path_one, through-to}
 use Rattle.ot_why_blame.specs.declared.child.Child.{Child}
@@ -37,31 +37,31 @@ of_each : (P : List Use → Type 0) (p : Pending) → ((d : List Use) → P d) �
 of_each P None each = tt
 of_each P (Some child) each = each child.1
 
-carried_touched : (steps : List Step) (k : ℕ) (uses : List Use) (p : Pending) → Carried steps p → Carried (steps ++ touched k uses) p
+carried_touched : (steps : List Step) (k : ℕ) (uses : List Use) (p : Pending) → Carried steps p → Carried (steps ++ touch_steps k uses) p
 carried_touched steps k uses p h =
-    carried_past steps (touched k uses) p (closed_of (touched k uses) (touched-balanced k uses))
-    (of_each (λ d. is_awaited d (touched k uses) ≡ false) p (λ d. touched-awaited d k uses)) h
+    carried_past steps (touch_steps k uses) p (closed_of (touch_steps k uses) (touched-balanced k uses))
+    (of_each (λ d. is_awaited d (touch_steps k uses) ≡ false) p (λ d. touched-awaited d k uses)) h
 
 -- ---- what is carried behind a statement
 
 pub carries-set : (k : ℕ) (c : Cell) (e : E) (p : Pending) → Carries (PassesOne k (Set c e)) p p
-carries-set k c e p steps h = (touched k (touches (Set c e)), refl, carried_touched steps k (touches (Set c e)) p h)
+carries-set k c e p steps h = (touch_steps k (touches (Set c e)), refl, carried_touched steps k (touches (Set c e)) p h)
 
 pub carries-fold : (k : ℕ) (o : Operation) (c : Cell) (e : E) (p : Pending) → Carries (PassesOne k (Fold o c e)) p p
-carries-fold k o c e p steps h = (touched k (touches (Fold o c e)), refl, carried_touched steps k (touches (Fold o c e)) p h)
+carries-fold k o c e p steps h = (touch_steps k (touches (Fold o c e)), refl, carried_touched steps k (touches (Fold o c e)) p h)
 
 pub carries-none : (k : ℕ) (x : S) (p : Pending) → Carries (PassesOne k x) p None
 carries-none k x p steps h = let w = some_path_one k x in (w.0, w.1, tt)
 
 pub carries-first : (k : ℕ) (e : E) (a b : Body) (p q : Pending) → Carries (Passes (k + 1) a) p q → Carries (PassesOne k (If e a b)) p q
 carries-first k e a b p q one steps h =
-    let t = touched k (touches (If e a b)) in
+    let t = touch_steps k (touches (If e a b)) in
     let w = one (steps ++ t) (carried_touched steps k (touches (If e a b)) p h) in
     (t ++ w.0, (w.0, refl, inl w.1), subst (λ s. Carried s q) (append_assoc steps t w.0) w.2)
 
 pub carries-second : (k : ℕ) (e : E) (a b : Body) (p q : Pending) → Carries (Passes (k + 1 + size a) b) p q → Carries (PassesOne k (If e a b)) p q
 carries-second k e a b p q two steps h =
-    let t = touched k (touches (If e a b)) in
+    let t = touch_steps k (touches (If e a b)) in
     let w = two (steps ++ t) (carried_touched steps k (touches (If e a b)) p h) in
     (t ++ w.0, (w.0, refl, inr w.1), subst (λ s. Carried s q) (append_assoc steps t w.0) w.2)
 
@@ -153,14 +153,14 @@ pub arrives-first : (k : ℕ) (e : E) (a b : Body) (p : Pending) (place : ℕ) (
     → Arrives (k + 1) a p place x now → ArrivesOne k (If e a b) p place x now
 arrives-first k e a b p place x now (inl reaches) =
     inl (reaches-behind (Passes (k + 1) a) (PassesOne k (If e a b)) p p place x now
-    (λ steps h. (touched k (touches (If e a b)), carried_touched steps k (touches (If e a b)) p h, λ path way. (path, refl, inl way))) reaches)
+    (λ steps h. (touch_steps k (touches (If e a b)), carried_touched steps k (touches (If e a b)) p h, λ path way. (path, refl, inl way))) reaches)
 arrives-first k e a b p place x now (inr inside) = inr (inl inside)
 
 pub arrives-second : (k : ℕ) (e : E) (a b : Body) (p : Pending) (place : ℕ) (x : S) (now : Pending)
     → Arrives (k + 1 + size a) b p place x now → ArrivesOne k (If e a b) p place x now
 arrives-second k e a b p place x now (inl reaches) =
     inl (reaches-behind (Passes (k + 1 + size a) b) (PassesOne k (If e a b)) p p place x now
-    (λ steps h. (touched k (touches (If e a b)), carried_touched steps k (touches (If e a b)) p h, λ path way. (path, refl, inr way))) reaches)
+    (λ steps h. (touch_steps k (touches (If e a b)), carried_touched steps k (touches (If e a b)) p h, λ path way. (path, refl, inr way))) reaches)
 arrives-second k e a b p place x now (inr inside) = inr (inr inside)
 
 pub arrives-task : (k : ℕ) (d : List Use) (b : Body) (p : Pending) (place : ℕ) (x : S) (now : Pending)

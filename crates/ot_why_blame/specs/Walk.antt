@@ -66,29 +66,29 @@ abbrev mutual
   pub carried_one : ℕ → Pending → ℕ → S → Pending
   carried_one task before k (Set c e) = before
   carried_one task before k (Fold o c e) = before
-  carried_one task before k (If e a b) = option_or (carried task before (k + 1 + size a) b) (carried task before (k + 1) a)
+  carried_one task before k (If e a b) = option_or (pending_carried task before (k + 1 + size a) b) (pending_carried task before (k + 1) a)
   carried_one task before k (Task d b) = if k == task then Some (k, d) else before
   carried_one task before k (Wait w) = only (λ d. not (awaits w d)) before
   carried_one task before k (Group o cs b) = only (λ d. through d b) before
 
-  pub carried : ℕ → Pending → ℕ → Body → Pending
-  carried task before k End = before
-  carried task before k (Next x rest) = carried task (carried_one task before k x) (k + size_one x) rest
+  pub pending_carried : ℕ → Pending → ℕ → Body → Pending
+  pending_carried task before k End = before
+  pending_carried task before k (Next x rest) = pending_carried task (carried_one task before k x) (k + size_one x) rest
 
 -- the statement at this place, with the child that is carried to it
 abbrev mutual
   pub met_inside : ℕ → ℕ → Pending → ℕ → S → Option (S × Pending)
   met_inside place task before k (Set c e) = None
   met_inside place task before k (Fold o c e) = None
-  met_inside place task before k (If e a b) = option_or (met place task before (k + 1) a) (met place task before (k + 1 + size a) b)
-  met_inside place task before k (Task d b) = met place task None (k + 1) b
+  met_inside place task before k (If e a b) = option_or (met_statement place task before (k + 1) a) (met_statement place task before (k + 1 + size a) b)
+  met_inside place task before k (Task d b) = met_statement place task None (k + 1) b
   met_inside place task before k (Wait w) = None
-  met_inside place task before k (Group o cs b) = met place task before (k + 1) b
+  met_inside place task before k (Group o cs b) = met_statement place task before (k + 1) b
 
-  pub met : ℕ → ℕ → Pending → ℕ → Body → Option (S × Pending)
-  met place task before k End = None
-  met place task before k (Next x rest) =
-      option_or (if k == place then Some (x, before) else met_inside place task before k x) (met place task (carried_one task before k x) (k + size_one x) rest)
+  pub met_statement : ℕ → ℕ → Pending → ℕ → Body → Option (S × Pending)
+  met_statement place task before k End = None
+  met_statement place task before k (Next x rest) =
+      option_or (if k == place then Some (x, before) else met_inside place task before k x) (met_statement place task (carried_one task before k x) (k + size_one x) rest)
 
 abbrev pub met_one : ℕ → ℕ → Pending → ℕ → S → Option (S × Pending)
 met_one place task before k x = if k == place then Some (x, before) else met_inside place task before k x
@@ -100,7 +100,7 @@ Follows later here (Err at) = here ≡ Some (stmt_of at.stmt.now, pending_of at.
 
 -- of a body, of a statement, and of a statement at another place
 abbrev pub FollowsAll : Search → Pending → ℕ → Body → Result Behind Arrived → Type 0
-FollowsAll search before k b result = Follows (carried search.child before k b) (met search.place search.child before k b) result
+FollowsAll search before k b result = Follows (pending_carried search.child before k b) (met_statement search.place search.child before k b) result
 
 abbrev pub FollowsOne : Search → Pending → ℕ → S → Result Behind Arrived → Type 0
 FollowsOne search before k x result = Follows (carried_one search.child before k x) (met_one search.place search.child before k x) result
@@ -116,10 +116,10 @@ inside_of x = None
 -- no walk comes to the statement at the place with the task at the other, in conflict with it
 abbrev pub IsSpared : ℕ → ℕ → Body → Type 0
 IsSpared place task body =
-    (x : S) (child : ℕ × List Use) → met place task None 1 body ≡ Some (x, Some child) → list_any (λ u. clashes u child.1) (uses_of x) ≡ true → ⊥
+    (x : S) (child : ℕ × List Use) → met_statement place task None 1 body ≡ Some (x, Some child) → list_any (λ u. clashes u child.1) (uses_of x) ≡ true → ⊥
 
 -- ---- uses
 
 -- whether a use is one of the cell, in conflict with this mode
-abbrev pub is_against : Mode → Cell → Use → Bool
-is_against mode cell u = same_cell u.cell cell && conflicts mode u.mode
+abbrev pub is_use_against : Mode → Cell → Use → Bool
+is_use_against mode cell u = same_cell u.cell cell && conflicts mode u.mode

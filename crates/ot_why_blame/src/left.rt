@@ -5,7 +5,7 @@ ghost use Rattle.ot_model.specs.Tree.{size};
 ghost use Rattle.ot_check.specs.Offences.{Step, Passes, Offends};
 ghost use Rattle.ot_check.specs.declared.fault.Offence.TheVariants.{EndsWithChildren};
 ghost use Rattle.ot_why_blame.specs.Races.{IsPending, LeavesChild};
-ghost use Rattle.ot_why_blame.specs.Walk.{pending_of, carried, inside_of};
+ghost use Rattle.ot_why_blame.specs.Walk.{pending_of, pending_carried, inside_of};
 
 use crate::child::Child;
 use crate::pending::tasks_pending;
@@ -59,7 +59,7 @@ fn find_pending<'a>(
     requires some { 0 < place }
     requires below { place + size (stmts_of body.now.items) ≤ end }
     ensures pending { IfOk result (λ found. IfSome found (λ child. (path : List Step) × Passes place (stmts_of body.now.items) path × IsPending path child.place child.decl.now)) }
-    ensures all { IfOk result (λ found. found ≡ None → (task : ℕ) → carried task None place (stmts_of body.now.items) ≡ None) }
+    ensures all { IfOk result (λ found. found ≡ None → (task : ℕ) → pending_carried task None place (stmts_of body.now.items) ≡ None) }
 {
     let mut tasks = tasks_pending(alloc, body, &Wanted::Each, place, 0)?;
     while let Some(task) = tasks.pop() {
@@ -82,7 +82,7 @@ fn pending<'a>(body: &'a Vec<Stmt>, place: u32, task: u32) -> Option<Child<'a>>
     requires some { 0 < place }
     requires short { place + size (stmts_of body.now.items) < 2 ^ 32 }
     ensures pending { IfSome result (λ child. (path : List Step) × Passes place (stmts_of body.now.items) path × IsPending path child.place child.decl.now) }
-    ensures carried { pending_of result ≡ carried task None place (stmts_of body.now.items) }
+    ensures carried { pending_of result ≡ pending_carried task None place (stmts_of body.now.items) }
 {
     // A walk to a place that no statement has goes through the whole body.
     let search = Search {

@@ -6,7 +6,7 @@ ghost use Rattle.ot_model.specs.Tree.{size, size_one};
 ghost use Rattle.ot_check.specs.Offences.{Offends, clashes};
 ghost use Rattle.ot_check.specs.declared.fault.Offence.TheVariants.{ConflictsWithChild};
 ghost use Rattle.ot_why_blame.specs.Races.{IsAt, Races, conflicts_at, uses_of};
-ghost use Rattle.ot_why_blame.specs.Walk.{Pending, met, IsSpared};
+ghost use Rattle.ot_why_blame.specs.Walk.{Pending, met_statement, IsSpared};
 
 use crate::child::Child;
 use crate::pending::tasks_pending;
@@ -29,8 +29,8 @@ pub(crate) fn statement_at<'a>(body: &'a Vec<Stmt>, place: u32) -> Option<&'a St
     requires short { 1 + size (stmts_of body.now.items) < 2 ^ 32 }
     ensures stands { IfSome result (λ stmt. IsAt place (stmt_of stmt.now) (stmts_of body.now.items)) }
     ensures within { IfSome result (λ stmt. place + size_one (stmt_of stmt.now) ≤ 1 + size (stmts_of body.now.items)) }
-    ensures met { MatchOption result (met place 0 None 1 (stmts_of body.now.items) ≡ None)
-        (λ stmt. (child : Pending) × (met place 0 None 1 (stmts_of body.now.items) ≡ Some (stmt_of stmt.now, child))) }
+    ensures met { MatchOption result (met_statement place 0 None 1 (stmts_of body.now.items) ≡ None)
+        (λ stmt. (child : Pending) × (met_statement place 0 None 1 (stmts_of body.now.items) ≡ Some (stmt_of stmt.now, child))) }
 {
     // No statement has the place 0, so the walk carries no child.
     let search = Search { place, child: 0 };

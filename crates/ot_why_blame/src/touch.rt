@@ -7,13 +7,13 @@ ghost use Rattle.ot_model.specs.Cells.{same_cell};
 ghost use Rattle.ot_model.specs.declared.stmt.Mode.TheVariants.{Reads};
 ghost use Rattle.ot_check.specs.Offences.{use_as};
 ghost use Rattle.ot_why_blame.specs.Races.{uses_of};
-ghost use Rattle.ot_why_blame.specs.Walk.{is_against};
+ghost use Rattle.ot_why_blame.specs.Walk.{is_use_against};
 
 use ot_model::{Cell, Expr, Mode, Section, Stmt, Use};
 
 /// Whether the statement uses the cell in conflict with this mode.
 pub(crate) fn uses_against(mode: Mode, cell: Cell, stmt: &Stmt) -> bool
-    ensures { result ≡ list_any (is_against mode cell) (uses_of (stmt_of stmt.now)) }
+    ensures { result ≡ list_any (is_use_against mode cell) (uses_of (stmt_of stmt.now)) }
 {
     match stmt {
         Stmt::Set(target, expr) => {
@@ -38,14 +38,14 @@ pub(crate) fn uses_against(mode: Mode, cell: Cell, stmt: &Stmt) -> bool
 
 /// Whether a use is one of the cell, in conflict with this mode.
 fn use_against(mode: Mode, cell: Cell, used: Use) -> bool
-    ensures { result ≡ is_against mode cell used }
+    ensures { result ≡ is_use_against mode cell used }
 {
     used.cell == cell && mode.conflicts(used.mode)
 }
 
 /// Whether the value reads the cell, in conflict with this mode.
 fn value_against(mode: Mode, cell: Cell, expr: &Expr) -> bool
-    ensures { result ≡ list_any (is_against mode cell) (map (use_as Reads) (cells_named (expr_of expr.now))) }
+    ensures { result ≡ list_any (is_use_against mode cell) (map (use_as Reads) (cells_named (expr_of expr.now))) }
 {
     mode.conflicts(Mode::Reads) && reads(expr, cell)
 }

@@ -7,7 +7,7 @@ ghost use Rattle.ot_model.specs.declared.fold.Fold.{Fold};
 ghost use Rattle.ot_check.specs.Offences.{awaits, PassesOne, Passes};
 ghost use Rattle.ot_check.specs.Discipline.{through};
 ghost use Rattle.ot_model.specs.View.{stmt_of, stmts_of};
-ghost use Rattle.ot_why_blame.specs.Walk.{pending_of, only, carried, met, Carries, Arrives, ArrivesOne, Follows, FollowsAll, FollowsOne, FollowsInside};
+ghost use Rattle.ot_why_blame.specs.Walk.{pending_of, only, pending_carried, met_statement, Carries, Arrives, ArrivesOne, Follows, FollowsAll, FollowsOne, FollowsInside};
 
 use crate::child::Child;
 use crate::through::{awaits, through};
@@ -108,8 +108,8 @@ fn walk_other<'a>(
         ⊎ Carries (Passes first.entry.next (stmts_of body.now.items)) (pending_of child.entry) (pending_of behind.child)) }
     ensures arrives { IfErr result (λ at. Arrives first.entry.next (stmts_of body.now.items) (pending_of child.entry) search.now.place (stmt_of at.stmt.now) (pending_of at.child)) }
     ensures within { IfErr result (λ at. search.now.place + size_one (stmt_of at.stmt.now) ≤ first.entry.next + size (stmts_of body.now.items)) }
-    ensures follows { Follows (option_or (carried search.now.child (pending_of child.entry) first.entry.next (stmts_of body.now.items)) (pending_of first.entry.child))
-        (met search.now.place search.now.child (pending_of child.entry) first.entry.next (stmts_of body.now.items)) result }
+    ensures follows { Follows (option_or (pending_carried search.now.child (pending_of child.entry) first.entry.next (stmts_of body.now.items)) (pending_of first.entry.child))
+        (met_statement search.now.place search.now.child (pending_of child.entry) first.entry.next (stmts_of body.now.items)) result }
 {
     match walk(body, search, first.next, child) {
         Ok(second) => Ok(Behind {
@@ -214,7 +214,7 @@ fn kept<'a>(
     child: Option<Child<'a>>,
     inside: Option<Child<'a>>,
 ) -> Option<Child<'a>>
-    requires { pending_of inside ≡ carried search.now.child (pending_of child) place (stmts_of body.now.items) }
+    requires { pending_of inside ≡ pending_carried search.now.child (pending_of child) place (stmts_of body.now.items) }
     ensures { pending_of result ≡ only (λ d. through d (stmts_of body.now.items)) (pending_of child.entry) }
 {
     if search.child < place {

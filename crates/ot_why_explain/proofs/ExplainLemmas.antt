@@ -8,7 +8,7 @@ use Rattle.std.proofs.lemmas.Bool.Decides.{leb_tells}
 use Rattle.ot_book.specs.Books.{Register}
 use Rattle.ot_session.specs.Serving.{AppendsFront, Going, Serving}
 use Rattle.ot_book.specs.Room.{room_in}
-use Rattle.ot_session.specs.Session.{Heard, HasNoEnd, max_line, closing, heard_in, session_text, logged_lines, TellsAll, BreaksOff, SessionTells, Session, Lines, marked, after, told}
+use Rattle.ot_session.specs.Session.{Heard, HasNoEnd, max_line, closing, heard_in, session_text, logged_lines, TellsAll, BreaksOff, SessionTells, Session, Lines, marked_lines, after, session_told}
 use Rattle.ot_session.specs.declared.fault.End.{End}
 use Rattle.ot_session.specs.declared.fault.End.TheVariants as end
 use Rattle.ot_session.specs.declared.fault.FrontFault.{FrontFault}
@@ -45,7 +45,7 @@ no_end-append a b none_a none_b = λ k within is. elim (leb_tells (length a) k) 
 plain-text : (book : Register) (bytes : List ℕ) (lost : List Bool) → IsPlain (session_text book bytes lost)
 plain-text book bytes lost =
     let h = heard_in book bytes in
-    plain-append (told book (marked h.lines lost)) (closing h.end) (whole-told book (marked h.lines lost)) (plain-told book (marked h.lines lost)) (plain-closing h.end)
+    plain-append (session_told book (marked_lines h.lines lost)) (closing h.end) (whole-told book (marked_lines h.lines lost)) (plain-told book (marked_lines h.lines lost)) (plain-closing h.end)
 
 all_plain : (book : Register) (bytes : List ℕ) (lost : List Bool) (written : List ℕ) (e : Option End) → TellsAll book bytes lost written e → without_remarks written ≡ written
 all_plain book bytes lost written e t = ap without_remarks t.tells ∙ plain-all (session_text book bytes lost) (plain-text book bytes lost) ∙ sym t.tells
@@ -53,8 +53,8 @@ all_plain book bytes lost written e t = ap without_remarks t.tells ∙ plain-all
 off_plain : (book : Register) (bytes : List ℕ) (lost : List Bool) (written : List ℕ) → BreaksOff book bytes lost written → without_remarks written ≡ written
 off_plain book bytes lost written t = plain-front (session_text book bytes lost) written t.missing (plain-text book bytes lost) t.begins
 
-run_plain : (book : Register) (lines : Lines) (written : List ℕ) → written ≡ told book lines → without_remarks written ≡ written
-run_plain book lines written is = ap without_remarks is ∙ plain-all (told book lines) (plain-told book lines) ∙ sym is
+run_plain : (book : Register) (lines : Lines) (written : List ℕ) → written ≡ session_told book lines → without_remarks written ≡ written
+run_plain book lines written is = ap without_remarks is ∙ plain-all (session_told book lines) (plain-told book lines) ∙ sym is
 
 written_plain : (book : Register) (bytes : List ℕ) (lost : List Bool) (written : List ℕ) (result : Result End FrontFault) → SessionTells book bytes lost written result → without_remarks written ≡ written
 written_plain book bytes lost written (Ok end.EndOfInput) t = all_plain book bytes lost written None t
@@ -72,8 +72,8 @@ written_plain book bytes lost written (Err fault.SocketFailed) t = absurd t
 -- what a session wrote that goes on ends where a line ends
 all_whole : (book : Register) (bytes : List ℕ) (lost : List Bool) (written : List ℕ) → TellsAll book bytes lost written None → IsWhole written
 all_whole book bytes lost written t =
-    let lines = marked (heard_in book bytes).lines lost in
-    subst IsWhole (sym (t.tells ∙ ap (λ e. told book lines ++ closing e) t.ends ∙ append-nil (told book lines))) (whole-told book lines)
+    let lines = marked_lines (heard_in book bytes).lines lost in
+    subst IsWhole (sym (t.tells ∙ ap (λ e. session_told book lines ++ closing e) t.ends ∙ append-nil (session_told book lines))) (whole-told book lines)
 
 -- ---- a line
 
@@ -281,9 +281,9 @@ pub explaining_ends : {first : Register} {start : Option (List ℕ)} {bytes part
     (piece : List ℕ) (now : Option (List ℕ)) (result : Result End FrontFault) → Explaining first start bytes partial book held said → HasNoEnd piece →
     max_line < length partial + length piece → IfOk result (λ e. (e ≡ end.LongLine) × Appends held now (closing (Some end.LongLine))) →
     IfErr result (λ f. (f ≡ fault.WriteFailed) × AppendsFront held now (closing (Some end.LongLine))) → Stopped first book start (bytes ++ piece) now said result
-explaining_ends {first} {start} {bytes} {partial} {book} {said = said} piece now (Ok last) e clean long told cut =
-    subst (λ x. Stopped first book start (bytes ++ piece) now said (Ok x)) (sym told.0) (explaining_long piece now e clean long told.1)
-explaining_ends {first} {start} {bytes} {partial} {book} {said = said} piece now (Err why) e clean long told cut =
+explaining_ends {first} {start} {bytes} {partial} {book} {said = said} piece now (Ok last) e clean long session_told cut =
+    subst (λ x. Stopped first book start (bytes ++ piece) now said (Ok x)) (sym session_told.0) (explaining_long piece now e clean long session_told.1)
+explaining_ends {first} {start} {bytes} {partial} {book} {said = said} piece now (Err why) e clean long session_told cut =
     subst (λ x. Stopped first book start (bytes ++ piece) now said (Err x)) (sym cut.0) (explaining_in_long piece now e clean long cut.1)
 
 -- ---- the whole session

@@ -3,7 +3,7 @@ use Rattle.std.proofs.Common.{◌≡◌, ℕ, zero, suc, ◌+◌, ◌-◌, ◌�
 use Rattle.std.specs.Prelude.{Option, Some, None, Result, Ok, Err, fold, is_some, if◌then◌else◌, ◌==◌, nat_le}
 use Rattle.ot_book.specs.Books.{Register, next_number}
 use Rattle.ot_book.specs.Room.{Room, room_in, takes, with_entry, room_after}
-use Rattle.ot_session.specs.Session.{Heard, nothing_heard, hear, with_line, with_byte, is_bye, max_line, closing, heard_in, session_text, logged_lines, TellsAll, LeavesRun, BreaksOff, SessionTells, Session, Lines, texts, marks, marked, after, told, RunsProgram}
+use Rattle.ot_session.specs.Session.{Heard, nothing_heard, hear, with_line, with_byte, is_bye, max_line, closing, heard_in, session_text, logged_lines, TellsAll, LeavesRun, BreaksOff, SessionTells, Session, Lines, texts, line_marks, marked_lines, after, session_told, RunsProgram}
 use Rattle.ot_session.specs.Serving.{Going}
 use Rattle.ot_session.specs.declared.fault.End.{End}
 use Rattle.ot_session.specs.declared.fault.End.TheVariants as end
@@ -78,7 +78,7 @@ heard_behind {first} {start} {bytes} {book} going more =
 
 -- ---- lines with marks
 
-marked-two : (lines : Lines) (more : List (List ℕ)) (lost : List Bool) → marked (texts lines ++ more) (marks lines ++ lost) ≡ lines ++ marked more lost
+marked-two : (lines : Lines) (more : List (List ℕ)) (lost : List Bool) → marked_lines (texts lines ++ more) (line_marks lines ++ lost) ≡ lines ++ marked_lines more lost
 marked-two [] more lost = refl
 marked-two (l ∷ lines) more lost = ap (λ ls. l ∷ ls) (marked-two lines more lost)
 
@@ -92,8 +92,8 @@ slice_get-past [] b n = ap (slice_get b) (let same : 0 + n ≡ n = omega arith i
 slice_get-past (x ∷ a) b n =
     ap (slice_get (x ∷ (a ++ b))) (let same : suc (length a) + n ≡ suc (length a + n) = omega arith in same) ∙ slice_get-past a b n
 
-count_two : (lines : Lines) (lost : List Bool) → length (marks lines ++ lost) ≡ length lines + length lost
-count_two lines lost = length-append (marks lines) lost ∙ ap (λ n. n + length lost) (length-marks lines)
+count_two : (lines : Lines) (lost : List Bool) → length (line_marks lines ++ lost) ≡ length lines + length lost
+count_two lines lost = length-append (line_marks lines) lost ∙ ap (λ n. n + length lost) (length-marks lines)
 
 -- ---- one session of two
 
@@ -111,35 +111,35 @@ lines_joined : (first : Register) (bytes more : List ℕ) (lines : Lines) (book 
 lines_joined first bytes more lines book j = ap (λ (h : Heard). h.lines) j.hears
 
 marked_joined : (first : Register) (bytes more : List ℕ) (lines : Lines) (book : Register) (lost : List Bool) → Joined first bytes more lines book →
-    marked (heard_in first (bytes ++ more)).lines (marks lines ++ lost) ≡ lines ++ marked (heard_in book more).lines lost
+    marked_lines (heard_in first (bytes ++ more)).lines (line_marks lines ++ lost) ≡ lines ++ marked_lines (heard_in book more).lines lost
 marked_joined first bytes more lines book lost j =
-    ap (λ ls. marked ls (marks lines ++ lost)) (lines_joined first bytes more lines book j) ∙ marked-two lines (heard_in book more).lines lost
+    ap (λ ls. marked_lines ls (line_marks lines ++ lost)) (lines_joined first bytes more lines book j) ∙ marked-two lines (heard_in book more).lines lost
 
 logged_joined : (first : Register) (bytes more : List ℕ) (lines : Lines) (book : Register) (lost : List Bool) → Joined first bytes more lines book →
-    logged_lines first (bytes ++ more) (marks lines ++ lost) ≡ lines ++ logged_lines book more lost
+    logged_lines first (bytes ++ more) (line_marks lines ++ lost) ≡ lines ++ logged_lines book more lost
 logged_joined first bytes more lines book lost j =
-    ap (take (length (marks lines ++ lost))) (marked_joined first bytes more lines book lost j)
-    ∙ ap (λ n. take n (lines ++ marked (heard_in book more).lines lost)) (count_two lines lost)
-    ∙ take-past_lines lines (marked (heard_in book more).lines lost) (length lost)
+    ap (take (length (line_marks lines ++ lost))) (marked_joined first bytes more lines book lost j)
+    ∙ ap (λ n. take n (lines ++ marked_lines (heard_in book more).lines lost)) (count_two lines lost)
+    ∙ take-past_lines lines (marked_lines (heard_in book more).lines lost) (length lost)
 
-told_joined : (first : Register) (lines : Lines) (book : Register) (more : Lines) → book ≡ after first lines → told first (lines ++ more) ≡ told first lines ++ told book more
-told_joined first lines book more logs = told-append first lines more ∙ ap (λ b. told first lines ++ told b more) (sym logs)
+told_joined : (first : Register) (lines : Lines) (book : Register) (more : Lines) → book ≡ after first lines → session_told first (lines ++ more) ≡ session_told first lines ++ session_told book more
+told_joined first lines book more logs = told-append first lines more ∙ ap (λ b. session_told first lines ++ session_told b more) (sym logs)
 
 after_joined : (first : Register) (lines : Lines) (book : Register) (more : Lines) → book ≡ after first lines → after first (lines ++ more) ≡ after book more
 after_joined first lines book more logs = after-append first lines more ∙ ap (λ b. after b more) (sym logs)
 
 text_joined : (first : Register) (bytes more : List ℕ) (lines : Lines) (book : Register) (lost : List Bool) → Joined first bytes more lines book →
-    session_text first (bytes ++ more) (marks lines ++ lost) ≡ told first lines ++ session_text book more lost
+    session_text first (bytes ++ more) (line_marks lines ++ lost) ≡ session_told first lines ++ session_text book more lost
 text_joined first bytes more lines book lost j =
     let end = closing (heard_in first (bytes ++ more)).end in
     let h = heard_in book more in
-    ap (λ ls. told first ls ++ end) (marked_joined first bytes more lines book lost j)
-    ∙ ap (λ t. t ++ end) (told_joined first lines book (marked h.lines lost) j.logs)
-    ∙ append_assoc (told first lines) (told book (marked h.lines lost)) end
-    ∙ ap (λ (x : Heard). told first lines ++ (told book (marked h.lines lost) ++ closing x.end)) j.hears
+    ap (λ ls. session_told first ls ++ end) (marked_joined first bytes more lines book lost j)
+    ∙ ap (λ t. t ++ end) (told_joined first lines book (marked_lines h.lines lost) j.logs)
+    ∙ append_assoc (session_told first lines) (session_told book (marked_lines h.lines lost)) end
+    ∙ ap (λ (x : Heard). session_told first lines ++ (session_told book (marked_lines h.lines lost) ++ closing x.end)) j.hears
 
 all_joined : (first : Register) (bytes more : List ℕ) (lines : Lines) (book : Register) (lost : List Bool) (written : List ℕ) (e : Option End) → Joined first bytes more lines book →
-    TellsAll book more lost written e → TellsAll first (bytes ++ more) (marks lines ++ lost) (told first lines ++ written) e
+    TellsAll book more lost written e → TellsAll first (bytes ++ more) (line_marks lines ++ lost) (session_told first lines ++ written) e
 all_joined first bytes more lines book lost written e j t = record {
   ends = ap (λ (h : Heard). h.end) j.hears ∙ t.ends;
   logs = omega (
@@ -150,68 +150,68 @@ all_joined first bytes more lines book lost written e j t = record {
     length-append (texts lines) (heard_in book more).lines,
     length-texts lines,
   );
-  tells = ap (λ w. told first lines ++ w) t.tells ∙ sym (text_joined first bytes more lines book lost j);
+  tells = ap (λ w. session_told first lines ++ w) t.tells ∙ sym (text_joined first bytes more lines book lost j);
 }
 
 run_joined : (first : Register) (bytes more : List ℕ) (lines : Lines) (book : Register) (lost : List Bool) (written : List ℕ) → Joined first bytes more lines book →
-    LeavesRun book more lost written → LeavesRun first (bytes ++ more) (marks lines ++ lost) (told first lines ++ written)
+    LeavesRun book more lost written → LeavesRun first (bytes ++ more) (line_marks lines ++ lost) (session_told first lines ++ written)
 run_joined first bytes more lines book lost written j t =
     let logged_is = logged_joined first bytes more lines book lost j in
-    let place : length (marks lines ++ lost) ≡ length (texts lines) + length lost = count_two lines lost ∙ ap (λ n. n + length lost) (sym (length-texts lines)) in record {
+    let place : length (line_marks lines ++ lost) ≡ length (texts lines) + length lost = count_two lines lost ∙ ap (λ n. n + length lost) (sym (length-texts lines)) in record {
       next = t.next;
       is_next =
           ap₂ slice_get (lines_joined first bytes more lines book j) place
           ∙ slice_get-past (texts lines) (heard_in book more).lines (length lost)
           ∙ t.is_next;
       runs = subst (λ b. RunsProgram b t.next) (sym (ap (after first) logged_is ∙ after_joined first lines book (logged_lines book more lost) j.logs)) t.runs;
-      tells = ap (λ w. told first lines ++ w) t.tells ∙ sym (ap (told first) logged_is ∙ told_joined first lines book (logged_lines book more lost) j.logs);
+      tells = ap (λ w. session_told first lines ++ w) t.tells ∙ sym (ap (session_told first) logged_is ∙ told_joined first lines book (logged_lines book more lost) j.logs);
     }
 
 -- all replies but the last
 all_but_last_joined : (first : Register) (lines : Lines) (book : Register) (logged : Lines) (lost : List Bool) (written : List ℕ) → book ≡ after first lines →
-    length (told book (take (length lost - 1) logged)) ≤ length written →
-    length (told first (take (length (marks lines ++ lost) - 1) (lines ++ logged))) ≤ length (told first lines ++ written)
+    length (session_told book (take (length lost - 1) logged)) ≤ length written →
+    length (session_told first (take (length (line_marks lines ++ lost) - 1) (lines ++ logged))) ≤ length (session_told first lines ++ written)
 all_but_last_joined first lines book logged [] written logs most =
-    let front : take (length (marks lines ++ []) - 1) (lines ++ logged) ≡ take (length lines - 1) lines =
+    let front : take (length (line_marks lines ++ []) - 1) (lines ++ logged) ≡ take (length lines - 1) lines =
     ap (λ n. take (n - 1) (lines ++ logged)) (count_two lines [])
     ∙ ap (λ n. take n (lines ++ logged)) (let same : (length lines + 0) - 1 ≡ length lines - 1 = omega arith in same)
     ∙ take-front lines logged (length lines - 1) (omega arith) in
-    omega (arith, ap (λ ls. length (told first ls)) front, told-take first lines (length lines - 1), length-append (told first lines) written)
+    omega (arith, ap (λ ls. length (session_told first ls)) front, told-take first lines (length lines - 1), length-append (session_told first lines) written)
   where
     take-front : (a b : Lines) (n : ℕ) → n ≤ length a → take n (a ++ b) ≡ take n a
     take-front a b zero within = refl
     take-front [] b (suc n) within = absurd (omega (arith, within))
     take-front (x ∷ a) b (suc n) within = ap (λ t. x ∷ t) (take-front a b n (omega (arith, within)))
 all_but_last_joined first lines book logged (m ∷ lost) written logs most =
-    let front : take (length (marks lines ++ m ∷ lost) - 1) (lines ++ logged) ≡ lines ++ take (length (m ∷ lost) - 1) logged =
+    let front : take (length (line_marks lines ++ m ∷ lost) - 1) (lines ++ logged) ≡ lines ++ take (length (m ∷ lost) - 1) logged =
     ap (λ n. take (n - 1) (lines ++ logged)) (count_two lines (m ∷ lost))
     ∙ ap (λ n. take n (lines ++ logged)) (let same : (length lines + suc (length lost)) - 1 ≡ length lines + (suc (length lost) - 1) = omega arith in same)
     ∙ take-past_lines lines logged (length (m ∷ lost) - 1) in
-    let whole = ap (told first) front ∙ told_joined first lines book (take (length (m ∷ lost) - 1) logged) logs in
-    omega (arith, ap length whole, most, length-append (told first lines) (told book (take (length (m ∷ lost) - 1) logged)), length-append (told first lines) written)
+    let whole = ap (session_told first) front ∙ told_joined first lines book (take (length (m ∷ lost) - 1) logged) logs in
+    omega (arith, ap length whole, most, length-append (session_told first lines) (session_told book (take (length (m ∷ lost) - 1) logged)), length-append (session_told first lines) written)
 
 off_joined : (first : Register) (bytes more : List ℕ) (lines : Lines) (book : Register) (lost : List Bool) (written : List ℕ) → Joined first bytes more lines book →
-    BreaksOff book more lost written → BreaksOff first (bytes ++ more) (marks lines ++ lost) (told first lines ++ written)
+    BreaksOff book more lost written → BreaksOff first (bytes ++ more) (line_marks lines ++ lost) (session_told first lines ++ written)
 off_joined first bytes more lines book lost written j t =
     let logged_is = logged_joined first bytes more lines book lost j in
     let whole = told_joined first lines book (logged_lines book more lost) j.logs in
-    let longer = length-append (told first lines) written in record {
+    let longer = length-append (session_told first lines) written in record {
       missing = t.missing;
       begins =
           text_joined first bytes more lines book lost j
-          ∙ ap (λ w. told first lines ++ w) t.begins
-          ∙ sym (append_assoc (told first lines) written t.missing);
+          ∙ ap (λ w. session_told first lines ++ w) t.begins
+          ∙ sym (append_assoc (session_told first lines) written t.missing);
       all_but_last =
-          subst (λ ls. length (told first (take (length (marks lines ++ lost) - 1) ls)) ≤ length (told first lines ++ written)) (sym logged_is)
+          subst (λ ls. length (session_told first (take (length (line_marks lines ++ lost) - 1) ls)) ≤ length (session_told first lines ++ written)) (sym logged_is)
           (all_but_last_joined first lines book (logged_lines book more lost) lost written j.logs t.all_but_last);
       no_other = elim t.no_other [
         | inl within ↦ inl (omega (
           arith,
           within,
           longer,
-          ap (λ ls. length (told first ls)) logged_is,
+          ap (λ ls. length (session_told first ls)) logged_is,
           ap length whole,
-          length-append (told first lines) (told book (logged_lines book more lost)),
+          length-append (session_told first lines) (session_told book (logged_lines book more lost)),
         ))
         | inr all ↦ inr (omega (
           arith,
@@ -225,7 +225,7 @@ off_joined first bytes more lines book lost written j t =
     }
 
 tells_joined : (first : Register) (bytes more : List ℕ) (lines : Lines) (book : Register) (lost : List Bool) (written : List ℕ) (result : Result End FrontFault) → Joined first bytes more lines book →
-    SessionTells book more lost written result → SessionTells first (bytes ++ more) (marks lines ++ lost) (told first lines ++ written) result
+    SessionTells book more lost written result → SessionTells first (bytes ++ more) (line_marks lines ++ lost) (session_told first lines ++ written) result
 tells_joined first bytes more lines book lost written (Ok end.EndOfInput) j t = all_joined first bytes more lines book lost written None j t
 tells_joined first bytes more lines book lost written (Ok end.Bye) j t = all_joined first bytes more lines book lost written (Some end.Bye) j t
 tells_joined first bytes more lines book lost written (Ok end.Full) j t = all_joined first bytes more lines book lost written (Some end.Full) j t
@@ -245,8 +245,8 @@ pub session_joined : {first : Register} {bytes : List ℕ} {book : Register} {pl
 session_joined {first} {bytes} {book} {plain} more new held now result going s =
     let j = joined_of going more in
     let lines = going.lines in record {
-      lost = marks lines ++ s.lost;
-      written = told first lines ++ s.written;
+      lost = line_marks lines ++ s.lost;
+      written = session_told first lines ++ s.written;
       few = omega (
         arith,
         s.few,
@@ -293,7 +293,7 @@ pub going_joined : {first : Register} {bytes : List ℕ} {book : Register} {plai
 going_joined {first} {bytes} {book} {plain} line new held now going s =
     let all = session_joined (line ++ 10 ∷ []) new held now (Ok end.EndOfInput) going s in
     let h = heard_in first (bytes ++ (line ++ 10 ∷ [])) in
-    let lines = marked h.lines all.lost in
+    let lines = marked_lines h.lines all.lost in
     let last : h ≡ hear (room_in first) (heard_in first (bytes ++ line)) 10 =
     ap (heard_in first) (sym (append_assoc bytes line (10 ∷ []))) ∙ heard-append (room_in first) (bytes ++ line) (10 ∷ []) in
     let ends : h.end ≡ None = all.tells.ends in
@@ -303,13 +303,13 @@ going_joined {first} {bytes} {book} {plain} line new held now going s =
       hears = heard_is h (texts lines) (sym (texts-marked h.lines all.lost)) partial ends;
       short = omega arith;
       logs = all.logs ∙ ap (after first) (take_all_lines (length all.lost) lines (omega (arith, all.tells.logs, length-marked h.lines all.lost)));
-      writes = all.writes ∙ all.tells.tells ∙ ap (λ e. told first lines ++ closing e) ends ∙ append-nil (told first lines);
+      writes = all.writes ∙ all.tells.tells ∙ ap (λ e. session_told first lines ++ closing e) ends ∙ append-nil (session_told first lines);
     }
   where
     heard_is : (h : Heard) (lines : List (List ℕ)) → h.lines ≡ lines → h.partial ≡ [] → h.end ≡ None → h ≡ at_line lines []
     heard_is h lines one two three = λ i. record { lines = one i; partial = two i; end = three i }
 
-    texts-marked : (lines : List (List ℕ)) (lost : List Bool) → texts (marked lines lost) ≡ lines
+    texts-marked : (lines : List (List ℕ)) (lost : List Bool) → texts (marked_lines lines lost) ≡ lines
     texts-marked [] lost = refl
     texts-marked (l ∷ lines) [] = ap (λ ls. l ∷ ls) (texts-marked lines [])
     texts-marked (l ∷ lines) (m ∷ lost) = ap (λ ls. l ∷ ls) (texts-marked lines lost)
@@ -323,6 +323,6 @@ pub breaks_joined : {first : Register} {bytes : List ℕ} {book : Register} {hel
 breaks_joined {first} {bytes} {book} {held} going =
     let hears : (heard_in first bytes).lines ≡ texts going.lines ++ [] = ap (λ (h : Heard). h.lines) going.hears ∙ sym (append-nil (texts going.lines)) in
     let off = breaks_between first bytes going.lines [] hears in (
-      session_of first (Some []) bytes book held going.lines [] (told first going.lines) (Err fault.Memory) hears going.logs going.writes off,
-      session_of first (Some []) bytes book held going.lines [] (told first going.lines) (Err fault.WriteFailed) hears going.logs going.writes off,
+      session_of first (Some []) bytes book held going.lines [] (session_told first going.lines) (Err fault.Memory) hears going.logs going.writes off,
+      session_of first (Some []) bytes book held going.lines [] (session_told first going.lines) (Err fault.WriteFailed) hears going.logs going.writes off,
     )

@@ -2,14 +2,14 @@
 use Rattle.std.proofs.Common.{◌≡◌, ℕ, suc, ◌+◌, ◌<◌, ◌≤◌, List, [], ◌∷◌, ◌++◌, length, take, length-take-le, append_assoc, append-nil, le_refl, refl, sym, ap, subst, ◌∙◌, arith}
 use Rattle.std.specs.Prelude.{All, Option, Some, None, Result, Ok, Err, ⊤, IfOk, IfErr}
 use Rattle.std.specs.Io.KnownBytes.{Appends, Consumes}
-use Rattle.ot_lines.specs.Lines.{Flow, Hearing, HasNoEnd, opened, Passes, IsIdle, ended, IsLine, Went, Through, Ends, Listens, Stops as StopsAt}
+use Rattle.ot_lines.specs.Lines.{Flow, Hearing, HasNoEnd, hearing_opened, Passes, IsIdle, lines_ended, IsLine, Went, Through, Ends, Listens, Stops as StopsAt}
 use Rattle.ot_lines.specs.declared.lines.LineFault.{LineFault}
 use Rattle.ot_lines.specs.declared.lines.LineFault.TheVariants as lines
 use Rattle.ot_lines.specs.declared.listener.Ended.{Ended}
 use Rattle.ot_lines.specs.declared.listener.Ended.TheVariants as ended_as
 use Rattle.ot_book.specs.Books.{Register, next_number}
 use Rattle.ot_session.specs.Serving.{AppendsFront, Going, session_bounds, result_of}
-use Rattle.ot_session.specs.Session.{Heard, max_line, closing, Session, told, texts}
+use Rattle.ot_session.specs.Session.{Heard, max_line, closing, Session, session_told, texts}
 use Rattle.ot_session.specs.declared.fault.End.{End}
 use Rattle.ot_session.specs.declared.fault.End.TheVariants as end
 use Rattle.ot_session.specs.declared.fault.FrontFault.{FrontFault}
@@ -41,9 +41,9 @@ begun_line book held line clean short = going_piece line (going_nothing book hel
 
 pub served_on : {old new : Register} {held now : Option (List ℕ)} {bytes partial : List ℕ} → Going old held bytes partial new now → Served old new bytes held now None
 served_on {old} {new} {held} {now} {bytes} {partial} going =
-    session_of old held bytes new now going.lines [] (told old going.lines ++ []) (Ok end.EndOfInput)
+    session_of old held bytes new now going.lines [] (session_told old going.lines ++ []) (Ok end.EndOfInput)
     (ap (λ (h : Heard). h.lines) going.hears ∙ sym (append-nil (texts going.lines))) going.logs
-    (subst (Appends held now) (sym (append-nil (told old going.lines))) going.writes)
+    (subst (Appends held now) (sym (append-nil (session_told old going.lines))) going.writes)
     (tells_all old bytes going.lines partial None going.hears)
 
 pub is_stop : (why : Stop) → IsStop (result_of why)
@@ -67,7 +67,7 @@ module _ {A : Type 0} (contents : A → Option (List ℕ)) where
 
   went_explaining : (first : Register) (start : Option (List ℕ)) → first.pending ≡ None → (lines : List (List ℕ)) → All (IsLine max_line) lines → (old : Talk) (a : A) (new : Talk) (b : A) →
       Went Took old a lines new b → (bytes : List ℕ) → Explaining first start bytes [] old.book (contents a) old.said →
-      Explaining first start (bytes ++ ended lines) [] new.book (contents b) new.said
+      Explaining first start (bytes ++ lines_ended lines) [] new.book (contents b) new.said
   went_explaining first start closed [] are old a new b went bytes e =
       subst (λ bs. Explaining first start bs [] new.book (contents b) new.said) (sym (append-nil bytes))
       (subst (λ (n : Talk). Explaining first start bytes [] n.book (contents b) n.said) (sym went.0) (subst (λ s. Explaining first start bytes [] old.book (contents s) old.said) (sym went.1) e))
@@ -75,11 +75,11 @@ module _ {A : Type 0} (contents : A → Option (List ℕ)) where
       let is : IsLine max_line line = are 0 [] (omega arith) in
       let rest : All (IsLine max_line) lines = λ k d within. are (suc k) d (omega (arith, within)) in
       subst (λ bs. Explaining first start bs [] new.book (contents b) new.said)
-      (append_assoc bytes (line ++ 10 ∷ []) (ended lines) ∙ ap (λ bs. bytes ++ bs) (append_assoc line (10 ∷ []) (ended lines)))
+      (append_assoc bytes (line ++ 10 ∷ []) (lines_ended lines) ∙ ap (λ bs. bytes ++ bs) (append_assoc line (10 ∷ []) (lines_ended lines)))
       (went_explaining first start closed lines rest mid more new b later (bytes ++ (line ++ 10 ∷ [])) (took.goes first start bytes closed is.clean is.short e))
 
   through : {to : Hearing} {f h : Flow} {first new : Talk} {a b : A} {rest : List ℕ} {n m : ℕ} → first.book.pending ≡ None → first.said ≡ AllTaken →
-      (t : Through Took (opened session_bounds) f first a to h new b rest n m) → Explaining first.book (contents a) (ended t.lines) [] new.book (contents b) new.said
+      (t : Through Took (hearing_opened session_bounds) f first a to h new b rest n m) → Explaining first.book (contents a) (lines_ended t.lines) [] new.book (contents b) new.said
   through {first = first} {new = new} {a = a} {b = b} closed says t =
       went_explaining first.book (contents a) closed t.lines t.are first a new b t.went [] (explaining_first first.book (contents a) [] first.said refl says)
 
@@ -99,7 +99,7 @@ module _ {A : Type 0} (contents : A → Option (List ℕ)) where
       (e : Explaining first start bytes [] book held said) → Going first (Some []) bytes [] book (Some (without_remarks e.text))
   plain_going {first} {book = book} e = subst (λ bs. Going first (Some []) bs [] book (Some (without_remarks e.text))) (sym (e.is ∙ append-nil e.begun)) e.going
 
-  reads_all : {to : Hearing} {f h : Flow} {bytes : List ℕ} {n m : ℕ} → Passes (opened session_bounds) f to h bytes n m → Consumes f.ahead h.ahead (bytes ++ to.ahead)
+  reads_all : {to : Hearing} {f h : Flow} {bytes : List ℕ} {n m : ℕ} → Passes (hearing_opened session_bounds) f to h bytes n m → Consumes f.ahead h.ahead (bytes ++ to.ahead)
   reads_all {to} {f} {h} {bytes} p = consumed f.ahead h.ahead to.ahead bytes p.heard
 
   -- it stopped at this byte
@@ -116,13 +116,13 @@ module _ {A : Type 0} (contents : A → Option (List ℕ)) where
   }
 
   pub by_stop : (from to : Hearing) (f h : Flow) (first new : Talk) (a b : A) (field : Ended (Result End FrontFault)) (why : Result End FrontFault) →
-      field ≡ ended_as.Stopped why → from ≡ opened session_bounds → first.book.pending ≡ None → first.said ≡ AllTaken → Listens Took from f first a to h new b (Ok field) →
+      field ≡ ended_as.Stopped why → from ≡ hearing_opened session_bounds → first.book.pending ≡ None → first.said ≡ AllTaken → Listens Took from f first a to h new b (Ok field) →
       Comes first.book new.book new.said f h (contents a) (contents b) why
   by_stop from to f h first new a b field why is begun closed says l =
-      let s : StopsAt Took (opened session_bounds) f first a to h new b why =
-      subst (λ (e : Ended (Result End FrontFault)). Listens Took (opened session_bounds) f first a to h new b (Ok e)) is (subst (λ x. Listens Took x f first a to h new b (Ok field)) begun l) in
+      let s : StopsAt Took (hearing_opened session_bounds) f first a to h new b why =
+      subst (λ (e : Ended (Result End FrontFault)). Listens Took (hearing_opened session_bounds) f first a to h new b (Ok e)) is (subst (λ x. Listens Took x f first a to h new b (Ok field)) begun l) in
       let t = s.through in
-      let bytes = ended t.lines in
+      let bytes = lines_ended t.lines in
       let e = through closed says t in
       let line : bytes ++ (to.line ++ 10 ∷ []) ≡ (bytes ++ to.line) ++ 10 ∷ [] = sym (append_assoc bytes to.line (10 ∷ [])) in
       let going = going_piece to.line (plain_going e) s.is.clean (omega (arith, s.is.short)) in
@@ -132,8 +132,8 @@ module _ {A : Type 0} (contents : A → Option (List ℕ)) where
 
   -- all that was read was heard
   idle_explaining : {to : Hearing} {f h : Flow} {first new : Talk} {a b : A} {n m : ℕ} → first.book.pending ≡ None → first.said ≡ AllTaken →
-      (t : Through Took (opened session_bounds) f first a to h new b to.line n m) → HasNoEnd to.line → IsIdle to →
-      Explaining first.book (contents a) (ended t.lines ++ to.line) to.line new.book (contents b) new.said
+      (t : Through Took (hearing_opened session_bounds) f first a to h new b to.line n m) → HasNoEnd to.line → IsIdle to →
+      Explaining first.book (contents a) (lines_ended t.lines ++ to.line) to.line new.book (contents b) new.said
   idle_explaining {to} closed says t clean idle =
       let e = through closed says t in
       let top : to.longest ≡ 65536 = t.passes.longest in record {
@@ -148,16 +148,16 @@ module _ {A : Type 0} (contents : A → Option (List ℕ)) where
         noted = e.noted;
       }
 
-  idle_reads : {to : Hearing} {f h : Flow} {bytes : List ℕ} {n m : ℕ} → Passes (opened session_bounds) f to h bytes n m → to.ahead ≡ [] → Consumes f.ahead h.ahead bytes
+  idle_reads : {to : Hearing} {f h : Flow} {bytes : List ℕ} {n m : ℕ} → Passes (hearing_opened session_bounds) f to h bytes n m → to.ahead ≡ [] → Consumes f.ahead h.ahead bytes
   idle_reads {to} {f} {h} {bytes} p none =
       subst (Consumes f.ahead h.ahead) (append-nil bytes) (subst (λ ahead. Consumes f.ahead h.ahead (bytes ++ ahead)) none (reads_all p))
 
   pub by_end : (from to : Hearing) (f h : Flow) (first new : Talk) (a b : A) (field : Ended (Result End FrontFault)) →
-      field ≡ ended_as.End → from ≡ opened session_bounds → first.book.pending ≡ None → first.said ≡ AllTaken → Listens Took from f first a to h new b (Ok field) →
+      field ≡ ended_as.End → from ≡ hearing_opened session_bounds → first.book.pending ≡ None → first.said ≡ AllTaken → Listens Took from f first a to h new b (Ok field) →
       Comes first.book new.book new.said f h (contents a) (contents b) (Ok end.EndOfInput)
   by_end from to f h first new a b field is begun closed says l =
-      let s : Ends Took (opened session_bounds) f first a to h new b (Ok ended_as.End) =
-      subst (λ (e : Ended (Result End FrontFault)). Listens Took (opened session_bounds) f first a to h new b (Ok e)) is (subst (λ x. Listens Took x f first a to h new b (Ok field)) begun l) in
+      let s : Ends Took (hearing_opened session_bounds) f first a to h new b (Ok ended_as.End) =
+      subst (λ (e : Ended (Result End FrontFault)). Listens Took (hearing_opened session_bounds) f first a to h new b (Ok e)) is (subst (λ x. Listens Took x f first a to h new b (Ok field)) begun l) in
       let e = idle_explaining closed says s.through s.clean s.is.0 in
       let reads = idle_reads s.through.passes s.is.0.none in record {
         explains = explains_idle h.ahead h.ahead h.latest (Ok end.EndOfInput) reads e reads tt;
@@ -165,11 +165,11 @@ module _ {A : Type 0} (contents : A → Option (List ℕ)) where
       }
 
   pub by_read_failed : (from to : Hearing) (f h : Flow) (first new : Talk) (a b : A) (field : LineFault) →
-      field ≡ lines.ReadFailed → from ≡ opened session_bounds → first.book.pending ≡ None → first.said ≡ AllTaken → Listens Took from f first a to h new b (Err field) →
+      field ≡ lines.ReadFailed → from ≡ hearing_opened session_bounds → first.book.pending ≡ None → first.said ≡ AllTaken → Listens Took from f first a to h new b (Err field) →
       Comes first.book new.book new.said f h (contents a) (contents b) (Err fault.ReadFailed)
   by_read_failed from to f h first new a b field is begun closed says l =
-      let s : Ends Took (opened session_bounds) f first a to h new b (Err lines.ReadFailed) =
-      subst (λ (e : LineFault). Listens Took (opened session_bounds) f first a to h new b (Err e)) is (subst (λ x. Listens Took x f first a to h new b (Err field)) begun l) in
+      let s : Ends Took (hearing_opened session_bounds) f first a to h new b (Err lines.ReadFailed) =
+      subst (λ (e : LineFault). Listens Took (hearing_opened session_bounds) f first a to h new b (Err e)) is (subst (λ x. Listens Took x f first a to h new b (Err field)) begun l) in
       let e = idle_explaining closed says s.through s.clean s.is in
       let reads = idle_reads s.through.passes s.is.none in record {
         explains = explains_idle h.ahead h.ahead h.latest (Err fault.ReadFailed) reads e reads tt;
@@ -177,11 +177,11 @@ module _ {A : Type 0} (contents : A → Option (List ℕ)) where
       }
 
   pub by_turns : (from to : Hearing) (f h : Flow) (first new : Talk) (a b : A) (field : LineFault) →
-      field ≡ lines.TooManyReads → from ≡ opened session_bounds → first.book.pending ≡ None → first.said ≡ AllTaken → Listens Took from f first a to h new b (Err field) →
+      field ≡ lines.TooManyReads → from ≡ hearing_opened session_bounds → first.book.pending ≡ None → first.said ≡ AllTaken → Listens Took from f first a to h new b (Err field) →
       Comes first.book new.book new.said f h (contents a) (contents b) (Err fault.TooManyTurns)
   by_turns from to f h first new a b field is begun closed says l =
-      let s : Ends Took (opened session_bounds) f first a to h new b (Err lines.TooManyReads) =
-      subst (λ (e : LineFault). Listens Took (opened session_bounds) f first a to h new b (Err e)) is (subst (λ x. Listens Took x f first a to h new b (Err field)) begun l) in
+      let s : Ends Took (hearing_opened session_bounds) f first a to h new b (Err lines.TooManyReads) =
+      subst (λ (e : LineFault). Listens Took (hearing_opened session_bounds) f first a to h new b (Err e)) is (subst (λ x. Listens Took x f first a to h new b (Err field)) begun l) in
       let e = idle_explaining closed says s.through s.clean s.is.0 in
       let reads = idle_reads s.through.passes s.is.0.none in record {
         explains = explains_idle h.ahead h.ahead h.latest (Err fault.TooManyTurns) reads e reads tt;
@@ -189,21 +189,21 @@ module _ {A : Type 0} (contents : A → Option (List ℕ)) where
       }
 
   pub by_long : (from to : Hearing) (f h : Flow) (first new : Talk) (a b c : A) (field : Ended (Result End FrontFault)) (r : Result End FrontFault) →
-      field ≡ ended_as.Long → from ≡ opened session_bounds → first.book.pending ≡ None → first.said ≡ AllTaken → Listens Took from f first a to h new b (Ok field) →
+      field ≡ ended_as.Long → from ≡ hearing_opened session_bounds → first.book.pending ≡ None → first.said ≡ AllTaken → Listens Took from f first a to h new b (Ok field) →
       IfOk r (λ x. (x ≡ end.LongLine) × Appends (contents b) (contents c) (closing (Some end.LongLine))) →
       IfErr r (λ why. (why ≡ fault.WriteFailed) × AppendsFront (contents b) (contents c) (closing (Some end.LongLine))) →
       Comes first.book new.book new.said f h (contents a) (contents c) r
-  by_long from to f h first new a b c field r is begun closed says l told cut =
-      let s : Ends Took (opened session_bounds) f first a to h new b (Ok ended_as.Long) =
-      subst (λ (e : Ended (Result End FrontFault)). Listens Took (opened session_bounds) f first a to h new b (Ok e)) is (subst (λ x. Listens Took x f first a to h new b (Ok field)) begun l) in
+  by_long from to f h first new a b c field r is begun closed says l session_told cut =
+      let s : Ends Took (hearing_opened session_bounds) f first a to h new b (Ok ended_as.Long) =
+      subst (λ (e : Ended (Result End FrontFault)). Listens Took (hearing_opened session_bounds) f first a to h new b (Ok e)) is (subst (λ x. Listens Took x f first a to h new b (Ok field)) begun l) in
       let t = s.through in
-      let bytes = ended t.lines in
+      let bytes = lines_ended t.lines in
       let e = through closed says t in
       let long : length to.line ≡ suc 65536 = s.is.0 ∙ ap suc t.passes.longest in
       let last = last_of to.line 65536 long in
       let front = take 65536 to.line in
       let going = going_piece front (plain_going e) (clean_take to.line 65536 (omega (arith, long)) s.clean) (omega (arith, long, length-take-le 65536 to.line (omega (arith, long)))) in
       let line : bytes ++ to.line ≡ (bytes ++ front) ++ last.0 ∷ [] = ap (λ xs. bytes ++ xs) last.1 ∙ sym (append_assoc bytes front (last.0 ∷ [])) in
-      let stopped = subst (λ bs. Stopped first.book new.book (contents a) bs (contents c) new.said r) line (explaining_ends to.line (contents c) r e s.clean (omega (arith, long)) told cut) in
+      let stopped = subst (λ bs. Stopped first.book new.book (contents a) bs (contents c) new.said r) line (explaining_ends to.line (contents c) r e s.clean (omega (arith, long)) session_told cut) in
       stopped_in (Some (without_remarks e.text)) last.0 f h t.passes.earlier to.since to.ahead r going stopped (sym line ∙ t.passes.since) s.is.1.some (t.passes.latest (omega arith))
       (subst (λ bs. Consumes f.ahead h.ahead (bs ++ to.ahead)) line (reads_all t.passes)) (le_refl (next_number new.book))

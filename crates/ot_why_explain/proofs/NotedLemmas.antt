@@ -3,9 +3,9 @@ use Rattle.std.proofs.Common.{◌≡◌, ℕ, zero, suc, List, [], ◌∷◌, �
 use Rattle.std.specs.Prelude.{Option, Some, None, is_some, if◌then◌else◌, slice_get}
 use Rattle.std.specs.Io.KnownBytes.{Appends, Consumes}
 use Rattle.std.proofs.lemmas.Bool.Decides.{leb_tells}
-use Rattle.ot_book.specs.Books.{Register, logged}
+use Rattle.ot_book.specs.Books.{Register, line_logged}
 use Rattle.ot_book.specs.Room.{Room, room_in, takes, room_after}
-use Rattle.ot_session.specs.Session.{Heard, heard, hear, with_line, is_bye, HasNoEnd, max_line, closing, heard_in, logged_lines, TellsAll, LeavesRun, Lines, texts, marked, after, told, reply_line}
+use Rattle.ot_session.specs.Session.{Heard, heard, hear, with_line, is_bye, HasNoEnd, max_line, closing, heard_in, logged_lines, TellsAll, LeavesRun, Lines, texts, marked_lines, after, session_told, reply_line}
 use Rattle.ot_session.specs.declared.fault.End.{End}
 use Rattle.ot_session.specs.declared.fault.End.TheVariants as end
 use Rattle.ot_session.proofs.HeardLemmas.{at_line, heard-append, lines_grow, heard-piece, heard-long}
@@ -50,11 +50,11 @@ pub quiet_all : (book : Register) (bytes : List ℕ) (lost : List Bool) (written
     (written ≡ closing (Some e)) × (logged_lines book bytes lost ≡ [])
 quiet_all book bytes lost written e (inl none) t =
     let h = heard_in book bytes in (
-      t.tells ∙ ap (λ ls. told book (marked ls lost) ++ closing h.end) none.0 ∙ ap closing t.ends,
-      ap (λ ls. take (length lost) (marked ls lost)) none.0 ∙ take_none lost (length lost),
+      t.tells ∙ ap (λ ls. session_told book (marked_lines ls lost) ++ closing h.end) none.0 ∙ ap closing t.ends,
+      ap (λ ls. take (length lost) (marked_lines ls lost)) none.0 ∙ take_none lost (length lost),
     )
   where
-    take_none : (lost : List Bool) (n : ℕ) → take n (marked [] lost) ≡ []
+    take_none : (lost : List Bool) (n : ℕ) → take n (marked_lines [] lost) ≡ []
     take_none lost zero = refl
     take_none lost (suc n) = refl
 quiet_all book bytes lost written e (inr one) t = absurd (some_end e (sym t.ends ∙ one.2))
@@ -63,7 +63,7 @@ pub quiet_run : (book : Register) (bytes : List ℕ) (lost : List Bool) (written
     (written ≡ []) × (logged_lines book bytes lost ≡ [])
 quiet_run book bytes lost written one t =
     let none : logged_lines book bytes lost ≡ [] = by_lost lost one t.is_next in
-    (t.tells ∙ ap (told book) none, none)
+    (t.tells ∙ ap (session_told book) none, none)
   where
     no_place : (line next : List ℕ) (n : ℕ) → slice_get (line ∷ []) (suc n) ≡ Some next → ⊥
     no_place line next zero is = cc
@@ -82,7 +82,7 @@ quiet_run book bytes lost written one t =
 pub record Replied (book new : Register) (bytes written : List ℕ) : Type 0 where
   pub line : List ℕ × Bool
   pub hears : (heard_in book bytes).lines ≡ line.0 ∷ []
-  pub logs : new ≡ logged book line.0 line.1
+  pub logs : new ≡ line_logged book line.0 line.1
   pub tells : written ≡ reply_line book line
 
 pub replied_of : (book new : Register) (bytes : List ℕ) (lost : List Bool) (written : List ℕ) → IsOneLine (heard_in book bytes) → new ≡ after book (logged_lines book bytes lost) →
@@ -94,21 +94,21 @@ replied_of book new bytes lost written (inr one) logs t = by_lost lost t.logs lo
     end_is = ap closing one.2
 
     by_lost : (marks : List Bool) → length marks ≡ length (heard_in book bytes).lines → new ≡ after book (logged_lines book bytes marks) →
-        written ≡ told book (marked (heard_in book bytes).lines marks) ++ closing (heard_in book bytes).end → Replied book new bytes written
+        written ≡ session_told book (marked_lines (heard_in book bytes).lines marks) ++ closing (heard_in book bytes).end → Replied book new bytes written
     by_lost [] count logs tells = absurd (omega (arith, count, ap length one.1))
     by_lost (m ∷ marks) count logs tells = record {
       line = (one.0, m);
       hears = one.1;
-      logs = logs ∙ ap (λ ls. after book (take (length (m ∷ marks)) (marked ls (m ∷ marks)))) one.1 ∙ ap (after book) (first_of (length marks));
+      logs = logs ∙ ap (λ ls. after book (take (length (m ∷ marks)) (marked_lines ls (m ∷ marks)))) one.1 ∙ ap (after book) (first_of (length marks));
       tells =
           tells
-          ∙ ap (λ ls. told book (marked ls (m ∷ marks)) ++ closing (heard_in book bytes).end) one.1
+          ∙ ap (λ ls. session_told book (marked_lines ls (m ∷ marks)) ++ closing (heard_in book bytes).end) one.1
           ∙ ap (λ e. (reply_line book (one.0, m) ++ []) ++ e) end_is
           ∙ append-nil (reply_line book (one.0, m) ++ [])
           ∙ append-nil (reply_line book (one.0, m));
     }
       where
-        first_of : (n : ℕ) → let lines : Lines = (one.0, m) ∷ marked [] marks in take (suc n) lines ≡ (one.0, m) ∷ []
+        first_of : (n : ℕ) → let lines : Lines = (one.0, m) ∷ marked_lines [] marks in take (suc n) lines ≡ (one.0, m) ∷ []
         first_of zero = refl
         first_of (suc n) = refl
 
@@ -123,7 +123,7 @@ pub noted_more : {first book : Register} {begun text : List ℕ} {said : Explain
     AreOn (last_code new) remarks → now ≡ said_on said (is_some (last_code new)) → Noted first new (begun ++ more) (text ++ (written ++ remarks)) now
 noted_more {first} {book} {begun} {text} {said} more written remarks new now joined n r are now_is =
     let line = r.line in
-    let logs : new ≡ logged (after first n.lines) line.0 line.1 = r.logs ∙ ap (λ b. logged b line.0 line.1) n.logs in record {
+    let logs : new ≡ line_logged (after first n.lines) line.0 line.1 = r.logs ∙ ap (λ b. line_logged b line.0 line.1) n.logs in record {
       lines = n.lines ++ line ∷ [];
       hears = joined ∙ ap (λ ls. ls ++ (heard_in book more).lines) n.hears ∙ ap (λ ls. texts n.lines ++ ls) r.hears ∙ sym (texts-more n.lines line);
       logs = logs ∙ sym (after-more first n.lines line);

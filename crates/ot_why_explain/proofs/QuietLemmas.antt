@@ -3,10 +3,10 @@ use Rattle.std.proofs.Common.{◌≡◌, ℕ, suc, ◌+◌, ◌<◌, ◌≤◌, 
 use Rattle.std.specs.Prelude.{All, Option, None, Result, Ok, Err, ⊤, IfOk, is_some}
 use Rattle.std.specs.Io.KnownBytes.{Appends, Consumes}
 use Rattle.std.proofs.KnownBytes.{Appends-nil, Appends-trans}
-use Rattle.ot_lines.specs.Lines.{Flow, Hearing, HasNoEnd, opened, Passes, ended, IsLine, Went, Through, Ends, Listens, Stops as StopsAt}
+use Rattle.ot_lines.specs.Lines.{Flow, Hearing, HasNoEnd, hearing_opened, Passes, lines_ended, IsLine, Went, Through, Ends, Listens, Stops as StopsAt}
 use Rattle.ot_lines.specs.declared.listener.Ended.{Ended}
 use Rattle.ot_lines.specs.declared.listener.Ended.TheVariants as ended_as
-use Rattle.ot_book.specs.Books.{Register, next_number, logged}
+use Rattle.ot_book.specs.Books.{Register, next_number, line_logged}
 use Rattle.ot_book.specs.Room.{room_in}
 use Rattle.ot_session.specs.Session.{Heard, max_line, heard_in, Session, Serves, Lines, after, texts}
 use Rattle.ot_session.specs.Serving.{Going, session_bounds, result_of}
@@ -33,10 +33,10 @@ use Rattle.ot_why_explain.proofs.ListenLemmas.{is_stop, served_on}
 -- ---- one line
 
 remarks_more : (book : Register) (lines : Lines) (line : List ℕ × Bool) (text remarks : List ℕ) → RemarksOn book lines text →
-    AreOn (last_code (logged (after book lines) line.0 line.1)) remarks → RemarksOn book (lines ++ line ∷ []) (text ++ remarks)
+    AreOn (last_code (line_logged (after book lines) line.0 line.1)) remarks → RemarksOn book (lines ++ line ∷ []) (text ++ remarks)
 remarks_more book [] line text remarks none are = (remarks, [], ap (λ t. t ++ remarks) none ∙ sym (append-nil remarks), are, refl)
 remarks_more book (l ∷ lines) line text remarks (own, later, is, on, more) are =
-    (own, later ++ remarks, ap (λ t. t ++ remarks) is ∙ append_assoc own later remarks, on, remarks_more (logged book l.0 l.1) lines line later remarks more are)
+    (own, later ++ remarks, ap (λ t. t ++ remarks) is ∙ append_assoc own later remarks, on, remarks_more (line_logged book l.0 l.1) lines line later remarks more are)
 
 -- no request of the book is open
 pub hushed_closed : {first : Register} {start : Option (List ℕ)} {bytes : List ℕ} {book : Register} {held : Option (List ℕ)} {said : Explained} →
@@ -57,7 +57,7 @@ hushed_on {first} {start} {bytes} {book} {held} {said} line new now later h clea
     let more = line ++ 10 ∷ [] in
     let s : Session book new more None None (Ok end.EndOfInput) = served_on alone in
     let r = replied_of book new more s.lost s.written (one_line (room_in book) line clean) s.logs s.tells in
-    let logs : new ≡ logged (after first h.lines) r.line.0 r.line.1 = r.logs ∙ ap (λ b. logged b r.line.0 r.line.1) h.logs in
+    let logs : new ≡ line_logged (after first h.lines) r.line.0 r.line.1 = r.logs ∙ ap (λ b. line_logged b r.line.0 r.line.1) h.logs in
     let joined : (heard_in first (bytes ++ more)).lines ≡ (heard_in first bytes).lines ++ (heard_in book more).lines =
     ap (λ (x : Heard). x.lines) (heard_behind h.going more) ∙ ap (λ (x : Heard). x.lines ++ (heard_in book more).lines) (sym h.going.hears) in record {
       going = subst (λ bs. Going first None bs [] new None) (append_assoc bytes line (10 ∷ [])) going;
@@ -140,7 +140,7 @@ module _ {A : Type 0} (contents : A → Option (List ℕ)) where
   Took old a line new b result = HushesLine old.book old.said (contents a) line new.book new.said (contents b) result
 
   went_hushed : (first : Register) (start : Option (List ℕ)) → first.pending ≡ None → (lines : List (List ℕ)) → All (IsLine max_line) lines → (old : Talk) (a : A) (new : Talk) (b : A) →
-      Went Took old a lines new b → (bytes : List ℕ) → Hushed first start bytes old.book (contents a) old.said → Hushed first start (bytes ++ ended lines) new.book (contents b) new.said
+      Went Took old a lines new b → (bytes : List ℕ) → Hushed first start bytes old.book (contents a) old.said → Hushed first start (bytes ++ lines_ended lines) new.book (contents b) new.said
   went_hushed first start closed [] are old a new b went bytes e =
       subst (λ bs. Hushed first start bs new.book (contents b) new.said) (sym (append-nil bytes))
       (subst (λ (n : Talk). Hushed first start bytes n.book (contents b) n.said) (sym went.0) (subst (λ s. Hushed first start bytes old.book (contents s) old.said) (sym went.1) e))
@@ -148,15 +148,15 @@ module _ {A : Type 0} (contents : A → Option (List ℕ)) where
       let is : IsLine max_line line = are 0 [] (omega arith) in
       let rest : All (IsLine max_line) lines = λ k d within. are (suc k) d (omega (arith, within)) in
       subst (λ bs. Hushed first start bs new.book (contents b) new.said)
-      (append_assoc bytes (line ++ 10 ∷ []) (ended lines) ∙ ap (λ bs. bytes ++ bs) (append_assoc line (10 ∷ []) (ended lines)))
+      (append_assoc bytes (line ++ 10 ∷ []) (lines_ended lines) ∙ ap (λ bs. bytes ++ bs) (append_assoc line (10 ∷ []) (lines_ended lines)))
       (went_hushed first start closed lines rest mid more new b later (bytes ++ (line ++ 10 ∷ [])) (took.goes first start bytes closed is.clean is.short e))
 
   through : {to : Hearing} {f h : Flow} {first new : Talk} {a b : A} {rest : List ℕ} {n m : ℕ} → first.book.pending ≡ None → first.said ≡ AllTaken →
-      (t : Through Took (opened session_bounds) f first a to h new b rest n m) → Hushed first.book (contents a) (ended t.lines) new.book (contents b) new.said
+      (t : Through Took (hearing_opened session_bounds) f first a to h new b rest n m) → Hushed first.book (contents a) (lines_ended t.lines) new.book (contents b) new.said
   through {first = first} {new = new} {a = a} {b = b} closed says t =
       went_hushed first.book (contents a) closed t.lines t.are first a new b t.went [] (hushed_nothing first.book (contents a) first.said says)
 
-  reads_all : {to : Hearing} {f h : Flow} {bytes : List ℕ} {n m : ℕ} → Passes (opened session_bounds) f to h bytes n m → Consumes f.ahead h.ahead (bytes ++ to.ahead)
+  reads_all : {to : Hearing} {f h : Flow} {bytes : List ℕ} {n m : ℕ} → Passes (hearing_opened session_bounds) f to h bytes n m → Consumes f.ahead h.ahead (bytes ++ to.ahead)
   reads_all {to} {f} {h} {bytes} p = consumed f.ahead h.ahead to.ahead bytes p.heard
 
   stopped_alone : (to : Hearing) (f h : Flow) (first mid new : Talk) (a b c : A) (why : Result End FrontFault) (bytes : List ℕ) →
@@ -175,25 +175,25 @@ module _ {A : Type 0} (contents : A → Option (List ℕ)) where
   stopped_alone to f h first mid new a b c (Err why) bytes stop hushed clean short earlier since some few reads grows = tt
 
   pub by_stop : (from to : Hearing) (f h : Flow) (first new : Talk) (a b : A) (field : Ended (Result End FrontFault)) (why : Result End FrontFault) →
-      field ≡ ended_as.Stopped why → from ≡ opened session_bounds → first.book.pending ≡ None → first.said ≡ AllTaken → Listens Took from f first a to h new b (Ok field) →
+      field ≡ ended_as.Stopped why → from ≡ hearing_opened session_bounds → first.book.pending ≡ None → first.said ≡ AllTaken → Listens Took from f first a to h new b (Ok field) →
       IfOk why (λ e. RemarksAlone first.book new.book f.ahead h.ahead h.latest (contents a) (contents b) e (said_at e new.said))
   by_stop from to f h first new a b field why is begun closed calm l =
-      let s : StopsAt Took (opened session_bounds) f first a to h new b why =
-      subst (λ (e : Ended (Result End FrontFault)). Listens Took (opened session_bounds) f first a to h new b (Ok e)) is (subst (λ x. Listens Took x f first a to h new b (Ok field)) begun l) in
+      let s : StopsAt Took (hearing_opened session_bounds) f first a to h new b why =
+      subst (λ (e : Ended (Result End FrontFault)). Listens Took (hearing_opened session_bounds) f first a to h new b (Ok e)) is (subst (λ x. Listens Took x f first a to h new b (Ok field)) begun l) in
       let t = s.through in
       let hushed = through closed calm t in
-      let took = s.last.goes first.book (contents a) (ended t.lines) closed s.is.clean s.is.short hushed in
-      stopped_alone to f h first s.mid new a s.more b why (ended t.lines) took hushed s.is.clean s.is.short
+      let took = s.last.goes first.book (contents a) (lines_ended t.lines) closed s.is.clean s.is.short hushed in
+      stopped_alone to f h first s.mid new a s.more b why (lines_ended t.lines) took hushed s.is.clean s.is.short
       t.passes.earlier t.passes.since s.amid.some (t.passes.latest (omega arith)) (reads_all t.passes) s.last.grows
 
   pub by_end : (from to : Hearing) (f h : Flow) (first new : Talk) (a b : A) (field : Ended (Result End FrontFault)) →
-      field ≡ ended_as.End → from ≡ opened session_bounds → first.book.pending ≡ None → first.said ≡ AllTaken → Listens Took from f first a to h new b (Ok field) →
+      field ≡ ended_as.End → from ≡ hearing_opened session_bounds → first.book.pending ≡ None → first.said ≡ AllTaken → Listens Took from f first a to h new b (Ok field) →
       RemarksAlone first.book new.book f.ahead h.ahead h.latest (contents a) (contents b) end.EndOfInput (said_at end.EndOfInput new.said)
   by_end from to f h first new a b field is begun closed calm l =
-      let s : Ends Took (opened session_bounds) f first a to h new b (Ok ended_as.End) =
-      subst (λ (e : Ended (Result End FrontFault)). Listens Took (opened session_bounds) f first a to h new b (Ok e)) is (subst (λ x. Listens Took x f first a to h new b (Ok field)) begun l) in
+      let s : Ends Took (hearing_opened session_bounds) f first a to h new b (Ok ended_as.End) =
+      subst (λ (e : Ended (Result End FrontFault)). Listens Took (hearing_opened session_bounds) f first a to h new b (Ok e)) is (subst (λ x. Listens Took x f first a to h new b (Ok field)) begun l) in
       let t = s.through in
-      let bytes = ended t.lines ++ to.line in
+      let bytes = lines_ended t.lines ++ to.line in
       let top : to.longest ≡ 65536 = t.passes.longest in
       let hushed = through closed calm t in
       let reads : Consumes f.ahead h.ahead bytes =
@@ -203,13 +203,13 @@ module _ {A : Type 0} (contents : A → Option (List ℕ)) where
       told_alone f.ahead h.ahead h.latest to.line new.book (contents b) new.said end.EndOfInput hushed refl refl refl serves reads
 
   pub by_long : (from to : Hearing) (f h : Flow) (first new : Talk) (a b : A) (field : Ended (Result End FrontFault)) →
-      field ≡ ended_as.Long → from ≡ opened session_bounds → first.book.pending ≡ None → first.said ≡ AllTaken → Listens Took from f first a to h new b (Ok field) →
+      field ≡ ended_as.Long → from ≡ hearing_opened session_bounds → first.book.pending ≡ None → first.said ≡ AllTaken → Listens Took from f first a to h new b (Ok field) →
       RemarksAlone first.book new.book f.ahead h.ahead h.latest (contents a) (contents b) end.LongLine (said_at end.LongLine new.said)
   by_long from to f h first new a b field is begun closed calm l =
-      let s : Ends Took (opened session_bounds) f first a to h new b (Ok ended_as.Long) =
-      subst (λ (e : Ended (Result End FrontFault)). Listens Took (opened session_bounds) f first a to h new b (Ok e)) is (subst (λ x. Listens Took x f first a to h new b (Ok field)) begun l) in
+      let s : Ends Took (hearing_opened session_bounds) f first a to h new b (Ok ended_as.Long) =
+      subst (λ (e : Ended (Result End FrontFault)). Listens Took (hearing_opened session_bounds) f first a to h new b (Ok e)) is (subst (λ x. Listens Took x f first a to h new b (Ok field)) begun l) in
       let t = s.through in
-      let bytes = ended t.lines in
+      let bytes = lines_ended t.lines in
       let hushed = through closed calm t in
       let long : length to.line ≡ suc 65536 = s.is.0 ∙ ap suc t.passes.longest in
       let last = last_of to.line 65536 long in

@@ -4,7 +4,7 @@ use Rattle.std.specs.Prelude.{Option, Some, None, is_some, codes}
 use Rattle.std.specs.List.{list_any}
 use Rattle.std.specs.Fmt.{decimal}
 use Rattle.std.proofs.lemmas.List.Elements.{All-append}
-use Rattle.ot_book.specs.Books.{Register, logged}
+use Rattle.ot_book.specs.Books.{Register, line_logged}
 use Rattle.ot_session.specs.Session.{HasNoEnd, Lines, after, reply_line}
 use Rattle.ot_why_explain.specs.Explaining.{remark_line, last_code, with_code, OpensWith, AreOn, Remarked, refuses, says}
 use Rattle.ot_why_explain.specs.Listening.{IsRemarks, IsWhole}
@@ -75,7 +75,7 @@ opens_more code old new line o clean is = record {
 -- ---- lines
 
 pub remarked_more : (book : Register) (lines : Lines) (line : List ℕ × Bool) (text remarks : List ℕ) → Remarked book lines text →
-    AreOn (last_code (logged (after book lines) line.0 line.1)) remarks → Remarked book (lines ++ line ∷ []) (text ++ (reply_line (after book lines) line ++ remarks))
+    AreOn (last_code (line_logged (after book lines) line.0 line.1)) remarks → Remarked book (lines ++ line ∷ []) (text ++ (reply_line (after book lines) line ++ remarks))
 remarked_more book [] line text remarks none are = (
   remarks,
   [],
@@ -84,7 +84,7 @@ remarked_more book [] line text remarks none are = (
   refl,
 )
 remarked_more book (l ∷ lines) line text remarks (own, later, is, on, more) are =
-    let new = logged book l.0 l.1 in
+    let new = line_logged book l.0 l.1 in
     let last = reply_line (after new lines) line ++ remarks in (
       own,
       later ++ last,
@@ -101,12 +101,12 @@ bits-none : (a : Bool) → (a || false) ≡ (false || a)
 bits-none true = refl
 bits-none false = refl
 
-pub refuses-more : (book : Register) (lines : Lines) (line : List ℕ × Bool) → refuses book (lines ++ line ∷ []) ≡ (refuses book lines || is_some (last_code (logged (after book lines) line.0 line.1)))
-refuses-more book [] line = bits-none (is_some (last_code (logged book line.0 line.1)))
+pub refuses-more : (book : Register) (lines : Lines) (line : List ℕ × Bool) → refuses book (lines ++ line ∷ []) ≡ (refuses book lines || is_some (last_code (line_logged (after book lines) line.0 line.1)))
+refuses-more book [] line = bits-none (is_some (last_code (line_logged book line.0 line.1)))
 refuses-more book (l ∷ lines) line =
-    let new = logged book l.0 l.1 in
+    let new = line_logged book l.0 l.1 in
     let here = is_some (last_code new) in
-    ap (λ b. here || b) (refuses-more new lines line) ∙ sym (bits here (refuses new lines) (is_some (last_code (logged (after new lines) line.0 line.1))))
+    ap (λ b. here || b) (refuses-more new lines line) ∙ sym (bits here (refuses new lines) (is_some (last_code (line_logged (after new lines) line.0 line.1))))
 
 -- what is said behind one line more
 abbrev pub said_on : Explained → Bool → Explained

@@ -8,8 +8,8 @@ use Rattle.json.specs.Print.{escape_letter, escape_byte, escape, quoted}
 use Rattle.serde_json.specs.Data.{Num, unsigned, negative, float, Data, null, boolean, number, string, array, object, Items, no_items, item, Members, no_members, member}
 use Rattle.serde_json.specs.Written.{number_text, comma_if, compact_text, items_text, members_text}
 use Rattle.ot_book.specs.Answers.{Told, Accepted, Cells, Arrays, Used, Done, Refused, Offends, Lost, json_of, text_of}
-use Rattle.ot_book.specs.Books.{Register, logged, reply_at}
-use Rattle.ot_session.specs.Session.{Lines, told, reply_line, last_reply, closing}
+use Rattle.ot_book.specs.Books.{Register, line_logged, reply_at}
+use Rattle.ot_session.specs.Session.{Lines, session_told, reply_line, last_reply, closing}
 use Rattle.ot_session.specs.declared.fault.End.{End}
 use Rattle.ot_session.specs.declared.fault.End.TheVariants as end
 use Rattle.ot_why_explain.specs.Listening.{IsWhole}
@@ -151,14 +151,14 @@ whole-last book = whole-reply (reply_at book (length book.log - 1))
 plain-last : (book : Register) → IsPlain (last_reply book)
 plain-last book = plain-reply (reply_at book (length book.log - 1))
 
-pub whole-told : (book : Register) (lines : Lines) → IsWhole (told book lines)
+pub whole-told : (book : Register) (lines : Lines) → IsWhole (session_told book lines)
 whole-told book [] = whole-nil
-whole-told book (l ∷ lines) = whole-append (reply_line book l) (told (logged book l.0 l.1) lines) (whole-last (logged book l.0 l.1)) (whole-told (logged book l.0 l.1) lines)
+whole-told book (l ∷ lines) = whole-append (reply_line book l) (session_told (line_logged book l.0 l.1) lines) (whole-last (line_logged book l.0 l.1)) (whole-told (line_logged book l.0 l.1) lines)
 
-pub plain-told : (book : Register) (lines : Lines) → IsPlain (told book lines)
+pub plain-told : (book : Register) (lines : Lines) → IsPlain (session_told book lines)
 plain-told book [] = plain-nil
 plain-told book (l ∷ lines) =
-    plain-append (reply_line book l) (told (logged book l.0 l.1) lines) (whole-last (logged book l.0 l.1)) (plain-last (logged book l.0 l.1)) (plain-told (logged book l.0 l.1) lines)
+    plain-append (reply_line book l) (session_told (line_logged book l.0 l.1) lines) (whole-last (line_logged book l.0 l.1)) (plain-last (line_logged book l.0 l.1)) (plain-told (line_logged book l.0 l.1) lines)
 
 pub plain-closing : (e : Option End) → IsPlain (closing e)
 plain-closing None = plain-nil

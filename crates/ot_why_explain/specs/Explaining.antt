@@ -2,7 +2,7 @@
 use Rattle.std.specs.Prelude.{◌≡◌, [], ℕ, List, ◌∷◌, ◌++◌, length, codes, Bool, true, false, ◌||◌, Option, Some, None, Result, Ok, ◌-◌, All, flat_map, if◌then◌else◌, ◌==◌, is_some, option_and_then}
 use Rattle.std.specs.Io.KnownBytes.{Appends, Consumes}
 use Rattle.ot_store.specs.Refusals.{usual_limits}
-use Rattle.ot_book.specs.Books.{Register, new_register, logged, reply_at}
+use Rattle.ot_book.specs.Books.{Register, new_register, line_logged, reply_at}
 use Rattle.ot_session.specs.Session.{HasNoEnd, closing, heard_in, Serves, Lines, texts, after, reply_line}
 use Rattle.ot_session.specs.declared.fault.End.{End}
 use Rattle.ot_session.specs.declared.fault.End.TheVariants.{Full, LongLine}
@@ -62,19 +62,19 @@ abbrev pub Remarked : Register → Lines → List ℕ → Type 0
 Remarked book [] text = text ≡ []
 Remarked book (line ∷ lines) text =
     (remarks : List ℕ) × (later : List ℕ) × (text ≡ reply_line book line ++ (remarks ++ later))
-    × AreOn (last_code (logged book line.0 line.1)) remarks × Remarked (logged book line.0 line.1) lines later
+    × AreOn (last_code (line_logged book line.0 line.1)) remarks × Remarked (line_logged book line.0 line.1) lines later
 
 -- whether one of the replies to the lines is a refusal
 abbrev pub refuses : Register → Lines → Bool
 refuses book [] = false
-refuses book (line ∷ lines) = is_some (last_code (logged book line.0 line.1)) || refuses (logged book line.0 line.1) lines
+refuses book (line ∷ lines) = is_some (last_code (line_logged book line.0 line.1)) || refuses (line_logged book line.0 line.1) lines
 
 -- the remarks on the replies to the lines, one after another, without the replies
 abbrev pub RemarksOn : Register → Lines → List ℕ → Type 0
 RemarksOn book [] text = text ≡ []
 RemarksOn book (line ∷ lines) text =
     (remarks : List ℕ) × (later : List ℕ) × (text ≡ remarks ++ later)
-    × AreOn (last_code (logged book line.0 line.1)) remarks × RemarksOn (logged book line.0 line.1) lines later
+    × AreOn (last_code (line_logged book line.0 line.1)) remarks × RemarksOn (line_logged book line.0 line.1) lines later
 
 -- An explained session: without its remarks it is a session like any other.
 

@@ -1,6 +1,6 @@
 //! A session of which the remarks alone are written.
 ghost use Rattle.std.specs.Prelude.{◌≡◌, ◌≤◌, ◌++◌, ◌∷◌, [], ℕ, List, Option, None, Ok, length, IfOk};
-ghost use Rattle.ot_lines.specs.Lines.{opened};
+ghost use Rattle.ot_lines.specs.Lines.{hearing_opened};
 ghost use Rattle.ot_book.specs.Books.{Register, next_number};
 ghost use Rattle.ot_session.specs.Session.{HasNoEnd, max_line};
 ghost use Rattle.ot_session.specs.Serving.{session_bounds};
@@ -51,7 +51,7 @@ fn remark_lines<R: Source, W: Sink>(
     source: &mut R,
     sink: &mut W,
 ) -> Result<End, FrontFault>
-    requires begun { lines.old ≡ opened session_bounds }
+    requires begun { lines.old ≡ hearing_opened session_bounds }
     requires closed { talk.old.book.pending ≡ None }
     requires says { talk.old.said ≡ AllTaken }
     ensures { IfOk result (λ end. RemarksAlone talk.old.book talk.new.book (R.flow source.old).ahead (R.flow source.new).ahead (R.flow source.new).latest

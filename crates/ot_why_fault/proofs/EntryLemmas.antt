@@ -11,16 +11,16 @@ use Rattle.ot_program.specs.Programs.{program_copy}
 use Rattle.ot_program.specs.declared.profile.Profile.{Profile}
 use Rattle.ot_why_place.specs.Spots.{text_spots}
 use Rattle.ot_why_place.proofs.PlaceLemmas.{a_program}
-use Rattle.ot_why_fault.specs.Whys.{counts_of, first_among, first_fault}
+use Rattle.ot_why_fault.specs.Whys.{counts_of, first_among, first_why}
 use Rattle.ot_why_fault.specs.Walk.{Walked, walk}
 use Rattle.ot_why_fault.proofs.FirstLemmas.{placed_of, met_in, first_walked}
 
-pub no_request : (shape : Arrays) (vs : List Value) → length vs ≢ 2 → first_fault shape (array (items_view vs)) ≡ None
+pub no_request : (shape : Arrays) (vs : List Value) → length vs ≢ 2 → first_why shape (array (items_view vs)) ≡ None
 no_request shape (a ∷ b ∷ []) other = absurd (other refl)
 no_request shape _ other = refl
 
 pub a_request : (shape : Arrays) (vs : List Value) (d : Value) → length vs ≡ 2 → d ≡ get_or vs 1 d
-    → first_fault shape (array (items_view vs)) ≡ first_among shape (view d) (map (λ s. s.placed) (text_spots (view d)))
+    → first_why shape (array (items_view vs)) ≡ first_among shape (view d) (map (λ s. s.placed) (text_spots (view d)))
 a_request shape (x ∷ y ∷ []) d two is = rw (sym is) refl
 a_request shape _ d two is = absurd (omega arith)
 

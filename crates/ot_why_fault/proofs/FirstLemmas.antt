@@ -18,8 +18,8 @@ use Rattle.ot_why_place.specs.Spots.{Path, Spot, first_body, is_loop, spots, in_
 use Rattle.ot_why_place.specs.Texts.{text_by}
 use Rattle.ot_why_place.specs.declared.text.Text.{Text as CodeText}
 use Rattle.ot_why_place.specs.declared.text.Text.TheVariants as t
-use Rattle.ot_why_fault.specs.Whys.{counts_of, past_limits, mixed_why, mixed_whys, whys_at, whys_behind, first_behind, first_among, Why, Mixed, long, short, earlier, after, nested, text_whys}
-use Rattle.ot_why_fault.specs.Walk.{counts_with, Walked, Passed, Met, unless_told, counted, walk}
+use Rattle.ot_why_fault.specs.Whys.{counts_of, whys_past_limits, mixed_why, mixed_whys, whys_at, whys_behind, first_behind, first_among, Why, Mixed, long, short, earlier, after, whys_nested, text_whys}
+use Rattle.ot_why_fault.specs.Walk.{counts_with, Walked, Passed, Met, unless_told, counts_placed, walk}
 use Rattle.ot_why_mixed.specs.Mixed.{mixed_of}
 use Rattle.ot_why_fault.specs.declared.own.Tally.{Tally as CodeTally}
 use Rattle.ot_why_fault.proofs.AfterLemmas.{after-append}
@@ -71,10 +71,10 @@ mixed_none shape defined variables text a b is found = rw (is, ← found) refl
 short-twice : (n : ℕ) → short (short n) ≡ short n
 short-twice n = omega arith
 
-nested-short : (n : ℕ) → nested (short n) ≡ nested n
+nested-short : (n : ℕ) → whys_nested (short n) ≡ whys_nested n
 nested-short n =
     elim (cases_lt n 16) [
-      | inl few ↦ let e : short n ≡ n = omega (arith, few) in ap nested e
+      | inl few ↦ let e : short n ≡ n = omega (arith, few) in ap whys_nested e
       | inr many ↦
           let past : 16 ≤ short n = omega (arith, many) in
           rw (le-ltb (short n) 16 past, le-ltb n 16 many, short-twice n) refl
@@ -91,23 +91,23 @@ level_told shape n variables _ = refl
 
 -- ---- an entry, one step after the other
 
-pub entry_is : (shape : Arrays) (nested level : ℕ) (variables : Bindings) (text : Text) (t0 t1 t2 told : Option Why) (counts own with_own : CodeTally)
-    → level ≡ short nested → t0 ≡ None → t1 ≡ after t0 (text_whys shape level variables text) → own ≡ counts_of (own_tally shape variables text)
-    → with_own ≡ counts_with counts own → t2 ≡ after t1 (past_limits shape.tasks with_own)
-    → ((t2 ≡ None → text_whys shape nested variables text ≡ []) → told ≡ after t2 (mixed_whys shape variables text))
-    → let p : Placed = record { level = nested; variables = variables; text = text } in
-    told ≡ after None (whys_at shape (counted shape counts p) p)
-entry_is shape nested level variables text t0 t1 t2 told counts own with_own is none first own_is with_is past mixed =
-    let whys : text_whys shape level variables text ≡ text_whys shape nested variables text =
-    ap (λ (n : ℕ). text_whys shape n variables text) is ∙ level_told shape nested variables text in
-    let one : t1 ≡ after None (text_whys shape nested variables text) = first ∙ ap (λ (o : Option Why). after o (text_whys shape level variables text)) none
+pub entry_is : (shape : Arrays) (whys_nested level : ℕ) (variables : Bindings) (text : Text) (t0 t1 t2 told : Option Why) (counts own with_own : CodeTally)
+    → level ≡ short whys_nested → t0 ≡ None → t1 ≡ after t0 (text_whys shape level variables text) → own ≡ counts_of (own_tally shape variables text)
+    → with_own ≡ counts_with counts own → t2 ≡ after t1 (whys_past_limits shape.tasks with_own)
+    → ((t2 ≡ None → text_whys shape whys_nested variables text ≡ []) → told ≡ after t2 (mixed_whys shape variables text))
+    → let p : Placed = record { level = whys_nested; variables = variables; text = text } in
+    told ≡ after None (whys_at shape (counts_placed shape counts p) p)
+entry_is shape whys_nested level variables text t0 t1 t2 told counts own with_own is none first own_is with_is past mixed =
+    let whys : text_whys shape level variables text ≡ text_whys shape whys_nested variables text =
+    ap (λ (n : ℕ). text_whys shape n variables text) is ∙ level_told shape whys_nested variables text in
+    let one : t1 ≡ after None (text_whys shape whys_nested variables text) = first ∙ ap (λ (o : Option Why). after o (text_whys shape level variables text)) none
     ∙ ap (after None) whys in
     let sum : with_own ≡ counts_with counts (counts_of (own_tally shape variables text)) = with_is ∙ ap (counts_with counts) own_is in
-    let two : t2 ≡ after t1 (past_limits shape.tasks (counts_with counts (counts_of (own_tally shape variables text)))) =
-    past ∙ ap (λ (n : CodeTally). after t1 (past_limits shape.tasks n)) sum in
-    told_three (text_whys shape nested variables text) (past_limits shape.tasks (counts_with counts (counts_of (own_tally shape variables text))))
+    let two : t2 ≡ after t1 (whys_past_limits shape.tasks (counts_with counts (counts_of (own_tally shape variables text)))) =
+    past ∙ ap (λ (n : CodeTally). after t1 (whys_past_limits shape.tasks n)) sum in
+    told_three (text_whys shape whys_nested variables text) (whys_past_limits shape.tasks (counts_with counts (counts_of (own_tally shape variables text))))
     (mixed_whys shape variables text) t1 t2 told one two
-    (mixed (λ no. first_none (text_whys shape nested variables text) (past_limits shape.tasks (counts_with counts (counts_of (own_tally shape variables text)))) t1 t2 one two no))
+    (mixed (λ no. first_none (text_whys shape whys_nested variables text) (whys_past_limits shape.tasks (counts_with counts (counts_of (own_tally shape variables text)))) t1 t2 one two no))
 
 pub entry_met : (told : Option Why) (n : ℕ) (rest : Walked) (why : Why) → Some why ≡ told → Met n why ≡ unless_told told n rest
 entry_met told n rest why is = rw (← is) refl
@@ -166,7 +166,7 @@ counts-plus n m =
     rw (long-sum n.statements m.statements, long-sum n.tasks m.tasks, long-sum n.turns m.turns, long-sum n.nodes m.nodes, long-sum n.cells m.cells) refl
 
 counted-one : (shape : Arrays) (before : List Placed) (p : Placed)
-    → counted shape (counts_of (total shape before)) p ≡ counts_of (total shape (before ++ p ∷ []))
+    → counts_placed shape (counts_of (total shape before)) p ≡ counts_of (total shape (before ++ p ∷ []))
 counted-one shape before p =
     counts-plus (total shape before) (own_tally shape p.variables p.text)
     ∙ ap counts_of (ap (plus (total shape before)) (sym (plus-nothing (own_tally shape p.variables p.text))) ∙ sym (total-append shape before (p ∷ [])))

@@ -10,15 +10,15 @@ use Rattle.ot_program.specs.Copies.{Placed, in_copy}
 use Rattle.ot_program.specs.Faults as told
 use Rattle.ot_program.specs.Limits.{max_statements, max_turns, max_nodes, max_cells, Tally, total}
 use Rattle.ot_program.specs.Meanings.{profile_of}
-use Rattle.ot_program.specs.Programs.{foremost, faults_behind, told as refusal_told, told_or, program_copy, program_in, program_of}
+use Rattle.ot_program.specs.Programs.{foremost, faults_behind, fault_told as refusal_told, told_or, program_copy, program_in, program_of}
 use Rattle.ot_program.specs.Faults.{rank, least}
 use Rattle.ot_program.specs.declared.fault.Refusal.{Refusal}
 use Rattle.ot_program.specs.declared.profile.Profile.{Profile}
 use Rattle.ot_program.proofs.Firsts.{first_of, foremost_is, merged, first-append}
 use Rattle.ot_program.proofs.StatementsRead.{first-swap}
 use Rattle.ot_why_place.specs.Spots.{program_spots}
-use Rattle.ot_why_fault.specs.Whys.{counts_of, past_limits, mixed_whys, whys_behind, first_behind, first_among, first_fault, Why, long, short, refusal_of, earlier, after, text_whys}
-use Rattle.ot_why_fault.specs.Laws.{refused}
+use Rattle.ot_why_fault.specs.Whys.{counts_of, whys_past_limits, mixed_whys, whys_behind, first_behind, first_among, first_why, Why, long, short, refusal_of, earlier, after, text_whys}
+use Rattle.ot_why_fault.specs.Laws.{refusal_of_program}
 use Rattle.ot_why_fault.proofs.FirstLemmas.{placed_of, program_placed, none_among}
 use Rattle.ot_why_fault.proofs.RefusalLemmas.{Are, unless_is, text_is}
 
@@ -31,7 +31,7 @@ le-long n max small =
       | inr within ↦ let e : long n ≡ n = omega (arith, within, small) in ap (λ (m : ℕ). nat_le m max) e
     ]
 
-limits_are : (shape : Arrays) (n : Tally) → shape.tasks < 2 ^ 32 → Are (past_limits shape.tasks (counts_of n)) (told.past_limits shape.tasks n)
+limits_are : (shape : Arrays) (n : Tally) → shape.tasks < 2 ^ 32 → Are (whys_past_limits shape.tasks (counts_of n)) (told.past_limits shape.tasks n)
 limits_are shape n small =
     rw (
       ← le-long n.statements max_statements (omega arith),
@@ -71,7 +71,7 @@ entry_told shape before p small =
     let text = text_whys shape p.level p.variables p.text in
     let mixed = mixed_whys shape p.variables p.text in
     let n = total shape (before ++ p ∷ []) in
-    let past = past_limits shape.tasks (counts_of n) in
+    let past = whys_past_limits shape.tasks (counts_of n) in
     let own = text_is shape p.level p.variables p.text in
     after_foremost (text ++ (past ++ mixed))
     ∙ ap foremost (map-append refusal_of text (past ++ mixed) ∙ ap (λ (fs : List Refusal). map refusal_of text ++ fs) (map-append refusal_of past mixed))
@@ -94,12 +94,12 @@ first_told shape before (p ∷ ps) small =
     first_told_by (short (length before)) (after None (whys_behind shape before p)) (foremost (faults_behind shape before p)) _ _
     (entry_told shape before p small) (first_told shape (before ++ p ∷ []) ps small)
 
-refused_or : (x : Expanded) (o : Option Refusal) → refused (told_or x o) ≡ o
+refused_or : (x : Expanded) (o : Option Refusal) → refusal_of_program (told_or x o) ≡ o
 refused_or x None = refl
 refused_or x (Some c) = refl
 
 refused_by : (shape : Arrays) (program t a b : Data) → shape.tasks < 2 ^ 32 → (o : Option Profile) → profile_of t ≡ o
-    → option_map told_of (first_among shape program (map placed_of (program_spots t a b))) ≡ refused (program_in shape o a b)
+    → option_map told_of (first_among shape program (map placed_of (program_spots t a b))) ≡ refusal_of_program (program_in shape o a b)
 refused_by shape program t a b small None named = ap (option_map told_of) (none_among shape program t a b named)
 refused_by shape program t a b small (Some profile) named =
     ap (option_map told_of) (program_placed shape program t a b profile named)
@@ -107,7 +107,7 @@ refused_by shape program t a b small (Some profile) named =
     ∙ sym (refused_or _ (refusal_told shape [] (in_copy (program_copy profile a b))))
 
 pub first_is : (shape : Arrays) (run program : Data) → shape.tasks < 2 ^ 32
-    → option_map told_of (first_fault shape (array (item run (item program no_items)))) ≡ refused (program_of shape program)
+    → option_map told_of (first_why shape (array (item run (item program no_items)))) ≡ refusal_of_program (program_of shape program)
 first_is shape run (array (item t (item a (item b no_items)))) small =
     refused_by shape (array (item t (item a (item b no_items)))) t a b small (profile_of t) refl
 first_is shape run _ small = refl

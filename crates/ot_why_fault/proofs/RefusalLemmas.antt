@@ -24,15 +24,15 @@ use Rattle.ot_why_place.specs.Texts.{text_by}
 use Rattle.ot_why_place.specs.declared.text.Text.{Text as CodeText}
 use Rattle.ot_why_place.specs.declared.text.Text.TheVariants as t
 use Rattle.ot_why_mixed.proofs.ClauseLemmas.{none_first, none_second}
-use Rattle.ot_why_mixed.specs.Mixed.{first_mixed, named, mixed_of, faults_of}
-use Rattle.ot_why_fault.specs.Whys.{mixed_why, mixed_whys, Why, Form as NoForm, refusal_of, unless, no_list, list_whys, name_whys, variable_whys, size_whys, array_whys, indexed_whys, cell_whys, section_whys, value_whys, expression_whys, target_whys, is_mode, clause_whys, wait_clause_whys, nested, group_whys, text_whys}
+use Rattle.ot_why_mixed.specs.Mixed.{first_mixed, cell_by_name, mixed_of, faults_of}
+use Rattle.ot_why_fault.specs.Whys.{mixed_why, mixed_whys, Why, Form as NoForm, refusal_of, whys_unless, whys_no_list, list_whys, name_whys, variable_whys, size_whys, array_whys, indexed_whys, cell_whys, section_whys, value_whys, expression_whys, target_whys, is_mode, clause_whys, wait_clause_whys, whys_nested, group_whys, text_whys}
 use Rattle.ot_why_fault.specs.declared.why.Wanted.TheVariants as wanted
 
 -- they have these refusals
 abbrev pub Are : List Why → List Refusal → Type 0
 Are whys faults = map refusal_of whys ≡ faults
 
-pub unless_is : (test : Bool) (why : Why) → Are (unless test why) (told.unless test (refusal_of why))
+pub unless_is : (test : Bool) (why : Why) → Are (whys_unless test why) (told.unless test (refusal_of why))
 unless_is true why = refl
 unless_is false why = refl
 
@@ -99,7 +99,7 @@ mode_is : (profile : Profile) (d : Data) → is_some (mode_of profile d) ≡ is_
 mode_is profile d = simp (some-if, red_is_mode, or_assoc)
 
 some-red : (b : Bool) (f : Fold → Mode) (o : Option Fold) (op clause : Data)
-    → Are (cond b (unless (is_some o) (NoForm op wanted.Fold)) (NoForm clause wanted.Clause ∷ [])) (told.unless (is_some (cond b (option_map f o) None)) Form)
+    → Are (cond b (whys_unless (is_some o) (NoForm op wanted.Fold)) (NoForm clause wanted.Clause ∷ [])) (told.unless (is_some (cond b (option_map f o) None)) Form)
 some-red true f None op clause = refl
 some-red true f (Some it) op clause = refl
 some-red false f o op clause = refl
@@ -152,15 +152,15 @@ map_map f g None = refl
 map_map f g (Some c) = refl
 
 mixed_are : (shape : Arrays) (profile : Profile) (variables : Bindings) (a : Data)
-    → Are (option_to_list (option_map mixed_why (mixed_of shape profile variables a))) (told.mixed (map (clause shape profile variables) (items a)))
+    → Are (option_to_list (option_map mixed_why (mixed_of shape profile variables a))) (told.faults_mixed (map (clause shape profile variables) (items a)))
 mixed_are shape profile variables a =
     let clauses = map (clause shape profile variables) (items a) in
-    ap (λ (o : Option Why). map refusal_of (option_to_list o)) (map_map (named shape) mixed_why (first_mixed clauses))
-    ∙ found_are (is_mixed clauses) (λ c. mixed_why (named shape c)) (named_cells clauses) (λ c. refl)
+    ap (λ (o : Option Why). map refusal_of (option_to_list o)) (map_map (cell_by_name shape) mixed_why (first_mixed clauses))
+    ∙ found_are (is_mixed clauses) (λ c. mixed_why (cell_by_name shape c)) (named_cells clauses) (λ c. refl)
 
 module _ (shape : Arrays) (level : ℕ) (variables : Bindings) where
   group_is : (a b : Data)
-      → Are (group_whys shape level variables a b) ((told.list_faults (told.section_faults shape variables) a ++ told.no_list b) ++ told.nested level)
+      → Are (group_whys shape level variables a b) ((told.list_faults (told.section_faults shape variables) a ++ told.no_list b) ++ told.faults_nested level)
   group_is a b = simp (each_are (section_whys shape variables) _ (section_is shape variables) a, unless_is, map-append)
 
   pub text_is : (text : Text) → Are (text_whys shape level variables text ++ mixed_whys shape variables text) (told.text_faults shape level variables text)
@@ -186,5 +186,5 @@ task_faultless shape profile level variables text a b is h =
     let whys = clause_whys shape profile variables in
     let clauses = items (view a.now) in
     let none : flat_map whys clauses ≡ [] =
-    none_second (no_list (view a.now)) _ (none_first (list_whys whys (view a.now)) (no_list (view b.now)) (none_first _ (nested level) (rw is at h))) in
+    none_second (whys_no_list (view a.now)) _ (none_first (list_whys whys (view a.now)) (whys_no_list (view b.now)) (none_first _ (whys_nested level) (rw is at h))) in
     sym (flat_are whys (told.clause_faults shape profile variables) (clause_is shape profile variables) clauses) ∙ ap (map refusal_of) none

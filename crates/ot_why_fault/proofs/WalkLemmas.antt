@@ -15,7 +15,7 @@ use Rattle.ot_why_place.specs.declared.text.Text.{Text as CodeText}
 use Rattle.ot_why_place.specs.declared.text.Text.TheVariants as t
 use Rattle.ot_why_place.proofs.CopyLemmas.{copy_is}
 use Rattle.ot_why_fault.specs.Whys.{whys_at, Why, short, after}
-use Rattle.ot_why_fault.specs.Walk.{Walked, Passed, Met, unless_told, counted, walk, in_bodies, step_by}
+use Rattle.ot_why_fault.specs.Walk.{Walked, Passed, Met, unless_told, counts_placed, walk, in_bodies, walk_step}
 use Rattle.ot_why_fault.specs.declared.find.Step.{Step}
 use Rattle.ot_why_fault.specs.declared.own.Tally.{Tally as CodeTally}
 
@@ -33,15 +33,15 @@ walk-append : (shape : Arrays) (n : ℕ) (counts : CodeTally) (xs ys : List Plac
     → walk shape n counts (xs ++ ys) ≡ onward shape (walk shape n counts xs) ys
 walk-append shape n counts [] ys = refl
 walk-append shape n counts (p ∷ xs) ys =
-    ap (unless_told (after None (whys_at shape (counted shape counts p) p)) n) (walk-append shape (short (n + 1)) (counted shape counts p) xs ys)
-    ∙ sym (told-onward shape (after None (whys_at shape (counted shape counts p) p)) n (walk shape (short (n + 1)) (counted shape counts p) xs) ys)
+    ap (unless_told (after None (whys_at shape (counts_placed shape counts p) p)) n) (walk-append shape (short (n + 1)) (counts_placed shape counts p) xs ys)
+    ∙ sym (told-onward shape (after None (whys_at shape (counts_placed shape counts p) p)) n (walk shape (short (n + 1)) (counts_placed shape counts p) xs) ys)
 
 -- on from where it came through the first of them
 on : (shape : Arrays) (n : ℕ) (counts : CodeTally) (w : Walked) (xs ys all : List Placed) → all ≡ xs ++ ys → w ≡ walk shape n counts xs
     → walk shape n counts all ≡ onward shape w ys
 on shape n counts w xs ys all is came = ap (walk shape n counts) is ∙ walk-append shape n counts xs ys ∙ ap (λ (v : Walked). onward shape v ys) (sym came)
 
-pub seen_as : {E : Type 0} (r : Result Step E) (a b : Walked) → a ≡ b → IfOk r (λ step. step_by step ≡ b) → IfOk r (λ step. step_by step ≡ a)
+pub seen_as : {E : Type 0} (r : Result Step E) (a b : Walked) → a ≡ b → IfOk r (λ step. walk_step step ≡ b) → IfOk r (λ step. walk_step step ≡ a)
 seen_as r a b is h = rw is h
 
 -- ---- the items of a body

@@ -7,7 +7,7 @@ use Rattle.ot_program.specs.Faults.{text_faults}
 use Rattle.ot_program.specs.Meanings.{Bindings, profile_of}
 use Rattle.ot_program.specs.Programs.{program_of}
 use Rattle.ot_program.specs.declared.fault.Refusal.{Refusal}
-use Rattle.ot_why_fault.specs.Whys.{mixed_whys, first_fault, refusal_of, text_whys}
+use Rattle.ot_why_fault.specs.Whys.{mixed_whys, first_why, refusal_of, text_whys}
 
 -- a task's profile is one that a program's first word names
 abbrev pub HasProfile : Text → Type 0
@@ -22,12 +22,12 @@ WhysAreFaults =
     → map refusal_of (text_whys shape level variables text ++ mixed_whys shape variables text) ≡ text_faults shape level variables text
 
 -- what a program is refused for
-abbrev pub refused : Result Expanded Refusal → Option Refusal
-refused (Ok program) = None
-refused (Err c) = Some c
+abbrev pub refusal_of_program : Result Expanded Refusal → Option Refusal
+refusal_of_program (Ok program) = None
+refusal_of_program (Err c) = Some c
 
 -- What a program is refused for is what is told of its first fault; and what is accepted has none.
 abbrev pub FirstIsRefused : Type 0
 FirstIsRefused =
     (shape : Arrays) (run program : Data) → shape.tasks < 2 ^ 32
-    → option_map (λ found. refusal_of found.1) (first_fault shape (array (item run (item program no_items)))) ≡ refused (program_of shape program)
+    → option_map (λ found. refusal_of found.1) (first_why shape (array (item run (item program no_items)))) ≡ refusal_of_program (program_of shape program)

@@ -12,7 +12,7 @@ use Rattle.ot_why_fault.specs.declared.find.Passed.{Passed as CodePassed}
 use Rattle.ot_why_fault.specs.declared.find.Step.{Step}
 use Rattle.ot_why_fault.specs.declared.find.Step.TheVariants as s
 use Rattle.ot_why_fault.specs.declared.own.Tally.{Tally as CodeTally}
-use Rattle.ot_why_place.specs.Spots.{bindings_of}
+use Rattle.ot_why_place.specs.Spots.{trail_bindings}
 use Rattle.ot_model.specs.Tree.{E}
 use Rattle.ot_why_fault.specs.declared.look.Measure.{Measure}
 use Rattle.ot_why_fault.specs.declared.why.First.{First}
@@ -44,14 +44,14 @@ unless_told None n rest = rest
 unless_told (Some why) n rest = Met n why
 
 -- the counts with one entry more
-abbrev pub counted : Arrays → CodeTally → Placed → CodeTally
-counted shape counts p = counts_with counts (counts_of (own_tally shape p.variables p.text))
+abbrev pub counts_placed : Arrays → CodeTally → Placed → CodeTally
+counts_placed shape counts p = counts_with counts (counts_of (own_tally shape p.variables p.text))
 
 -- on from so many, and what they count
 abbrev pub walk : Arrays → ℕ → CodeTally → List Placed → Walked
 walk shape n counts [] = Passed n counts
 walk shape n counts (p ∷ ps) =
-    unless_told (after None (whys_at shape (counted shape counts p) p)) n (walk shape (short (n + 1)) (counted shape counts p) ps)
+    unless_told (after None (whys_at shape (counts_placed shape counts p) p)) n (walk shape (short (n + 1)) (counts_placed shape counts p) ps)
 
 -- what stands in the bodies of a statement
 abbrev pub in_bodies : Profile → ℕ → Bindings → Text → List Placed
@@ -59,9 +59,9 @@ in_bodies profile level variables text = in_order (first_copies profile level va
 
 -- ---- what the code's values stand for
 
-abbrev pub step_by : Step → Walked
-step_by (s.Passed passed) = Passed passed.entries passed.counts
-step_by (s.Met found) = Met found.index (why_by found.why)
+abbrev pub walk_step : Step → Walked
+walk_step (s.Passed passed) = Passed passed.entries passed.counts
+walk_step (s.Met found) = Met found.index (why_by found.why)
 
 abbrev pub walk_on : Finder → CodePassed → List Placed → Walked
 walk_on finder passed ps = walk (shape_of finder.arrays.now finder.tasks) passed.entries passed.counts ps
@@ -75,4 +75,4 @@ abbrev pub shape_by : Look → Arrays
 shape_by look = shape_of look.arrays.now look.tasks
 
 abbrev pub variables_by : Look → Bindings
-variables_by look = bindings_of look.trail.now
+variables_by look = trail_bindings look.trail.now

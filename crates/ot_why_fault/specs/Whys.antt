@@ -7,7 +7,7 @@ use Rattle.ot_model.specs.declared.expr.Op.TheVariants.{Plus}
 use Rattle.ot_program.specs.Copies.{Text, SetText, AddText, FoldText, IfText, ForText, Turn, TaskText, WaitText, WaitForText, GroupText, GroupByText, ProgramText, NoForm, Placed}
 use Rattle.ot_program.specs.Faults.{is_list, rank}
 use Rattle.ot_program.specs.Limits.{max_nesting, max_depth, size_depth, depth_of, total, max_statements, max_turns, max_nodes, max_cells, Tally}
-use Rattle.ot_program.specs.Meanings.{items, letters, Bindings, bound, sign_of, in_range, exact, size, is_called, length_of, op_of, fold_of, value, whole_number, is_name, is_word, is_one, is_two}
+use Rattle.ot_program.specs.Meanings.{items, letters, Bindings, number_bound, sign_of, in_range, exact, size, is_called, length_of, op_of, fold_of, value, whole_number, is_name, is_word, is_one, is_two}
 use Rattle.ot_program.specs.declared.profile.Profile.{Profile}
 use Rattle.ot_why_fault.specs.declared.why.Wanted.TheVariants as wanted
 use Rattle.ot_model.specs.declared.expr.Op.{Op}
@@ -86,32 +86,32 @@ abbrev pub earlier : Why → Why → Why
 earlier v w = if nat_lt (rank (refusal_of w)) (rank (refusal_of v)) then w else v
 
 -- what is told after one fault more
-abbrev pub noted : Option Why → Why → Option Why
-noted None w = Some w
-noted (Some v) w = Some (earlier v w)
+abbrev pub why_noted : Option Why → Why → Option Why
+why_noted None w = Some w
+why_noted (Some v) w = Some (earlier v w)
 
 -- what is told after some more
 abbrev pub after : Option Why → List Why → Option Why
 after told [] = told
-after told (w ∷ ws) = after (noted told w) ws
+after told (w ∷ ws) = after (why_noted told w) ws
 
 -- The faults of a statement's own parts, each with what is compared. They are those of `ot_program`'s definition, in its order:
 -- of each, which part is of no form and what is wanted there, or which name, number, index, length or depth has the fault.
 
 -- a fault where a test fails
-abbrev pub unless : Bool → Why → List Why
-unless test why = if test then [] else why ∷ []
+abbrev pub whys_unless : Bool → Why → List Why
+whys_unless test why = if test then [] else why ∷ []
 
-abbrev pub no_list : Data → List Why
-no_list d = unless (is_list d) (Form d wanted.List)
+abbrev pub whys_no_list : Data → List Why
+whys_no_list d = whys_unless (is_list d) (Form d wanted.List)
 
 -- a list with the faults of each of its items
 abbrev pub list_whys : (Data → List Why) → Data → List Why
-list_whys whys d = no_list d ++ flat_map whys (items d)
+list_whys whys d = whys_no_list d ++ flat_map whys (items d)
 
 -- an expression that is too deep
-abbrev pub deep : Data → ℕ → List Why
-deep d depth = unless (nat_le depth max_depth) (Deep d (long depth))
+abbrev pub whys_deep : Data → ℕ → List Why
+whys_deep d depth = whys_unless (nat_le depth max_depth) (Deep d (long depth))
 
 -- ---- names, variables and sizes
 
@@ -120,65 +120,65 @@ is_named (string s) = is_name s
 is_named _ = false
 
 abbrev pub name_whys : Data → List Why
-name_whys d = unless (is_named d) (Form d wanted.Name)
+name_whys d = whys_unless (is_named d) (Form d wanted.Name)
 
 abbrev pub variable_whys : Bindings → List ℕ → List Why
-variable_whys variables s = unless (is_name s) (Form (string s) wanted.Name) ++ unless (is_some (bound variables s)) (Unbound s)
+variable_whys variables s = whys_unless (is_name s) (Form (string s) wanted.Name) ++ whys_unless (is_some (number_bound variables s)) (Unbound s)
 
 module _ (variables : Bindings) where
   unfoldable pub size_whys : Data → List Why
   size_whys (number n) =
-      unless (is_some (whole_number n)) (Form (number n) wanted.Size)
-      ++ unless (is_some (in_range (unwrap_or (whole_number n) 0))) (TooGreat (unwrap_or (whole_number n) 0))
+      whys_unless (is_some (whole_number n)) (Form (number n) wanted.Size)
+      ++ whys_unless (is_some (in_range (unwrap_or (whole_number n) 0))) (TooGreat (unwrap_or (whole_number n) 0))
   size_whys (string s) = variable_whys variables s
   size_whys (array (item t (item a (item b no_items)))) =
-      unless (is_some (sign_of t)) (Form t wanted.Sign) ++ ((size_whys a ++ size_whys b)
-      ++ unless (is_some (exact (sign_of t) (size variables a) (size variables b)))
+      whys_unless (is_some (sign_of t)) (Form t wanted.Sign) ++ ((size_whys a ++ size_whys b)
+      ++ whys_unless (is_some (exact (sign_of t) (size variables a) (size variables b)))
       (NotExact (unwrap_or (sign_of t) Plus) (size variables a) (size variables b)))
   size_whys d = Form d wanted.Size ∷ []
 
 -- ---- arrays, cells and sections, values, clauses
 
 abbrev pub array_whys : Arrays → Data → List Why
-array_whys shape name = name_whys name ++ unless (list_any (is_called name) shape.arrays) (Unknown (letters name))
+array_whys shape name = name_whys name ++ whys_unless (list_any (is_called name) shape.arrays) (Unknown (letters name))
 
 module _ (shape : Arrays) (variables : Bindings) where
   abbrev pub indexed_whys : Data → Data → List Why
   indexed_whys name index =
       (array_whys shape name ++ size_whys variables index)
-      ++ (unless (nat_lt (size variables index) (length_of shape name)) (NoCell (letters name) (size variables index) (length_of shape name))
-      ++ deep index (size_depth index))
+      ++ (whys_unless (nat_lt (size variables index) (length_of shape name)) (NoCell (letters name) (size variables index) (length_of shape name))
+      ++ whys_deep index (size_depth index))
 
   abbrev pub cell_whys : Data → List Why
   cell_whys (array (item t (item a (item b no_items)))) =
-      unless (is_word t (codes "c")) (Form (array (item t (item a (item b no_items)))) wanted.Cell) ++ indexed_whys a b
+      whys_unless (is_word t (codes "c")) (Form (array (item t (item a (item b no_items)))) wanted.Cell) ++ indexed_whys a b
   cell_whys d = Form d wanted.Cell ∷ []
 
   -- of a section with this name, start and length
   abbrev pub section_of_whys : Data → Data → Data → List Why
   section_of_whys a b c =
       (array_whys shape a ++ (size_whys variables b ++ size_whys variables c))
-      ++ ((unless (nat_le (size variables b + size variables c) (length_of shape a))
+      ++ ((whys_unless (nat_le (size variables b + size variables c) (length_of shape a))
       (NoCells (letters a) (size variables b) (size variables c) (length_of shape a))
-      ++ unless (not (size variables c == 0)) (Empty (letters a) (size variables b)))
-      ++ (deep b (size_depth b) ++ deep c (size_depth c)))
+      ++ whys_unless (not (size variables c == 0)) (Empty (letters a) (size variables b)))
+      ++ (whys_deep b (size_depth b) ++ whys_deep c (size_depth c)))
 
   abbrev pub section_whys : Data → List Why
   section_whys (array (item a (item b (item c no_items)))) = section_of_whys a b c
   section_whys d = Form d wanted.Section ∷ []
 
   unfoldable pub value_whys : Data → List Why
-  value_whys (number n) = unless (is_some (whole_number n)) (Form (number n) wanted.Number)
+  value_whys (number n) = whys_unless (is_some (whole_number n)) (Form (number n) wanted.Number)
   value_whys (string s) = variable_whys variables s
   value_whys (array (item t (item a (item b no_items)))) =
       if is_word t (codes "c") then indexed_whys a b else
       (if is_word t (codes "pick") then section_whys a ++ value_whys b else
-      unless (is_some (op_of t)) (Form t wanted.Operation) ++ (value_whys a ++ value_whys b))
+      whys_unless (is_some (op_of t)) (Form t wanted.Operation) ++ (value_whys a ++ value_whys b))
   value_whys d = Form d wanted.Value ∷ []
 
   -- a value as a part of a statement
   abbrev pub expression_whys : Data → List Why
-  expression_whys d = value_whys d ++ deep d (depth_of (value shape variables d))
+  expression_whys d = value_whys d ++ whys_deep d (depth_of (value shape variables d))
 
   -- a cell and the value that it is given
   abbrev pub target_whys : Data → Data → List Why
@@ -186,7 +186,7 @@ module _ (shape : Arrays) (variables : Bindings) where
 
 -- an operation of a fold or a group
 abbrev pub fold_whys : Data → List Why
-fold_whys op = unless (is_some (fold_of op)) (Form op wanted.Fold)
+fold_whys op = whys_unless (is_some (fold_of op)) (Form op wanted.Fold)
 
 -- the word of a clause without an operation
 abbrev pub is_depend : Data → Bool
@@ -201,7 +201,7 @@ red_whys clause t op = if is_word t (codes "red") then fold_whys op else Form cl
 
 abbrev pub clause_whys : Arrays → Profile → Bindings → Data → List Why
 clause_whys shape profile variables (array (item t (item a no_items))) =
-    unless (is_mode profile t) (Form (array (item t (item a no_items))) wanted.Clause) ++ section_whys shape variables a
+    whys_unless (is_mode profile t) (Form (array (item t (item a no_items))) wanted.Clause) ++ section_whys shape variables a
 clause_whys shape profile variables (array (item t (item op (item a no_items)))) =
     if is_two profile then red_whys (array (item t (item op (item a no_items)))) t op ++ section_whys shape variables a
     else Form (array (item t (item op (item a no_items)))) wanted.Clause ∷ []
@@ -210,30 +210,30 @@ clause_whys shape profile variables d = Form d wanted.Clause ∷ []
 -- `red` is no clause of a wait
 abbrev pub wait_clause_whys : Arrays → Bindings → Data → List Why
 wait_clause_whys shape variables (array (item t (item a no_items))) =
-    unless (is_depend t) (Form (array (item t (item a no_items))) wanted.WaitClause) ++ section_whys shape variables a
+    whys_unless (is_depend t) (Form (array (item t (item a no_items))) wanted.WaitClause) ++ section_whys shape variables a
 wait_clause_whys shape variables d = Form d wanted.WaitClause ∷ []
 
 -- ---- statements
 
 -- a body of a statement that stands in so many
-abbrev pub nested : ℕ → List Why
-nested level = unless (nat_lt level max_nesting) (Nested (short level))
+abbrev pub whys_nested : ℕ → List Why
+whys_nested level = whys_unless (nat_lt level max_nesting) (Nested (short level))
 
 module _ (shape : Arrays) (level : ℕ) (variables : Bindings) where
   abbrev pub group_whys : Data → Data → List Why
-  group_whys a b = (list_whys (section_whys shape variables) a ++ no_list b) ++ nested level
+  group_whys a b = (list_whys (section_whys shape variables) a ++ whys_no_list b) ++ whys_nested level
 
   -- the faults of a statement, without cells of a task that are declared under `red` and otherwise
   abbrev pub text_whys : Text → List Why
   text_whys (SetText a b) = target_whys shape variables a b
   text_whys (AddText a b) = target_whys shape variables a b
   text_whys (FoldText op a b) = fold_whys op ++ target_whys shape variables a b
-  text_whys (IfText a b c) = (expression_whys shape variables a ++ (no_list b ++ no_list c)) ++ nested level
+  text_whys (IfText a b c) = (expression_whys shape variables a ++ (whys_no_list b ++ whys_no_list c)) ++ whys_nested level
   text_whys (ForText a b c d) =
-      (name_whys a ++ ((size_whys variables b ++ size_whys variables c) ++ no_list d))
-      ++ (nested level ++ (deep b (size_depth b) ++ deep c (size_depth c)))
+      (name_whys a ++ ((size_whys variables b ++ size_whys variables c) ++ whys_no_list d))
+      ++ (whys_nested level ++ (whys_deep b (size_depth b) ++ whys_deep c (size_depth c)))
   text_whys Turn = []
-  text_whys (TaskText profile a b) = (list_whys (clause_whys shape profile variables) a ++ no_list b) ++ nested level
+  text_whys (TaskText profile a b) = (list_whys (clause_whys shape profile variables) a ++ whys_no_list b) ++ whys_nested level
   text_whys WaitText = []
   text_whys (WaitForText a) = list_whys (wait_clause_whys shape variables) a
   text_whys (GroupText a b) = group_whys a b
@@ -269,14 +269,14 @@ counts_of n =
 
 -- a count that is past its limit
 abbrev pub more_than : Count → ℕ → ℕ → List Why
-more_than count has may = unless (nat_le has may) (TooMany count has may)
+more_than count has may = whys_unless (nat_le has may) (TooMany count has may)
 
 -- the counts that are past their limits, in the order in which they are looked at
-abbrev pub past_limits : ℕ → CodeTally → List Why
-past_limits tasks n =
+abbrev pub whys_past_limits : ℕ → CodeTally → List Why
+whys_past_limits tasks n =
     more_than Statements n.statements max_statements ++ (more_than Turns n.turns max_turns
     ++ (more_than Nodes n.nodes max_nodes ++ (more_than Cells n.cells max_cells
-    ++ unless (nat_le n.tasks tasks) (TooManyTasks n.tasks tasks))))
+    ++ whys_unless (nat_le n.tasks tasks) (TooManyTasks n.tasks tasks))))
 
 -- The first fault of a program, and which of its entries has it. The entries are those of `ot_why_place`, in its order: the program
 -- itself, statements, loops with each of their turns, and what is of no form.
@@ -294,7 +294,7 @@ mixed_whys shape variables text = []
 -- where so much is counted up to there and with it
 abbrev pub whys_at : Arrays → CodeTally → Placed → List Why
 whys_at shape counts p =
-    text_whys shape p.level p.variables p.text ++ (past_limits shape.tasks counts ++ mixed_whys shape p.variables p.text)
+    text_whys shape p.level p.variables p.text ++ (whys_past_limits shape.tasks counts ++ mixed_whys shape p.variables p.text)
 
 module _ (shape : Arrays) where
   -- the faults of an entry behind others: those of its own parts, and each count that with it is past its limit
@@ -313,9 +313,9 @@ module _ (shape : Arrays) where
   first_among program (p ∷ rest) = first_behind [] (p ∷ rest)
 
   -- of the program that a request runs
-  abbrev pub first_fault : Data → Option (ℕ × Why)
-  first_fault (array (item t (item program no_items))) = first_among program (map (λ s. s.placed) (text_spots program))
-  first_fault request = None
+  abbrev pub first_why : Data → Option (ℕ × Why)
+  first_why (array (item t (item program no_items))) = first_among program (map (λ s. s.placed) (text_spots program))
+  first_why request = None
 
 abbrev pub found_by : Found → ℕ × Why
 found_by found = (found.index, why_by found.why)

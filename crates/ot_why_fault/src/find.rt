@@ -5,10 +5,10 @@ ghost use Rattle.serde_json.specs.View.{view, items_view};
 ghost use Rattle.ot_program.specs.Copies.{copies, copies_of, copy, turns as each_turn, at, Done, Turn as OneTurn, in_order, in_copy};
 ghost use Rattle.ot_program.specs.Limits.{total};
 ghost use Rattle.ot_program.specs.Programs.{program_copy};
-ghost use Rattle.ot_why_place.specs.Spots.{bindings_of, text_spots};
+ghost use Rattle.ot_why_place.specs.Spots.{trail_bindings, text_spots};
 ghost use Rattle.ot_why_place.specs.Texts.{text_by};
-ghost use Rattle.ot_why_fault.specs.Whys.{Form, short, after, text_whys, why_by, shape_of, counts_of, more_than, past_limits, mixed_whys, first_among, first_fault, found_by};
-ghost use Rattle.ot_why_fault.specs.Walk.{told_by, walk, step_by, walk_on, in_bodies};
+ghost use Rattle.ot_why_fault.specs.Whys.{Form, short, after, text_whys, why_by, shape_of, counts_of, more_than, whys_past_limits, mixed_whys, first_among, first_why, found_by};
+ghost use Rattle.ot_why_fault.specs.Walk.{told_by, walk, walk_step, walk_on, in_bodies};
 ghost use Rattle.ot_why_fault.specs.declared.why.Wanted.TheVariants.{Program};
 
 use crate::look::Look;
@@ -44,7 +44,7 @@ pub fn first_fault<'a>(
     arrays: &[ArrayShape],
     tasks: u32,
 ) -> Result<Option<Found<'a>>, AllocError>
-    ensures { IfOk result (λ found. option_map found_by found ≡ first_fault (shape_of arrays.now tasks) (view request.now)) }
+    ensures { IfOk result (λ found. option_map found_by found ≡ first_why (shape_of arrays.now tasks) (view request.now)) }
 {
     match request {
         Value::Array(items) => in_request(alloc, items, arrays, tasks),
@@ -59,7 +59,7 @@ fn in_request<'a>(
     arrays: &[ArrayShape],
     tasks: u32,
 ) -> Result<Option<Found<'a>>, AllocError>
-    ensures { IfOk result (λ found. option_map found_by found ≡ first_fault (shape_of arrays.now tasks) (array (items_view items.now))) }
+    ensures { IfOk result (λ found. option_map found_by found ≡ first_why (shape_of arrays.now tasks) (array (items_view items.now))) }
 {
     if items.len() != 2 {
         return Ok(None);
@@ -163,7 +163,7 @@ pub(crate) struct Turns<'a> {
 
 impl Finder<'_> {
     fn program<'a>(&self, shows: &'a Value, body: &'a Value) -> Result<Step<'a>, AllocError>
-        ensures { IfOk result (λ step. step_by step
+        ensures { IfOk result (λ step. walk_step step
             ≡ walk (shape_of self.now.arrays.now self.now.tasks) 0 (counts_of (total (shape_of self.now.arrays.now self.now.tasks) []))
             (in_copy (program_copy self.now.profile (view shows.now) (view body.now)))) }
     {
@@ -187,8 +187,8 @@ impl Finder<'_> {
         level: u32,
         passed: Passed,
     ) -> Result<Step<'a>, AllocError>
-        ensures { (nested : ℕ) → level ≡ short nested → IfOk result (λ step. step_by step ≡ walk_on self.now passed
-            (in_order (copies self.now.profile nested (view body.now) (bindings_of trail.now)))) }
+        ensures { (nested : ℕ) → level ≡ short nested → IfOk result (λ step. walk_step step ≡ walk_on self.now passed
+            (in_order (copies self.now.profile nested (view body.now) (trail_bindings trail.now)))) }
     {
         match body {
             Value::Array(items) => self.items(items, &*trail, level, passed),
@@ -204,8 +204,8 @@ impl Finder<'_> {
         level: u32,
         passed: Passed,
     ) -> Result<Step<'a>, AllocError>
-        ensures { (nested : ℕ) → level ≡ short nested → IfOk result (λ step. step_by step ≡ walk_on self.now passed
-            (in_order (copies_of self.now.profile nested (items_view items.now) (bindings_of trail.now)))) }
+        ensures { (nested : ℕ) → level ≡ short nested → IfOk result (λ step. walk_step step ≡ walk_on self.now passed
+            (in_order (copies_of self.now.profile nested (items_view items.now) (trail_bindings trail.now)))) }
     {
         let mut passed = passed;
         for item in items {
@@ -226,8 +226,8 @@ impl Finder<'_> {
         level: u32,
         passed: Passed,
     ) -> Result<Step<'a>, AllocError>
-        ensures { (nested : ℕ) → level ≡ short nested → IfOk result (λ step. step_by step ≡ walk_on self.now passed
-            (in_copy (copy self.now.profile nested (view statement.now) (bindings_of trail.now)))) }
+        ensures { (nested : ℕ) → level ≡ short nested → IfOk result (λ step. walk_step step ≡ walk_on self.now passed
+            (in_copy (copy self.now.profile nested (view statement.now) (trail_bindings trail.now)))) }
     {
         let text = text_of(self.profile, statement);
         match self.enter(text, &*trail, level, passed)? {
@@ -245,8 +245,8 @@ impl Finder<'_> {
         level: u32,
         passed: Passed,
     ) -> Result<Step<'a>, AllocError>
-        ensures { (nested : ℕ) → level ≡ short nested → IfOk result (λ step. step_by step ≡ walk_on self.now passed
-            (in_bodies self.now.profile nested (bindings_of trail.now) (text_by self.now.profile text.entry))) }
+        ensures { (nested : ℕ) → level ≡ short nested → IfOk result (λ step. walk_step step ≡ walk_on self.now passed
+            (in_bodies self.now.profile nested (trail_bindings trail.now) (text_by self.now.profile text.entry))) }
     {
         let inner = level.saturating_add(1);
         match text {
@@ -278,9 +278,9 @@ impl Finder<'_> {
         level: u32,
         passed: Passed,
     ) -> Result<Step<'a>, AllocError>
-        ensures { (nested : ℕ) → level ≡ short nested → IfOk result (λ step. step_by step ≡ walk_on self.now passed
-            (in_order (each_turn nested (bindings_of trail.now)
-            (λ n. copies self.now.profile (nested + 1) (view body.now) ((turns.entry.variable.now, n) ∷ bindings_of trail.now))
+        ensures { (nested : ℕ) → level ≡ short nested → IfOk result (λ step. walk_step step ≡ walk_on self.now passed
+            (in_order (each_turn nested (trail_bindings trail.now)
+            (λ n. copies self.now.profile (nested + 1) (view body.now) ((turns.entry.variable.now, n) ∷ trail_bindings trail.now))
             turns.entry.from (turns.entry.behind - turns.entry.from)))) }
     {
         let mut passed = passed;
@@ -306,9 +306,9 @@ impl Finder<'_> {
         level: u32,
         passed: Passed,
     ) -> Result<Step<'a>, AllocError>
-        ensures { (nested : ℕ) → level ≡ short nested → IfOk result (λ step. step_by step ≡ walk_on self.now passed
-            (in_copy (at nested (bindings_of trail.now) OneTurn
-            (copies self.now.profile (nested + 1) (view body.now) ((turn.entry.name.now, turn.entry.number) ∷ bindings_of trail.now)) Done))) }
+        ensures { (nested : ℕ) → level ≡ short nested → IfOk result (λ step. walk_step step ≡ walk_on self.now passed
+            (in_copy (at nested (trail_bindings trail.now) OneTurn
+            (copies self.now.profile (nested + 1) (view body.now) ((turn.entry.name.now, turn.entry.number) ∷ trail_bindings trail.now)) Done))) }
     {
         match self.enter(Text::Turn, &*trail, level, passed)? {
             Step::Passed(passed) => {
@@ -327,8 +327,8 @@ impl Finder<'_> {
         level: u32,
         passed: Passed,
     ) -> Result<Step<'a>, AllocError>
-        ensures { (nested : ℕ) → level ≡ short nested → IfOk result (λ step. step_by step ≡ walk_on self.now passed
-            (record { level = nested; variables = bindings_of trail.now; text = text_by self.now.profile text.entry } ∷ [])) }
+        ensures { (nested : ℕ) → level ≡ short nested → IfOk result (λ step. walk_step step ≡ walk_on self.now passed
+            (record { level = nested; variables = trail_bindings trail.now; text = text_by self.now.profile text.entry } ∷ [])) }
     {
         let look = Look {
             arrays: self.arrays,
@@ -359,9 +359,9 @@ impl Finder<'_> {
         trail: &Trail<'_, 'a>,
     ) -> Result<Option<Why<'a>>, AllocError>
         ensures { (level : ℕ)
-            → (option_map why_by told.entry ≡ None → text_whys (shape_of self.now.arrays.now self.now.tasks) level (bindings_of trail.now) (text_by self.now.profile text.entry) ≡ [])
+            → (option_map why_by told.entry ≡ None → text_whys (shape_of self.now.arrays.now self.now.tasks) level (trail_bindings trail.now) (text_by self.now.profile text.entry) ≡ [])
             → IfOk result (λ why. option_map why_by why ≡ after (option_map why_by told.entry)
-            (mixed_whys (shape_of self.now.arrays.now self.now.tasks) (bindings_of trail.now) (text_by self.now.profile text.entry))) }
+            (mixed_whys (shape_of self.now.arrays.now self.now.tasks) (trail_bindings trail.now) (text_by self.now.profile text.entry))) }
     {
         match told {
             Some(why) => Ok(Some(why)),
@@ -376,9 +376,9 @@ impl Finder<'_> {
         trail: &Trail<'_, 'a>,
     ) -> Result<Option<Why<'a>>, AllocError>
         ensures { (level : ℕ)
-            → text_whys (shape_of self.now.arrays.now self.now.tasks) level (bindings_of trail.now) (text_by self.now.profile text.entry) ≡ []
+            → text_whys (shape_of self.now.arrays.now self.now.tasks) level (trail_bindings trail.now) (text_by self.now.profile text.entry) ≡ []
             → IfOk result (λ why. option_map why_by why
-            ≡ after None (mixed_whys (shape_of self.now.arrays.now self.now.tasks) (bindings_of trail.now) (text_by self.now.profile text.entry))) }
+            ≡ after None (mixed_whys (shape_of self.now.arrays.now self.now.tasks) (trail_bindings trail.now) (text_by self.now.profile text.entry))) }
     {
         match text {
             Text::Task(clauses, _) => {
@@ -395,7 +395,7 @@ impl Finder<'_> {
 impl First<'_> {
     /// Counts that are past their limits.
     fn past_limits(&mut self, counts: Tally, tasks: u64)
-        ensures { told_by self.new ≡ after (told_by self.old) (past_limits tasks counts) }
+        ensures { told_by self.new ≡ after (told_by self.old) (whys_past_limits tasks counts) }
     {
         self.more_than(Count::Statements, counts.statements, MAX_STATEMENTS);
         self.more_than(Count::Turns, counts.turns, MAX_TURNS);

@@ -4,8 +4,8 @@ ghost use Rattle.serde_json.specs.Data.{string, array};
 ghost use Rattle.serde_json.specs.View.{view, items_view};
 ghost use Rattle.ot_model.specs.Programs.{arrays_of};
 ghost use Rattle.ot_program.specs.Limits.{size_depth};
-ghost use Rattle.ot_program.specs.Meanings.{letters, bound, size, op_of, length_of, section, value};
-ghost use Rattle.ot_why_fault.specs.Whys.{after, long, is_named, name_whys, variable_whys, size_whys, deep, array_whys, indexed_whys, cell_whys, section_of_whys, section_whys, value_whys, expression_whys};
+ghost use Rattle.ot_program.specs.Meanings.{letters, number_bound, size, op_of, length_of, section, value};
+ghost use Rattle.ot_why_fault.specs.Whys.{after, long, is_named, name_whys, variable_whys, size_whys, whys_deep, array_whys, indexed_whys, cell_whys, section_of_whys, section_whys, value_whys, expression_whys};
 ghost use Rattle.ot_why_fault.specs.Walk.{told_by, shape_by, variables_by, measure_of};
 
 use crate::why::{First, Wanted, Why};
@@ -55,14 +55,14 @@ impl<'a> First<'a> {
 
     /// That an expression is of no greater depth than it may be.
     fn deep(&mut self, part: &'a Value, depth: u64)
-        ensures { (is : ℕ) → depth ≡ long is → told_by self.new ≡ after (told_by self.old) (deep (view part.now) is) }
+        ensures { (is : ℕ) → depth ≡ long is → told_by self.new ≡ after (told_by self.old) (whys_deep (view part.now) is) }
     {
         self.unless(depth <= MAX_DEPTH, Why::Deep(part, depth));
     }
 
     /// That a size is of no greater depth than it may be.
     pub(crate) fn shallow(&mut self, part: &'a Value)
-        ensures { told_by self.new ≡ after (told_by self.old) (deep (view part.now) (size_depth (view part.now))) }
+        ensures { told_by self.new ≡ after (told_by self.old) (whys_deep (view part.now) (size_depth (view part.now))) }
     {
         self.deep(part, depth_of_size(part));
     }
@@ -82,7 +82,7 @@ impl<'a> Look<'_, '_, 'a> {
     /// A variable: its number, or 0.
     fn variable(&self, first: &mut First<'a>, part: &'a Value, name: &'a str) -> u64
         requires { view part.now ≡ string name.now }
-        ensures number { result ≡ unwrap_or (bound (variables_by self.now) name.now) 0 }
+        ensures number { result ≡ unwrap_or (number_bound (variables_by self.now) name.now) 0 }
         ensures first { told_by first.new ≡ after (told_by first.old) (variable_whys (variables_by self.now) name.now) }
     {
         let number = self.trail.number(name);

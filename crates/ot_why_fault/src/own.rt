@@ -6,7 +6,7 @@ ghost use Rattle.ot_program.specs.Copies.{IfText, ForText, TaskText};
 ghost use Rattle.ot_program.specs.Limits.{cells_in, own_tally, with_value, tally};
 ghost use Rattle.ot_program.specs.Meanings.{items, each, fold_of, section, value, clause, wait_clause};
 ghost use Rattle.ot_why_place.specs.Texts.{text_by};
-ghost use Rattle.ot_why_fault.specs.Whys.{after, long, is_depend, is_mode, no_list, name_whys, fold_whys, red_whys, clause_whys, wait_clause_whys, section_whys, list_whys, nested, target_whys, group_whys, text_whys, counts_of};
+ghost use Rattle.ot_why_fault.specs.Whys.{after, long, is_depend, is_mode, whys_no_list, name_whys, fold_whys, red_whys, clause_whys, wait_clause_whys, section_whys, list_whys, whys_nested, target_whys, group_whys, text_whys, counts_of};
 ghost use Rattle.ot_why_fault.specs.Walk.{told_by, shape_by, variables_by, counts_with, measure_of};
 
 use crate::look::{Look, Measure};
@@ -108,7 +108,7 @@ impl<'a> First<'a> {
     }
 
     fn list(&mut self, part: &'a Value)
-        ensures { told_by self.new ≡ after (told_by self.old) (no_list (view part.now)) }
+        ensures { told_by self.new ≡ after (told_by self.old) (whys_no_list (view part.now)) }
     {
         self.unless(
             matches!(part, Value::Array(_)),
@@ -118,7 +118,7 @@ impl<'a> First<'a> {
 
     /// That a statement in `level` bodies may have one.
     fn nested(&mut self, level: u32)
-        ensures { told_by self.new ≡ after (told_by self.old) (nested level) }
+        ensures { told_by self.new ≡ after (told_by self.old) (whys_nested level) }
     {
         self.unless(level < MAX_NESTING, Why::Nested(level));
     }

@@ -1,6 +1,6 @@
 //! What is at fault in a program.
 ghost use Rattle.std.specs.Prelude.{◌≡◌, None};
-ghost use Rattle.ot_why_fault.specs.Whys.{refusal_of, noted, after, why_by, unless};
+ghost use Rattle.ot_why_fault.specs.Whys.{refusal_of, why_noted, after, why_by, whys_unless};
 ghost use Rattle.ot_why_fault.specs.Walk.{told_by};
 
 use ot_model::Op;
@@ -101,7 +101,7 @@ impl<'a> First<'a> {
 
     /// One fault more.
     pub(crate) fn note(&mut self, why: Why<'a>)
-        ensures { told_by self.new ≡ noted (told_by self.old) (why_by why.entry) }
+        ensures { told_by self.new ≡ why_noted (told_by self.old) (why_by why.entry) }
     {
         self.why = Some(match self.why {
             Some(earlier) if rank(earlier.refusal()) <= rank(why.refusal()) => earlier,
@@ -111,7 +111,7 @@ impl<'a> First<'a> {
 
     /// One fault more, unless a test holds.
     pub(crate) fn unless(&mut self, test: bool, why: Why<'a>)
-        ensures { told_by self.new ≡ after (told_by self.old) (unless test (why_by why.entry)) }
+        ensures { told_by self.new ≡ after (told_by self.old) (whys_unless test (why_by why.entry)) }
     {
         if !test {
             self.note(why);

@@ -10,9 +10,9 @@ use Rattle.ot_model.specs.declared.expr.Cell.{Cell}
 use Rattle.ot_model.specs.declared.expr.Section.{Section}
 use Rattle.ot_model.specs.declared.stmt.Mode.{Mode}
 use Rattle.ot_model.specs.declared.stmt.Mode.TheVariants.{Reads, Writes, Folds}
-use Rattle.ot_program.specs.Meanings.{placed, named_cells, names, operation_in, named_otherwise, is_mixed, Clause}
+use Rattle.ot_program.specs.Meanings.{cell_placed, named_cells, names, operation_in, named_otherwise, is_mixed, Clause}
 use Rattle.ot_program.proofs.Declared.{same_keys, keys_same}
-use Rattle.ot_why_mixed.specs.Mixed.{first_mixed, named}
+use Rattle.ot_why_mixed.specs.Mixed.{first_mixed, cell_by_name}
 use Rattle.ot_why_mixed.specs.Rows.{Row, address, row_of, Fits, same_operation}
 use Rattle.ot_why_mixed.proofs.InLemmas.{In, in_left, in_right, in_either, any_in, in_any}
 use Rattle.ot_why_mixed.proofs.SweepLemmas.{Covers, Clear, Outcome, operation_differs}
@@ -178,30 +178,30 @@ else_behind c d not_before not_same =
 
 -- a cell goes before the next one, or is it, or goes behind it
 placed_case : (P : List Cell → Type 0) (c x : Cell) (cs : List Cell) → (is_before c x ≡ true → P (c ∷ x ∷ cs)) → (same_cell c x ≡ true → P (x ∷ cs))
-    → (is_before c x ≡ false → same_cell c x ≡ false → P (x ∷ placed cs c)) → P (placed (x ∷ cs) c)
+    → (is_before c x ≡ false → same_cell c x ≡ false → P (x ∷ cell_placed cs c)) → P (cell_placed (x ∷ cs) c)
 placed_case P c x cs before same behind = by (is_before c x) (same_cell c x) refl refl
   where
-    by : (a b : Bool) → is_before c x ≡ a → same_cell c x ≡ b → P (cond a (c ∷ x ∷ cs) (cond b (x ∷ cs) (x ∷ placed cs c)))
+    by : (a b : Bool) → is_before c x ≡ a → same_cell c x ≡ b → P (cond a (c ∷ x ∷ cs) (cond b (x ∷ cs) (x ∷ cell_placed cs c)))
     by true b h k = before h
     by false true h k = same k
     by false false h k = behind h k
 
 -- what stands there with one more
-placed_in : (cs : List Cell) (c d : Cell) → In d (placed cs c) → (d ≡ c) ⊎ In d cs
+placed_in : (cs : List Cell) (c d : Cell) → In d (cell_placed cs c) → (d ≡ c) ⊎ In d cs
 placed_in [] c d = λ h. h
 placed_in (x ∷ cs) c d =
     placed_case (λ l. In d l → (d ≡ c) ⊎ In d (x ∷ cs)) c x cs (λ e h. h) (λ e h. inr h) (λ e f h.
     elim h [ inl is ↦ inr (inl is) | inr there ↦ elim (placed_in cs c d there) [ inl is ↦ inl is | inr k ↦ inr (inr k) ] ])
 
-new_in : (cs : List Cell) (c : Cell) → In c (placed cs c)
+new_in : (cs : List Cell) (c : Cell) → In c (cell_placed cs c)
 new_in [] c = inl refl
 new_in (x ∷ cs) c = placed_case (In c) c x cs (λ e. inl refl) (λ e. let is = cell_is c x e in inl (one_cell c x is.0 is.1)) (λ e f. inr (new_in cs c))
 
-old_in : (cs : List Cell) (c d : Cell) → In d cs → In d (placed cs c)
+old_in : (cs : List Cell) (c d : Cell) → In d cs → In d (cell_placed cs c)
 old_in [] c d h = absurd h
 old_in (x ∷ cs) c d h = placed_case (In d) c x cs (λ e. inr h) (λ e. h) (λ e f. elim h [ inl is ↦ inl is | inr k ↦ inr (old_in cs c d k) ])
 
-ascending_placed : (cs : List Cell) (c : Cell) → Ascending cs → Ascending (placed cs c)
+ascending_placed : (cs : List Cell) (c : Cell) → Ascending cs → Ascending (cell_placed cs c)
 ascending_placed [] c up = (λ d h. absurd h, tt)
 ascending_placed (x ∷ cs) c up =
     placed_case Ascending c x cs (λ e. (first (before_is c x e), up)) (λ e. up) (λ e f. (behind (else_behind c x e f), ascending_placed cs c up.1))
@@ -210,29 +210,29 @@ ascending_placed (x ∷ cs) c up =
     first p d (inl e) = subst (Precedes c) (sym e) p
     first p d (inr h) = precedes_on c x d p (up.0 d h)
 
-    behind : Precedes x c → (d : Cell) → In d (placed cs c) → Precedes x d
+    behind : Precedes x c → (d : Cell) → In d (cell_placed cs c) → Precedes x d
     behind p d h = elim (placed_in cs c d h) [ inl e ↦ subst (Precedes x) (sym e) p | inr k ↦ up.0 d k ]
 
-all_ascending : (cs ds : List Cell) → Ascending cs → Ascending (fold placed cs ds)
+all_ascending : (cs ds : List Cell) → Ascending cs → Ascending (fold cell_placed cs ds)
 all_ascending cs [] up = up
-all_ascending cs (d ∷ ds) up = all_ascending (placed cs d) ds (ascending_placed cs d up)
+all_ascending cs (d ∷ ds) up = all_ascending (cell_placed cs d) ds (ascending_placed cs d up)
 
-all_in : (cs ds : List Cell) (c : Cell) → In c (fold placed cs ds) → In c cs ⊎ In c ds
+all_in : (cs ds : List Cell) (c : Cell) → In c (fold cell_placed cs ds) → In c cs ⊎ In c ds
 all_in cs [] c h = inl h
 all_in cs (d ∷ ds) c h =
-    elim (all_in (placed cs d) ds c h) [
+    elim (all_in (cell_placed cs d) ds c h) [
       | inl k ↦ elim (placed_in cs d c k) [ inl e ↦ inr (inl e) | inr old ↦ inl old ]
       | inr k ↦ inr (inr k)
     ]
 
-old_all : (cs ds : List Cell) (c : Cell) → In c cs → In c (fold placed cs ds)
+old_all : (cs ds : List Cell) (c : Cell) → In c cs → In c (fold cell_placed cs ds)
 old_all cs [] c h = h
-old_all cs (d ∷ ds) c h = old_all (placed cs d) ds c (old_in cs d c h)
+old_all cs (d ∷ ds) c h = old_all (cell_placed cs d) ds c (old_in cs d c h)
 
-in_all : (cs ds : List Cell) (c : Cell) → In c ds → In c (fold placed cs ds)
+in_all : (cs ds : List Cell) (c : Cell) → In c ds → In c (fold cell_placed cs ds)
 in_all cs [] c h = absurd h
-in_all cs (d ∷ ds) c (inl e) = old_all (placed cs d) ds c (subst (λ (x : Cell). In x (placed cs d)) (sym e) (new_in cs d))
-in_all cs (d ∷ ds) c (inr h) = in_all (placed cs d) ds c h
+in_all cs (d ∷ ds) c (inl e) = old_all (cell_placed cs d) ds c (subst (λ (x : Cell). In x (cell_placed cs d)) (sym e) (new_in cs d))
+in_all cs (d ∷ ds) c (inr h) = in_all (cell_placed cs d) ds c h
 
 flat_in : (clauses : List Clause) (c : Cell) → In c (flat_map (λ k. cells_of k.section) clauses) → (k : Clause) × (In k clauses × In c (cells_of k.section))
 flat_in [] c h = absurd h
@@ -331,7 +331,7 @@ first_is shape clauses rows k l sound there k_in l_in covers differ before =
 
 pub mixed_is : (shape : Arrays) (clauses : List Clause) (rows : List Row) (found : Option Row) → ((k : Clause) → In k clauses → Fits k.section)
     → ((k : Clause) → In k clauses → In (row_of shape k) rows) → ((r : Row) → In r rows → (k : Clause) × (In k clauses × (r ≡ row_of shape k)))
-    → Outcome rows found → option_map told_of found ≡ option_map (named shape) (first_mixed clauses)
+    → Outcome rows found → option_map told_of found ≡ option_map (cell_by_name shape) (first_mixed clauses)
 mixed_is shape clauses rows None sound there back clear =
     rw (find_none (is_mixed clauses) (named_cells clauses) (λ c h. none_mixed shape clauses rows there c (clear (address c.array c.index)))) refl
 mixed_is shape clauses rows (Some r) sound there back first =
@@ -343,4 +343,4 @@ mixed_is shape clauses rows (Some r) sound there back first =
     let differ : same_operation (operation_in k.0.mode) (operation_in l.0.mode) ≡ false =
     subst (λ (it : Row). same_operation (operation_in k.0.mode) it.fold ≡ false) l.1.1 (subst (λ (it : Row). same_operation it.fold q.0.fold ≡ false) k.1.1 q.1.1.1) in
     let is = first_is shape clauses rows k.0 l.0 sound there k.1.0 l.1.0 covers differ (λ x below. first.before x (subst (λ (it : Row). x < it.from) (sym k.1.1) below)) in
-    ap (λ (it : Row). Some (told_of it)) k.1.1 ∙ ap (option_map (named shape)) (sym is)
+    ap (λ (it : Row). Some (told_of it)) k.1.1 ∙ ap (option_map (cell_by_name shape)) (sym is)

@@ -13,7 +13,7 @@ use Rattle.serde_json.specs.declared.value.Value.{Value}
 use Rattle.ot_model.specs.Programs.{Arrays}
 use Rattle.ot_program.specs.Meanings.{each, Clause}
 use Rattle.ot_program.specs.declared.fault.Refusal.{Refusal}
-use Rattle.ot_why_mixed.specs.Mixed.{named, first_mixed}
+use Rattle.ot_why_mixed.specs.Mixed.{cell_by_name, first_mixed}
 use Rattle.ot_why_mixed.specs.Rows.{Row, row_of, row_by, Fits, sweep}
 use Rattle.ot_why_mixed.specs.declared.clause.Named.{Named}
 use Rattle.ot_why_mixed.proofs.ClauseLemmas.{none_first, none_second}
@@ -51,9 +51,9 @@ rows_next f vs i v old new o whole within is pushed row so_far =
     ap (λ (ns : List Named). map row_by ns ++ rest) pushed ∙ put_row old o (f (view v)) rest row
     ∙ ap (λ (ds : List Data). map row_by old ++ map f ds) (sym (each-next vs i v within is)) ∙ so_far
 
-pub rows_end : (f : Data → Row) (vs : List Value) (i : ℕ) (named : List Named) (whole : List Row) → length vs ≤ i
-    → map row_by named ++ map f (each (items_view (drop i vs))) ≡ whole → map row_by named ≡ whole
-rows_end f vs i named whole past h = sym (append-nil (map row_by named)) ∙ (rw (drop_all i vs past) at h)
+pub rows_end : (f : Data → Row) (vs : List Value) (i : ℕ) (cell_by_name : List Named) (whole : List Row) → length vs ≤ i
+    → map row_by cell_by_name ++ map f (each (items_view (drop i vs))) ≡ whole → map row_by cell_by_name ≡ whole
+rows_end f vs i cell_by_name whole past h = sym (append-nil (map row_by cell_by_name)) ∙ (rw (drop_all i vs past) at h)
 
 pub fits_next : (P : Data → Type 0) (vs : List Value) (i : ℕ) (v : Value) → i < length vs → v ≡ get_or vs i v → P (view v)
     → (AllByRecursion P (each (items_view (drop i vs))) → AllByRecursion P (each (items_view vs)))
@@ -92,7 +92,7 @@ map_twice shape f (d ∷ ds) = ap (λ (rs : List Row). row_of shape (f d) ∷ rs
 pub told_among : (shape : Arrays) (f : Data → Clause) (ds : List Data) (before after : List Named) (found : Option Row)
     → AllByRecursion (λ d. Fits (f d).section) ds → map row_by before ≡ map (λ d. row_of shape (f d)) ds → IsPermutation before after
     → IsNonDecreasingBy (λ (n : Named). n.from) after → found ≡ sweep 0 None (map row_by after)
-    → option_map told_of found ≡ option_map (named shape) (first_mixed (map f ds))
+    → option_map told_of found ≡ option_map (cell_by_name shape) (first_mixed (map f ds))
 told_among shape f ds before after found fit rows permuted sorted is =
     let same : map row_by before ≡ map (row_of shape) (map f ds) = rows ∙ map_twice shape f ds in
     let there = IsPermutation-map row_by before after permuted in

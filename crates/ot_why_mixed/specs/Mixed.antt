@@ -14,16 +14,16 @@ abbrev pub first_mixed : List Clause → Option Cell
 first_mixed clauses = find (is_mixed clauses) (named_cells clauses)
 
 -- the name of the array at a position
-abbrev pub name_at : Arrays → ℕ → List ℕ
-name_at shape position = unwrap_or (option_map (λ a. a.0) (slice_get shape.arrays position)) []
+abbrev pub position_name : Arrays → ℕ → List ℕ
+position_name shape position = unwrap_or (option_map (λ a. a.0) (slice_get shape.arrays position)) []
 
 -- a cell by the name of its array, and its index
-abbrev pub named : Arrays → Cell → List ℕ × ℕ
-named shape c = (name_at shape c.array, c.index)
+abbrev pub cell_by_name : Arrays → Cell → List ℕ × ℕ
+cell_by_name shape c = (position_name shape c.array, c.index)
 
 -- what is told of clauses: the name and the index of that cell
 abbrev pub mixed_of : Arrays → Profile → Bindings → Data → Option (List ℕ × ℕ)
-mixed_of shape profile variables clauses = option_map (named shape) (first_mixed (map (clause shape profile variables) (items clauses)))
+mixed_of shape profile variables clauses = option_map (cell_by_name shape) (first_mixed (map (clause shape profile variables) (items clauses)))
 
 -- the faults that clauses have by themselves
 abbrev pub faults_of : Arrays → Profile → Bindings → Data → List Refusal

@@ -6,7 +6,7 @@ use Rattle.ot_model.specs.Cells.{same_fold}
 use Rattle.ot_model.specs.declared.expr.Section.{Section}
 use Rattle.ot_model.specs.declared.fold.Fold.{Fold}
 use Rattle.ot_why_mixed.specs.declared.clause.Named.{Named}
-use Rattle.ot_why_mixed.specs.Mixed.{name_at}
+use Rattle.ot_why_mixed.specs.Mixed.{position_name}
 
 -- where a cell stands in the row
 abbrev pub address : ℕ → ℕ → ℕ
@@ -22,7 +22,7 @@ pub record Row : Type 0 where
 
 abbrev pub row_at : Arrays → Section → Option Fold → Row
 row_at shape s fold = record {
-  name = name_at shape s.array;
+  name = position_name shape s.array;
   start = s.start;
   from = address s.array s.start;
   to = address s.array (s.start + s.len);

@@ -7,7 +7,7 @@ ghost use Rattle.ot_model.specs.declared.fold.Fold.TheVariants.{Plus};
 ghost use Rattle.ot_program.specs.Faults.{section_faults, clause_faults};
 ghost use Rattle.ot_program.specs.Meanings.{section, clause, fold_of, is_word};
 ghost use Rattle.ot_program.specs.declared.profile.Profile.{Profile};
-ghost use Rattle.ot_why_place.specs.Spots.{bindings_of};
+ghost use Rattle.ot_why_place.specs.Spots.{trail_bindings};
 ghost use Rattle.ot_why_mixed.specs.Rows.{row_at, row_of, row_by, Fits, place_from};
 
 use ot_model::{ArrayShape, Fold};
@@ -34,10 +34,10 @@ pub(crate) fn clause_of<'a>(
     part: &'a Value,
     trail: &Trail<'_, 'a>,
 ) -> Option<Named<'a>>
-    ensures row { (shape : Arrays) (profile : Profile) → shape.arrays ≡ arrays_of arrays.now → clause_faults shape profile (bindings_of trail.now) (view part.now) ≡ []
-        → option_map row_by result ≡ Some (row_of shape (clause shape profile (bindings_of trail.now) (view part.now))) }
-    ensures fits { (shape : Arrays) (profile : Profile) → shape.arrays ≡ arrays_of arrays.now → clause_faults shape profile (bindings_of trail.now) (view part.now) ≡ []
-        → Fits (clause shape profile (bindings_of trail.now) (view part.now)).section }
+    ensures row { (shape : Arrays) (profile : Profile) → shape.arrays ≡ arrays_of arrays.now → clause_faults shape profile (trail_bindings trail.now) (view part.now) ≡ []
+        → option_map row_by result ≡ Some (row_of shape (clause shape profile (trail_bindings trail.now) (view part.now))) }
+    ensures fits { (shape : Arrays) (profile : Profile) → shape.arrays ≡ arrays_of arrays.now → clause_faults shape profile (trail_bindings trail.now) (view part.now) ≡ []
+        → Fits (clause shape profile (trail_bindings trail.now) (view part.now)).section }
 {
     match part {
         Value::Array(items) => clause_of_items(arrays, items, trail),
@@ -50,10 +50,10 @@ fn clause_of_items<'a>(
     items: &'a [Value],
     trail: &Trail<'_, 'a>,
 ) -> Option<Named<'a>>
-    ensures row { (shape : Arrays) (profile : Profile) → shape.arrays ≡ arrays_of arrays.now → clause_faults shape profile (bindings_of trail.now) (array (items_view items.now)) ≡ []
-        → option_map row_by result ≡ Some (row_of shape (clause shape profile (bindings_of trail.now) (array (items_view items.now)))) }
-    ensures fits { (shape : Arrays) (profile : Profile) → shape.arrays ≡ arrays_of arrays.now → clause_faults shape profile (bindings_of trail.now) (array (items_view items.now)) ≡ []
-        → Fits (clause shape profile (bindings_of trail.now) (array (items_view items.now))).section }
+    ensures row { (shape : Arrays) (profile : Profile) → shape.arrays ≡ arrays_of arrays.now → clause_faults shape profile (trail_bindings trail.now) (array (items_view items.now)) ≡ []
+        → option_map row_by result ≡ Some (row_of shape (clause shape profile (trail_bindings trail.now) (array (items_view items.now)))) }
+    ensures fits { (shape : Arrays) (profile : Profile) → shape.arrays ≡ arrays_of arrays.now → clause_faults shape profile (trail_bindings trail.now) (array (items_view items.now)) ≡ []
+        → Fits (clause shape profile (trail_bindings trail.now) (array (items_view items.now))).section }
 {
     if items.len() == 2 {
         return clause_of_two(arrays, items, trail);
@@ -70,10 +70,10 @@ fn clause_of_two<'a>(
     trail: &Trail<'_, 'a>,
 ) -> Option<Named<'a>>
     requires { length items.now ≡ 2 }
-    ensures row { (shape : Arrays) (profile : Profile) → shape.arrays ≡ arrays_of arrays.now → clause_faults shape profile (bindings_of trail.now) (array (items_view items.now)) ≡ []
-        → option_map row_by result ≡ Some (row_of shape (clause shape profile (bindings_of trail.now) (array (items_view items.now)))) }
-    ensures fits { (shape : Arrays) (profile : Profile) → shape.arrays ≡ arrays_of arrays.now → clause_faults shape profile (bindings_of trail.now) (array (items_view items.now)) ≡ []
-        → Fits (clause shape profile (bindings_of trail.now) (array (items_view items.now))).section }
+    ensures row { (shape : Arrays) (profile : Profile) → shape.arrays ≡ arrays_of arrays.now → clause_faults shape profile (trail_bindings trail.now) (array (items_view items.now)) ≡ []
+        → option_map row_by result ≡ Some (row_of shape (clause shape profile (trail_bindings trail.now) (array (items_view items.now)))) }
+    ensures fits { (shape : Arrays) (profile : Profile) → shape.arrays ≡ arrays_of arrays.now → clause_faults shape profile (trail_bindings trail.now) (array (items_view items.now)) ≡ []
+        → Fits (clause shape profile (trail_bindings trail.now) (array (items_view items.now))).section }
 {
     match items {
         [tag, section] => section_of(arrays, section, fold_of_word(tag), trail),
@@ -87,10 +87,10 @@ fn clause_of_three<'a>(
     trail: &Trail<'_, 'a>,
 ) -> Option<Named<'a>>
     requires { length items.now ≡ 3 }
-    ensures row { (shape : Arrays) (profile : Profile) → shape.arrays ≡ arrays_of arrays.now → clause_faults shape profile (bindings_of trail.now) (array (items_view items.now)) ≡ []
-        → option_map row_by result ≡ Some (row_of shape (clause shape profile (bindings_of trail.now) (array (items_view items.now)))) }
-    ensures fits { (shape : Arrays) (profile : Profile) → shape.arrays ≡ arrays_of arrays.now → clause_faults shape profile (bindings_of trail.now) (array (items_view items.now)) ≡ []
-        → Fits (clause shape profile (bindings_of trail.now) (array (items_view items.now))).section }
+    ensures row { (shape : Arrays) (profile : Profile) → shape.arrays ≡ arrays_of arrays.now → clause_faults shape profile (trail_bindings trail.now) (array (items_view items.now)) ≡ []
+        → option_map row_by result ≡ Some (row_of shape (clause shape profile (trail_bindings trail.now) (array (items_view items.now)))) }
+    ensures fits { (shape : Arrays) (profile : Profile) → shape.arrays ≡ arrays_of arrays.now → clause_faults shape profile (trail_bindings trail.now) (array (items_view items.now)) ≡ []
+        → Fits (clause shape profile (trail_bindings trail.now) (array (items_view items.now))).section }
 {
     match items {
         [_tag, op, section] => section_of(arrays, section, fold_of(op), trail),
@@ -105,10 +105,10 @@ fn section_of<'a>(
     fold: Option<Fold>,
     trail: &Trail<'_, 'a>,
 ) -> Option<Named<'a>>
-    ensures row { (shape : Arrays) → shape.arrays ≡ arrays_of arrays.now → section_faults shape (bindings_of trail.now) (view part.now) ≡ []
-        → option_map row_by result ≡ Some (row_at shape (section shape (bindings_of trail.now) (view part.now)) fold) }
-    ensures fits { (shape : Arrays) → shape.arrays ≡ arrays_of arrays.now → section_faults shape (bindings_of trail.now) (view part.now) ≡ []
-        → Fits (section shape (bindings_of trail.now) (view part.now)) }
+    ensures row { (shape : Arrays) → shape.arrays ≡ arrays_of arrays.now → section_faults shape (trail_bindings trail.now) (view part.now) ≡ []
+        → option_map row_by result ≡ Some (row_at shape (section shape (trail_bindings trail.now) (view part.now)) fold) }
+    ensures fits { (shape : Arrays) → shape.arrays ≡ arrays_of arrays.now → section_faults shape (trail_bindings trail.now) (view part.now) ≡ []
+        → Fits (section shape (trail_bindings trail.now) (view part.now)) }
 {
     match part {
         Value::Array(items) => section_of_items(arrays, items, fold, trail),
@@ -122,10 +122,10 @@ fn section_of_items<'a>(
     fold: Option<Fold>,
     trail: &Trail<'_, 'a>,
 ) -> Option<Named<'a>>
-    ensures row { (shape : Arrays) → shape.arrays ≡ arrays_of arrays.now → section_faults shape (bindings_of trail.now) (array (items_view items.now)) ≡ []
-        → option_map row_by result ≡ Some (row_at shape (section shape (bindings_of trail.now) (array (items_view items.now))) fold) }
-    ensures fits { (shape : Arrays) → shape.arrays ≡ arrays_of arrays.now → section_faults shape (bindings_of trail.now) (array (items_view items.now)) ≡ []
-        → Fits (section shape (bindings_of trail.now) (array (items_view items.now))) }
+    ensures row { (shape : Arrays) → shape.arrays ≡ arrays_of arrays.now → section_faults shape (trail_bindings trail.now) (array (items_view items.now)) ≡ []
+        → option_map row_by result ≡ Some (row_at shape (section shape (trail_bindings trail.now) (array (items_view items.now))) fold) }
+    ensures fits { (shape : Arrays) → shape.arrays ≡ arrays_of arrays.now → section_faults shape (trail_bindings trail.now) (array (items_view items.now)) ≡ []
+        → Fits (section shape (trail_bindings trail.now) (array (items_view items.now))) }
 {
     if items.len() != 3 {
         return None;
@@ -144,10 +144,10 @@ fn cells_of<'a>(
     fold: Option<Fold>,
     trail: &Trail<'_, 'a>,
 ) -> Option<Named<'a>>
-    ensures row { (shape : Arrays) → shape.arrays ≡ arrays_of arrays.now → section_faults shape (bindings_of trail.now) (array (item (view name.now) (item (view start.now) (item (view len.now) no_items)))) ≡ []
-        → option_map row_by result ≡ Some (row_at shape (section shape (bindings_of trail.now) (array (item (view name.now) (item (view start.now) (item (view len.now) no_items))))) fold) }
-    ensures fits { (shape : Arrays) → shape.arrays ≡ arrays_of arrays.now → section_faults shape (bindings_of trail.now) (array (item (view name.now) (item (view start.now) (item (view len.now) no_items)))) ≡ []
-        → Fits (section shape (bindings_of trail.now) (array (item (view name.now) (item (view start.now) (item (view len.now) no_items))))) }
+    ensures row { (shape : Arrays) → shape.arrays ≡ arrays_of arrays.now → section_faults shape (trail_bindings trail.now) (array (item (view name.now) (item (view start.now) (item (view len.now) no_items)))) ≡ []
+        → option_map row_by result ≡ Some (row_at shape (section shape (trail_bindings trail.now) (array (item (view name.now) (item (view start.now) (item (view len.now) no_items))))) fold) }
+    ensures fits { (shape : Arrays) → shape.arrays ≡ arrays_of arrays.now → section_faults shape (trail_bindings trail.now) (array (item (view name.now) (item (view start.now) (item (view len.now) no_items)))) ≡ []
+        → Fits (section shape (trail_bindings trail.now) (array (item (view name.now) (item (view start.now) (item (view len.now) no_items))))) }
 {
     let array = letters(name);
     let (position, cells) = place_of(arrays, array)?;

@@ -8,7 +8,7 @@ ghost use Rattle.ot_model.specs.Programs.{Arrays, arrays_of};
 ghost use Rattle.ot_program.specs.Faults.{clause_faults};
 ghost use Rattle.ot_program.specs.Meanings.{each, clause};
 ghost use Rattle.ot_program.specs.declared.profile.Profile.{Profile};
-ghost use Rattle.ot_why_place.specs.Spots.{bindings_of};
+ghost use Rattle.ot_why_place.specs.Spots.{trail_bindings};
 ghost use Rattle.ot_why_mixed.specs.Mixed.{mixed_of, faults_of, named_by};
 ghost use Rattle.ot_why_mixed.specs.Rows.{row_of, row_by, Fits, same_operation, sweep};
 
@@ -26,8 +26,8 @@ pub fn mixed_in<'a>(
     clauses: &'a Value,
     trail: &Trail<'_, 'a>,
 ) -> Result<Option<(&'a str, u32)>, AllocError>
-    ensures { (shape : Arrays) (profile : Profile) → shape.arrays ≡ arrays_of arrays.now → faults_of shape profile (bindings_of trail.now) (view clauses.now) ≡ []
-        → IfOk result (λ found. option_map named_by found ≡ mixed_of shape profile (bindings_of trail.now) (view clauses.now)) }
+    ensures { (shape : Arrays) (profile : Profile) → shape.arrays ≡ arrays_of arrays.now → faults_of shape profile (trail_bindings trail.now) (view clauses.now) ≡ []
+        → IfOk result (λ found. option_map named_by found ≡ mixed_of shape profile (trail_bindings trail.now) (view clauses.now)) }
 {
     match clauses {
         Value::Array(items) => mixed_among(alloc, arrays, items, trail),
@@ -41,8 +41,8 @@ fn mixed_among<'a>(
     items: &'a [Value],
     trail: &Trail<'_, 'a>,
 ) -> Result<Option<(&'a str, u32)>, AllocError>
-    ensures { (shape : Arrays) (profile : Profile) → shape.arrays ≡ arrays_of arrays.now → faults_of shape profile (bindings_of trail.now) (array (items_view items.now)) ≡ []
-        → IfOk result (λ found. option_map named_by found ≡ mixed_of shape profile (bindings_of trail.now) (array (items_view items.now))) }
+    ensures { (shape : Arrays) (profile : Profile) → shape.arrays ≡ arrays_of arrays.now → faults_of shape profile (trail_bindings trail.now) (array (items_view items.now)) ≡ []
+        → IfOk result (λ found. option_map named_by found ≡ mixed_of shape profile (trail_bindings trail.now) (array (items_view items.now))) }
 {
     let mut named = each_clause(alloc, arrays, items, trail)?;
     named.sort_unstable_by_key(|clause| clause.from);
@@ -58,10 +58,10 @@ fn each_clause<'a>(
     items: &'a [Value],
     trail: &Trail<'_, 'a>,
 ) -> Result<Vec<Named<'a>>, AllocError>
-    ensures rows { (shape : Arrays) (profile : Profile) → shape.arrays ≡ arrays_of arrays.now → flat_map (clause_faults shape profile (bindings_of trail.now)) (each (items_view items.now)) ≡ []
-        → IfOk result (λ v. map row_by v.items ≡ map (λ d. row_of shape (clause shape profile (bindings_of trail.now) d)) (each (items_view items.now))) }
-    ensures fits { (shape : Arrays) (profile : Profile) → shape.arrays ≡ arrays_of arrays.now → flat_map (clause_faults shape profile (bindings_of trail.now)) (each (items_view items.now)) ≡ []
-        → IfOk result (λ v. AllByRecursion (λ d. Fits (clause shape profile (bindings_of trail.now) d).section) (each (items_view items.now))) }
+    ensures rows { (shape : Arrays) (profile : Profile) → shape.arrays ≡ arrays_of arrays.now → flat_map (clause_faults shape profile (trail_bindings trail.now)) (each (items_view items.now)) ≡ []
+        → IfOk result (λ v. map row_by v.items ≡ map (λ d. row_of shape (clause shape profile (trail_bindings trail.now) d)) (each (items_view items.now))) }
+    ensures fits { (shape : Arrays) (profile : Profile) → shape.arrays ≡ arrays_of arrays.now → flat_map (clause_faults shape profile (trail_bindings trail.now)) (each (items_view items.now)) ≡ []
+        → IfOk result (λ v. AllByRecursion (λ d. Fits (clause shape profile (trail_bindings trail.now) d).section) (each (items_view items.now))) }
 {
     let mut named = Vec::new(alloc);
     for item in items {

@@ -5,7 +5,7 @@ use Rattle.serde_json.specs.Data.{Num, number, string, array}
 use Rattle.serde_json.specs.View.{view, items_view, number_view}
 use Rattle.serde_json.specs.declared.value.Value.{Value, the_lemmas, Number as JsonNumber, String as JsonString, Array as JsonArray}
 use Rattle.serde_json.specs.declared.number.Number.{Number}
-use Rattle.ot_program.specs.Meanings.{Bindings, bound, exact, sign_of, size, whole_number}
+use Rattle.ot_program.specs.Meanings.{Bindings, number_bound, exact, sign_of, size, whole_number}
 
 pub view-Number : (n : Number) → view (JsonNumber n) ≡ number (number_view n)
 view-Number n = search (rules, the_lemmas)
@@ -17,7 +17,7 @@ pub size-number : (variables : Bindings) (n : Num) → size variables (number n)
 unfolding size
 size-number variables n = refl
 
-pub size-string : (variables : Bindings) (s : List ℕ) → size variables (string s) ≡ unwrap_or (bound variables s) 0
+pub size-string : (variables : Bindings) (s : List ℕ) → size variables (string s) ≡ unwrap_or (number_bound variables s) 0
 unfolding size
 size-string variables s = refl
 

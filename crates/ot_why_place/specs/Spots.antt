@@ -78,9 +78,9 @@ abbrev pub statements_of : Data → List Spot
 statements_of request = filter (λ s. is_statement s.placed.text) (spots_of request)
 
 -- counted from 1
-abbrev pub numbered : {A : Type 0} → ℕ → List A → Option A
-numbered zero list = None
-numbered (suc n) list = slice_get list n
+abbrev pub item_numbered : {A : Type 0} → ℕ → List A → Option A
+item_numbered zero list = None
+item_numbered (suc n) list = slice_get list n
 
 -- the path, and the variables with their numbers, the innermost first
 abbrev pub place_at : Spot → Path × Bindings
@@ -96,10 +96,10 @@ path_of t.Root = []
 path_of (t.Item' index p outer) = path_of outer ++ index ∷ []
 path_of (t.Turn' turn p outer) = path_of outer
 
-abbrev pub bindings_of : Trail → Bindings
-bindings_of t.Root = []
-bindings_of (t.Item' index p outer) = bindings_of outer
-bindings_of (t.Turn' turn p outer) = turn_by turn ∷ bindings_of outer
+abbrev pub trail_bindings : Trail → Bindings
+trail_bindings t.Root = []
+trail_bindings (t.Item' index p outer) = trail_bindings outer
+trail_bindings (t.Turn' turn p outer) = turn_by turn ∷ trail_bindings outer
 
 abbrev pub place_by : Place → Path × Bindings
 place_by place = (place.path.items, map turn_by place.turns.items)

@@ -26,13 +26,13 @@ text_by profile (t.Program a b) = ProgramText (view a.now) (view b.now)
 text_by profile t.None = NoForm
 
 -- how deep the deeper of its bodies nests
-abbrev pub depth_of : CodeText → ℕ
-depth_of (t.If a b c) = max (depth (view b.now)) (depth (view c.now))
-depth_of (t.For a b c d) = depth (view d.now)
-depth_of (t.Task a b) = depth (view b.now)
-depth_of (t.Group a b) = depth (view b.now)
-depth_of (t.GroupBy op a b) = depth (view b.now)
-depth_of text = 0
+abbrev pub body_depth : CodeText → ℕ
+body_depth (t.If a b c) = max (depth (view b.now)) (depth (view c.now))
+body_depth (t.For a b c d) = depth (view d.now)
+body_depth (t.Task a b) = depth (view b.now)
+body_depth (t.Group a b) = depth (view b.now)
+body_depth (t.GroupBy op a b) = depth (view b.now)
+body_depth text = 0
 
 -- ---- the parts, by how many items there are
 

@@ -3,7 +3,7 @@ ghost use Rattle.std.specs.Prelude.{◌≡◌, IfOk, option_map, slice_get};
 ghost use Rattle.serde_json.specs.Data.{array};
 ghost use Rattle.serde_json.specs.View.{view, items_view};
 ghost use Rattle.ot_program.specs.Meanings.{items};
-ghost use Rattle.ot_why_place.specs.Spots.{spots_of, statements_of, numbered, place_at, value_at, text_spots, program_spots, place_by};
+ghost use Rattle.ot_why_place.specs.Spots.{spots_of, statements_of, item_numbered, place_at, value_at, text_spots, program_spots, place_by};
 ghost use Rattle.ot_why_place.specs.Seeking.{seek, met_in, counts_by};
 
 use crate::trail::{Place, Trail};
@@ -18,7 +18,7 @@ pub fn place_of<'a>(
     request: &'a Value,
     number: u32,
 ) -> Result<Option<Place<'a>>, AllocError>
-    ensures { IfOk result (λ found. option_map place_by found ≡ option_map place_at (numbered number (statements_of (view request.now)))) }
+    ensures { IfOk result (λ found. option_map place_by found ≡ option_map place_at (item_numbered number (statements_of (view request.now)))) }
 {
     if number == 0 {
         return Ok(None);

@@ -3,7 +3,7 @@ ghost use Rattle.std.specs.Prelude.{◌≡◌, ◌+◌, ◌-◌, ◌*◌, unwrap
 ghost use Rattle.serde_json.specs.Data.{string, array};
 ghost use Rattle.serde_json.specs.View.{view, items_view};
 ghost use Rattle.ot_program.specs.Meanings.{sign_of, exact, size};
-ghost use Rattle.ot_why_place.specs.Spots.{bindings_of};
+ghost use Rattle.ot_why_place.specs.Spots.{trail_bindings};
 
 use crate::trail::Trail;
 use ot_model::Op;
@@ -13,7 +13,7 @@ use serde_json::Value;
 #[cycle(size)]
 #[tactic(auto, using(crate::proofs::SizeLemmas::sizes))]
 pub fn size_of(value: &Value, trail: &Trail<'_, '_>) -> u64
-    ensures { result ≡ size (bindings_of trail.now) (view value.now) }
+    ensures { result ≡ size (trail_bindings trail.now) (view value.now) }
 {
     match value {
         Value::Number(number) => number.as_u64().unwrap_or(0),
@@ -26,7 +26,7 @@ pub fn size_of(value: &Value, trail: &Trail<'_, '_>) -> u64
 #[cycle(size)]
 #[tactic(auto, using(crate::proofs::SizeLemmas::sizes))]
 fn size_of_items(items: &[Value], trail: &Trail<'_, '_>) -> u64
-    ensures { result ≡ size (bindings_of trail.now) (array (items_view items.now)) }
+    ensures { result ≡ size (trail_bindings trail.now) (array (items_view items.now)) }
 {
     if items.len() != 3 {
         return 0;

@@ -3,7 +3,7 @@ ghost use Rattle.std.specs.Prelude.{◌≡◌, ◌≤◌, ◌&&◌, max, Some, N
 ghost use Rattle.serde_json.specs.Data.{array, depth, items_depth};
 ghost use Rattle.serde_json.specs.View.{view, items_view};
 ghost use Rattle.ot_program.specs.declared.profile.Profile.{Profile as Defined};
-ghost use Rattle.ot_why_place.specs.Texts.{text_by, depth_of, text_at, of_one, of_two, of_three, of_four, of_five};
+ghost use Rattle.ot_why_place.specs.Texts.{text_by, body_depth, text_at, of_one, of_two, of_three, of_four, of_five};
 
 use ot_program::{Profile, is_word};
 use serde_json::Value;
@@ -33,7 +33,7 @@ pub enum Text<'a> {
 #[tactic(auto, using(crate::proofs::CopyLemmas::no_text))]
 pub fn text_of<'a>(profile: Profile, statement: &'a Value) -> Text<'a>
     ensures is { text_by profile result ≡ text_at profile (view statement.now) }
-    ensures shallow { depth_of result ≤ depth (view statement.now) }
+    ensures shallow { body_depth result ≤ depth (view statement.now) }
 {
     match statement {
         Value::Array(items) => text_of_items(profile, items),
@@ -44,7 +44,7 @@ pub fn text_of<'a>(profile: Profile, statement: &'a Value) -> Text<'a>
 #[tactic(auto, using(crate::proofs::CopyLemmas::texts))]
 fn text_of_items<'a>(profile: Profile, items: &'a [Value]) -> Text<'a>
     ensures is { text_by profile result ≡ text_at profile (array (items_view items.now)) }
-    ensures shallow { depth_of result ≤ items_depth (items_view items.now) }
+    ensures shallow { body_depth result ≤ items_depth (items_view items.now) }
 {
     if items.is_empty() || items.len() > 5 {
         return Text::None;
@@ -61,7 +61,7 @@ fn text_of_items<'a>(profile: Profile, items: &'a [Value]) -> Text<'a>
 
 fn of_one<'a>(tag: &Value) -> Text<'a>
     ensures is { (defined : Defined) → text_by defined result ≡ of_one (view tag.now) }
-    ensures shallow { depth_of result ≡ 0 }
+    ensures shallow { body_depth result ≡ 0 }
 {
     if is_word(tag, "wait") {
         Text::Wait
@@ -72,7 +72,7 @@ fn of_one<'a>(tag: &Value) -> Text<'a>
 
 fn of_two<'a>(profile: Profile, tag: &Value, one: &'a Value) -> Text<'a>
     ensures is { text_by profile result ≡ of_two profile (view tag.now) (view one.now) }
-    ensures shallow { depth_of result ≡ 0 }
+    ensures shallow { body_depth result ≡ 0 }
 {
     if profile.two_has(tag, "wait") {
         Text::WaitFor(one)
@@ -83,7 +83,7 @@ fn of_two<'a>(profile: Profile, tag: &Value, one: &'a Value) -> Text<'a>
 
 fn of_three<'a>(profile: Profile, tag: &Value, one: &'a Value, two: &'a Value) -> Text<'a>
     ensures is { text_by profile result ≡ of_three profile (view tag.now) (view one.now) (view two.now) }
-    ensures shallow { depth_of result ≤ depth (view two.now) }
+    ensures shallow { body_depth result ≤ depth (view two.now) }
 {
     if is_word(tag, "set") {
         Text::Set(one, two)
@@ -106,7 +106,7 @@ fn of_four<'a>(
     three: &'a Value,
 ) -> Text<'a>
     ensures is { text_by profile result ≡ of_four profile (view tag.now) (view one.now) (view two.now) (view three.now) }
-    ensures shallow { depth_of result ≤ max (depth (view two.now)) (depth (view three.now)) }
+    ensures shallow { body_depth result ≤ max (depth (view two.now)) (depth (view three.now)) }
 {
     if profile.two_has(tag, "fold") {
         Text::Fold(one, two, three)
@@ -127,7 +127,7 @@ fn of_five<'a>(
     four: &'a Value,
 ) -> Text<'a>
     ensures is { (defined : Defined) → text_by defined result ≡ of_five (view tag.now) (view one.now) (view two.now) (view three.now) (view four.now) }
-    ensures shallow { depth_of result ≤ depth (view four.now) }
+    ensures shallow { body_depth result ≤ depth (view four.now) }
 {
     if is_word(tag, "for") {
         Text::For(one, two, three, four)

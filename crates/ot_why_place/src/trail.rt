@@ -1,7 +1,7 @@
 //! Where a walk stands in a text.
 ghost use Rattle.std.specs.Prelude.{◌≡◌, ◌++◌, map, IfOk, OnOk};
-ghost use Rattle.ot_program.specs.Meanings.{bound};
-ghost use Rattle.ot_why_place.specs.Spots.{path_of, bindings_of, turn_by, place_by};
+ghost use Rattle.ot_program.specs.Meanings.{number_bound};
+ghost use Rattle.ot_why_place.specs.Spots.{path_of, trail_bindings, turn_by, place_by};
 
 use std::alloc::{AllocError, Global};
 
@@ -32,7 +32,7 @@ pub enum Trail<'t, 'a> {
 impl<'a> Trail<'_, 'a> {
     /// The place to which it leads.
     pub fn place(&self, alloc: Global) -> Result<Place<'a>, AllocError>
-        ensures { IfOk result (λ place. place_by place ≡ (path_of self.now, bindings_of self.now)) }
+        ensures { IfOk result (λ place. place_by place ≡ (path_of self.now, trail_bindings self.now)) }
     {
         let mut path = Vec::new(alloc);
         self.put_path(&mut path)?;
@@ -56,7 +56,7 @@ impl<'a> Trail<'_, 'a> {
     }
 
     fn put_turns(&self, turns: &mut Vec<Turn<'a>>) -> Result<(), AllocError>
-        ensures { OnOk result (map turn_by turns.new.items ≡ map turn_by turns.old.items ++ bindings_of self.now) }
+        ensures { OnOk result (map turn_by turns.new.items ≡ map turn_by turns.old.items ++ trail_bindings self.now) }
     {
         match self {
             Trail::Root => Ok(()),
@@ -70,7 +70,7 @@ impl<'a> Trail<'_, 'a> {
 
     /// The number of a variable. An inner one hides an outer one of the same name.
     pub fn number(&self, name: &str) -> Option<u64>
-        ensures { result ≡ bound (bindings_of self.now) name.now }
+        ensures { result ≡ number_bound (trail_bindings self.now) name.now }
     {
         match self {
             Trail::Root => None,

@@ -4,7 +4,7 @@ ghost use Rattle.serde_json.specs.View.{view, items_view};
 ghost use Rattle.ot_program.specs.Copies.{copies, copies_of, copy, turns as each_turn, at, Done, Turn as OneTurn};
 ghost use Rattle.ot_program.specs.Programs.{program_copy};
 ghost use Rattle.ot_program.specs.declared.profile.Profile.{Profile as Defined};
-ghost use Rattle.ot_why_place.specs.Spots.{spot, spots, in_body, in_turns, path_of, bindings_of};
+ghost use Rattle.ot_why_place.specs.Spots.{spot, spots, in_body, in_turns, path_of, trail_bindings};
 ghost use Rattle.ot_why_place.specs.Seeking.{bodies_in, seek, step_by, counts_by};
 ghost use Rattle.ot_why_place.specs.Texts.{text_by, first_copies, second_copies};
 
@@ -77,7 +77,7 @@ impl Walk {
         left: u32,
     ) -> Result<Step<'a>, AllocError>
         ensures { (level : ℕ) → IfOk result (λ step. step_by step ≡ seek (counts_by self.now.which) left
-            (in_body (path_of trail.now) 0 (copies self.now.profile level (view body.now) (bindings_of trail.now)))) }
+            (in_body (path_of trail.now) 0 (copies self.now.profile level (view body.now) (trail_bindings trail.now)))) }
     {
         match body {
             Value::Array(items) => self.items(items, &*trail, left),
@@ -93,7 +93,7 @@ impl Walk {
         left: u32,
     ) -> Result<Step<'a>, AllocError>
         ensures { (level : ℕ) → IfOk result (λ step. step_by step ≡ seek (counts_by self.now.which) left
-            (in_body (path_of trail.now) 0 (copies_of self.now.profile level (items_view items.now) (bindings_of trail.now)))) }
+            (in_body (path_of trail.now) 0 (copies_of self.now.profile level (items_view items.now) (trail_bindings trail.now)))) }
     {
         let mut left = left;
         for (index, item) in items.iter().enumerate() {
@@ -114,7 +114,7 @@ impl Walk {
         left: u32,
     ) -> Result<Step<'a>, AllocError>
         ensures { (level : ℕ) → IfOk result (λ step. step_by step ≡ seek (counts_by self.now.which) left
-            (spots (path_of trail.now) (copy self.now.profile level (view statement.now) (bindings_of trail.now)))) }
+            (spots (path_of trail.now) (copy self.now.profile level (view statement.now) (trail_bindings trail.now)))) }
     {
         let text = text_of(self.profile, statement);
         match self.visit(&text, trail, left)? {
@@ -131,7 +131,7 @@ impl Walk {
         left: u32,
     ) -> Result<Step<'a>, AllocError>
         ensures { (level : ℕ) → IfOk result (λ step. step_by step ≡ seek (counts_by self.now.which) left
-            (spot (path_of trail.now) (record { level = level; variables = bindings_of trail.now; text = text_by self.now.profile text.now }) ∷ [])) }
+            (spot (path_of trail.now) (record { level = level; variables = trail_bindings trail.now; text = text_by self.now.profile text.now }) ∷ [])) }
     {
         if !self.counts(text) {
             return Ok(Step::Skipped(left));
@@ -164,8 +164,8 @@ impl Walk {
     ) -> Result<Step<'a>, AllocError>
         ensures { (level : ℕ) → IfOk result (λ step. step_by step ≡ seek (counts_by self.now.which) left
             (bodies_in (path_of trail.now) (text_by self.now.profile text.entry)
-            (first_copies self.now.profile level (bindings_of trail.now) (text_by self.now.profile text.entry))
-            (second_copies self.now.profile level (bindings_of trail.now) (text_by self.now.profile text.entry)))) }
+            (first_copies self.now.profile level (trail_bindings trail.now) (text_by self.now.profile text.entry))
+            (second_copies self.now.profile level (trail_bindings trail.now) (text_by self.now.profile text.entry)))) }
     {
         match text {
             Text::If(_, one, two) => {
@@ -198,8 +198,8 @@ impl Walk {
         left: u32,
     ) -> Result<Step<'a>, AllocError>
         ensures { (level : ℕ) → IfOk result (λ step. step_by step ≡ seek (counts_by self.now.which) left
-            (in_turns (path_of trail.now) (each_turn level (bindings_of trail.now)
-            (λ n. copies self.now.profile (level + 1) (view body.now) ((turns.entry.variable.now, n) ∷ bindings_of trail.now))
+            (in_turns (path_of trail.now) (each_turn level (trail_bindings trail.now)
+            (λ n. copies self.now.profile (level + 1) (view body.now) ((turns.entry.variable.now, n) ∷ trail_bindings trail.now))
             turns.entry.first (turns.entry.behind - turns.entry.first)))) }
     {
         let mut left = left;
@@ -225,8 +225,8 @@ impl Walk {
         left: u32,
     ) -> Result<Step<'a>, AllocError>
         ensures { (level : ℕ) → IfOk result (λ step. step_by step ≡ seek (counts_by self.now.which) left
-            (spots (path_of trail.now) (at level (bindings_of trail.now) OneTurn
-            (copies self.now.profile (level + 1) (view body.now) ((turn.entry.name.now, turn.entry.number) ∷ bindings_of trail.now)) Done))) }
+            (spots (path_of trail.now) (at level (trail_bindings trail.now) OneTurn
+            (copies self.now.profile (level + 1) (view body.now) ((turn.entry.name.now, turn.entry.number) ∷ trail_bindings trail.now)) Done))) }
     {
         match self.visit(&Text::Turn, trail, left)? {
             Step::Skipped(left) => {

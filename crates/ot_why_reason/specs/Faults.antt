@@ -1,9 +1,9 @@
 -- Why arrays refuse a request, with the numbers that are compared.
 use Rattle.std.specs.Prelude.{◌≡◌, ℕ, ◌+◌, List, length, map, sum, bytes_eq, nat_le, nat_lt, if◌then◌else◌, Option, Some, None, option_map}
 use Rattle.std.specs.Map.{lookup}
-use Rattle.ot_store.specs.Arrays.{Named, listed}
+use Rattle.ot_store.specs.Arrays.{Named, arrays_listed}
 use Rattle.ot_store.specs.declared.limits.Limits.{Limits}
-use Rattle.ot_book.specs.Answers.{Step, Now, Runs, performed, Told, Refused, Offends}
+use Rattle.ot_book.specs.Answers.{Step, Now, Runs, perform_step, Told, Refused, Offends}
 use Rattle.ot_book.specs.Requests.{Request, New, Free, Put, Get, Run}
 use Rattle.ot_why_reason.specs.declared.fault.Fault as code
 use Rattle.ot_why_reason.specs.declared.fault.Fault.TheVariants as v
@@ -25,15 +25,15 @@ pub data Fault : Type 0 where
   TooManyArrays : ℕ → ℕ → Fault
 
 -- how many cells all arrays have
-abbrev pub cells_of : Lengths → ℕ
-cells_of arrays = sum (map (λ a. a.1) arrays)
+abbrev pub cells_count : Lengths → ℕ
+cells_count arrays = sum (map (λ a. a.1) arrays)
 
 -- the faults of each request, where the array that it names has so many cells, or isn't there
 abbrev pub new_fault : Limits → Lengths → List ℕ → ℕ → Option ℕ → Option Fault
 new_fault limits arrays name len (Some has) = Some (Taken name has)
 new_fault limits arrays name len None =
     if nat_le limits.arrays (length arrays) then Some (TooManyArrays (length arrays) limits.arrays)
-    else (if nat_lt limits.cells (cells_of arrays + len) then Some (TooManyCells (cells_of arrays) len limits.cells) else None)
+    else (if nat_lt limits.cells (cells_count arrays + len) then Some (TooManyCells (cells_count arrays) len limits.cells) else None)
 
 abbrev pub free_fault : List ℕ → Option ℕ → Option Fault
 free_fault name (Some has) = None
@@ -52,12 +52,12 @@ fault_in limits arrays (Get name start len) = reach_fault name start len (lookup
 fault_in limits arrays request = None
 
 -- the code that is told of a fault
-abbrev pub code_of : Fault → ℕ
-code_of (Unknown name) = 412
-code_of (Taken name has) = 413
-code_of (Beyond name start count has) = 414
-code_of (TooManyCells has more may) = 415
-code_of (TooManyArrays has may) = 416
+abbrev pub fault_code : Fault → ℕ
+fault_code (Unknown name) = 412
+fault_code (Taken name has) = 413
+fault_code (Beyond name start count has) = 414
+fault_code (TooManyCells has more may) = 415
+fault_code (TooManyArrays has may) = 416
 
 -- ---- the book refuses where there is a fault
 
@@ -74,7 +74,7 @@ IsRefusedBy code (Runs program) = ⊥
 
 abbrev pub IsDue : Limits → List Named → ℕ → Request → Type 0
 IsDue limits arrays used (Run text) = Unit {0}
-IsDue limits arrays used request = IsRefusedBy (option_map code_of (fault_in limits (listed arrays) request)) (performed limits arrays used request)
+IsDue limits arrays used request = IsRefusedBy (option_map fault_code (fault_in limits (arrays_listed arrays) request)) (perform_step limits arrays used request)
 
 -- so of every request over any arrays, after done replies of so many units
 abbrev pub FaultsAreDue : Type 0

@@ -6,8 +6,8 @@ use Rattle.serde_json.specs.Data.{Data}
 use Rattle.ot_model.specs.Programs.{Arrays}
 use Rattle.ot_program.specs.Meanings.{Bindings}
 use Rattle.ot_program.specs.declared.fault.Refusal.{Refusal}
-use Rattle.ot_why_place.specs.Spots.{Path, Spot, spots_of, statements_of, numbered, place_at}
-use Rattle.ot_why_fault.specs.Whys.{Why, first_fault, refusal_of}
+use Rattle.ot_why_place.specs.Spots.{Path, Spot, spots_of, statements_of, item_numbered, place_at}
+use Rattle.ot_why_fault.specs.Whys.{Why, first_why, refusal_of}
 use Rattle.ot_why_reason.specs.declared.place.Telling.{Telling}
 use Rattle.ot_why_reason.specs.declared.place.Telling.TheVariants.{Line, File}
 
@@ -45,7 +45,7 @@ spot_words telling None = []
 spot_words telling (Some s) = place_words telling (place_at s)
 
 abbrev pub statement_words : Telling → Data → ℕ → List ℕ
-statement_words telling request number = spot_words telling (numbered number (statements_of request))
+statement_words telling request number = spot_words telling (item_numbered number (statements_of request))
 
 -- a place before what stands there: `at [1][2][0], where i = 31: `
 abbrev pub in_file : Bindings → List ℕ
@@ -61,7 +61,7 @@ entry_words File place = in_file place.1
 -- what is at fault in the program that a request runs, and where that stands
 abbrev pub placed_fault : Arrays → Data → Option (Why × (Path × Bindings))
 placed_fault shape request =
-    option_and_then (λ found. option_map (λ s. (found.1, place_at s)) (slice_get (spots_of request) found.0)) (first_fault shape request)
+    option_and_then (λ found. option_map (λ s. (found.1, place_at s)) (slice_get (spots_of request) found.0)) (first_why shape request)
 
 -- where a program is refused for its first fault, the first reason begins with the place of what has the fault
 abbrev pub BeginsAt : Telling → Refusal → Option (Why × (Path × Bindings)) → List (List ℕ) → Type 0

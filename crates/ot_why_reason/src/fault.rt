@@ -4,7 +4,7 @@ ghost use Rattle.std.specs.Map.{lookup};
 ghost use Rattle.serde_json.specs.View.{view, items_view};
 ghost use Rattle.ot_model.specs.Programs.{arrays_of};
 ghost use Rattle.ot_book.specs.Requests.{request_of, form_of, new_of, free_of, put_of, get_of};
-ghost use Rattle.ot_why_reason.specs.Faults.{cells_of, fault_in, free_fault, new_fault, reach_fault, fault_by};
+ghost use Rattle.ot_why_reason.specs.Faults.{cells_count, fault_in, free_fault, new_fault, reach_fault, fault_by};
 
 use crate::form::read_numbers;
 use ot_book::{read_name, read_size};
@@ -34,7 +34,7 @@ pub fn fault_of<'a>(
     arrays: &'a [ArrayShape],
     limits: &Limits,
 ) -> Option<Fault<'a>>
-    requires { cells_of (arrays_of arrays.now) < 2 ^ 32 }
+    requires { cells_count (arrays_of arrays.now) < 2 ^ 32 }
     ensures { option_map fault_by result ≡ option_and_then (fault_in limits.now (arrays_of arrays.now)) (request_of (view request.now)) }
 {
     match request {
@@ -44,7 +44,7 @@ pub fn fault_of<'a>(
 }
 
 fn of_form<'a>(items: &'a [Value], arrays: &'a [ArrayShape], limits: &Limits) -> Option<Fault<'a>>
-    requires { cells_of (arrays_of arrays.now) < 2 ^ 32 }
+    requires { cells_count (arrays_of arrays.now) < 2 ^ 32 }
     ensures { option_map fault_by result ≡ option_and_then (fault_in limits.now (arrays_of arrays.now)) (form_of (items_view items.now)) }
 {
     let len = items.len();
@@ -97,7 +97,7 @@ fn of_new<'a>(
     arrays: &[ArrayShape],
     limits: &Limits,
 ) -> Option<Fault<'a>>
-    requires { cells_of (arrays_of arrays.now) < 2 ^ 32 }
+    requires { cells_count (arrays_of arrays.now) < 2 ^ 32 }
     ensures { option_map fault_by result ≡ option_and_then (fault_in limits.now (arrays_of arrays.now)) (new_of (view name.now) (view len.now)) }
 {
     let name = read_name(name)?;
@@ -172,8 +172,8 @@ pub(crate) fn len_of(arrays: &[ArrayShape], name: &str) -> Option<u32>
 
 /// How many cells all arrays have.
 fn count(arrays: &[ArrayShape]) -> u64
-    requires { cells_of (arrays_of arrays.now) < 2 ^ 32 }
-    ensures { result ≡ cells_of (arrays_of arrays.now) }
+    requires { cells_count (arrays_of arrays.now) < 2 ^ 32 }
+    ensures { result ≡ cells_count (arrays_of arrays.now) }
 {
     let mut cells = 0;
     for array in arrays {

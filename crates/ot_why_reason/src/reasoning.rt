@@ -7,7 +7,7 @@ ghost use Rattle.ot_program.specs.declared.fault.Refusal.{Refusal};
 ghost use Rattle.ot_book.specs.declared.code.Code.TheVariants.{Program};
 ghost use Rattle.ot_why_fault.specs.Whys.{shape_of};
 ghost use Rattle.ot_why_reason.specs.Places.{BeginsAt, placed_fault, texts_of};
-ghost use Rattle.ot_why_reason.specs.Faults.{cells_of};
+ghost use Rattle.ot_why_reason.specs.Faults.{cells_count};
 
 use crate::fault::{Fault, fault_of};
 use crate::json::no_json;
@@ -31,7 +31,7 @@ pub fn reasons(
     code: Code,
     telling: Telling,
 ) -> Result<Vec<String>, AllocError>
-    requires { cells_of (arrays_of arrays.now) < 2 ^ 32 }
+    requires { cells_count (arrays_of arrays.now) < 2 ^ 32 }
     ensures some { IfOk result (λ reasons. 0 < vec_len reasons) }
     ensures place { (d : Data) (refusal : Refusal) → option_map view request.now ≡ Some d → code ≡ Program refusal →
         IfOk result (λ reasons. BeginsAt telling refusal (placed_fault (shape_of arrays.now limits.now.tasks) d) (texts_of reasons.items)) }
@@ -52,7 +52,7 @@ fn of_value(
     arrays: &[ArrayShape],
     limits: &Limits,
 ) -> Result<Vec<String>, AllocError>
-    requires { cells_of (arrays_of arrays.now) < 2 ^ 32 }
+    requires { cells_count (arrays_of arrays.now) < 2 ^ 32 }
     ensures { IfOk result (λ reasons. 0 < vec_len reasons) }
 {
     match fault_of(value, arrays, limits) {

@@ -17,7 +17,7 @@ use Rattle.ot_owner.proofs.OutLemmas.{permutation_rest}
 use Rattle.ot_model.specs.declared.stmt.Mode.TheVariants.{Reads, Folds}
 use Rattle.ot_owner.specs.Lending.{use_of, uses_of, MayChange}
 use Rattle.ot_owner.specs.Worth.{taken_back, all_back}
-use Rattle.ot_owner.specs.Owning.{Loan, IsFreeFor, Summed, is_of, place_in, names, IsNamed, IsSummed, IsSummedBy, folds_in, begun_in, begun_for, folded_in, folded, without}
+use Rattle.ot_owner.specs.Owning.{Loan, IsFreeFor, Summed, is_of, place_in, names, IsNamed, IsSummed, IsSummedBy, folds_in, begun_in, begun_for, folded_in, copies_folded, without}
 use Rattle.ot_owner.specs.declared.lent.LentCell.{LentCell}
 use Rattle.ot_owner.proofs.NameLemmas.{place-named}
 use Rattle.test_book.specs.TwoGroups.{nth, IsFoldOf, IsOver, AreTwo}
@@ -32,7 +32,7 @@ over-same n o i g h group op uses is = record {
   only = subst (All (λ u. u.cell ≡ nth i)) (sym uses) is.only;
 }
 
-two-folded : (w v : ℕ) (o : Operation) (c : Cell) (gs : List Summed) → AreTwo o gs → AreTwo o (folded w c v gs)
+two-folded : (w v : ℕ) (o : Operation) (c : Cell) (gs : List Summed) → AreTwo o gs → AreTwo o (copies_folded w c v gs)
 two-folded w v o c [] two = absurd two
 two-folded w v o c (g ∷ []) two = absurd two
 two-folded w v o c (outer ∷ inner ∷ []) two = by (place_in outer.uses c) (place_in inner.uses c)
@@ -46,7 +46,7 @@ two-folded w v o c (g ∷ h ∷ k ∷ gs) two = absurd two
 two-taken : (w : ℕ) (o : Operation) (l : LentCell) (gs : List Summed) → AreTwo o gs → AreTwo o (taken_back w l gs)
 two-taken w o l gs two = by (is_fold l.mode)
   where
-    by : (b : Bool) → AreTwo o (if b then folded w l.cell l.value gs else gs)
+    by : (b : Bool) → AreTwo o (if b then copies_folded w l.cell l.value gs else gs)
     by true = two-folded w l.value o l.cell gs two
     by false = two
 

@@ -1,6 +1,6 @@
 //! The children of one body: readers and a writer of one cell, and one for which memory is refused.
 ghost use Rattle.std.specs.Prelude.{◌≡◌, ◌++◌, ◌∷◌, [], OnOk, IfOk, length};
-ghost use Rattle.ot_depend.specs.Siblings.{IsUnfinished, created};
+ghost use Rattle.ot_depend.specs.Siblings.{IsUnfinished, sibling_created};
 
 use super::table::{Asked, assert_rows};
 use ot_depend::Siblings;
@@ -16,7 +16,7 @@ fn add(
     groups: &[u32],
 ) -> Result<usize, AllocError>
     ensures { OnOk result (siblings.new ≡ siblings.old
-        ++ created (record { cell = record { array = 0; index = 0 }; mode = mode } ∷ []) groups.now ∷ []) }
+        ++ sibling_created (record { cell = record { array = 0; index = 0 }; mode = mode } ∷ []) groups.now ∷ []) }
 {
     let only = Use {
         cell: Cell { array: 0, index: 0 },

@@ -1,7 +1,7 @@
 //! A book that is kept beside the job that it waits for: its type says that the job may end the
 //! request.
 ghost use Rattle.std.specs.Prelude.{◌≡◌, ◌⊎◌};
-ghost use Rattle.ot_book.specs.Books.{IsOpenFor, closed, refused};
+ghost use Rattle.ot_book.specs.Books.{IsOpenFor, request_closed, request_refused};
 
 use ot_book::{Book, Executor, Opened, Solo, reply_text};
 use ot_check::JobSpec;
@@ -26,7 +26,7 @@ fn hold(alloc: Global, mut book: Book, line: &str) -> Result<Option<Held>, Alloc
 
 /// Runs the job, and ends the request by its outcome or for want of memory.
 fn finish(alloc: Global, held: Held) -> Book
-    ensures { (result ≡ closed held.book) ⊎ (result ≡ refused held.book) }
+    ensures { (result ≡ request_closed held.book) ⊎ (result ≡ request_refused held.book) }
 {
     let Held { mut book, spec } = held;
     match Solo.perform(alloc, &spec) {

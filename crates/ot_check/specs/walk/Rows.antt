@@ -19,8 +19,8 @@ abbrev pub widths : {T : Type 0} → List (List T) → List ℕ
 widths rows = map length rows
 
 -- one value everywhere, for arrays of these lengths
-abbrev pub filled : {T : Type 0} → T → List ℕ → List (List T)
-filled x lens = map (λ n. replicate n x) lens
+abbrev pub rows_filled : {T : Type 0} → T → List ℕ → List (List T)
+rows_filled x lens = map (λ n. replicate n x) lens
 
 -- the task that a bit of a word stands for, 64 in a word
 abbrev pub user_at : ℕ → Mode → ℕ → User

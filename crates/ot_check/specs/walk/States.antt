@@ -51,8 +51,8 @@ abbrev pub users_at : List (List (List User)) → Cell → List User
 users_at users c = unwrap_or (found_at users c) []
 
 -- whether one of these tasks declares the cell of a use in conflict with it
-abbrev pub met : Numbers → List (List (List User)) → Use → Bool
-met numbers users u = list_any (λ v. has numbers v.task && conflicts v.mode u.mode) (users_at users u.cell)
+abbrev pub is_met_by : Numbers → List (List (List User)) → Use → Bool
+is_met_by numbers users u = list_any (λ v. has numbers v.task && conflicts v.mode u.mode) (users_at users u.cell)
 
 -- whether a task that uses a cell so in its declaration passes a test of the users of that cell
 abbrev pub user_has : (User → Bool) → Cell → ℕ → Use → Bool

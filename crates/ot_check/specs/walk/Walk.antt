@@ -17,9 +17,9 @@ leading holds =
     else if holds EndsWithChildren then Some EndsWithChildren
     else None
 
-abbrev pub placed : ℕ → Option Offence → Option (ℕ × Offence)
-placed k None = None
-placed k (Some offence) = Some (k, offence)
+abbrev pub offence_at : ℕ → Option Offence → Option (ℕ × Offence)
+offence_at k None = None
+offence_at k (Some offence) = Some (k, offence)
 
 -- the first offence in a statement's bodies, of a statement, of a body, whose place is k, with its place
 abbrev mutual
@@ -34,21 +34,21 @@ abbrev mutual
   pub first : Declared → Openings → Children → ℕ → Body → Option (ℕ × Offence)
   first own opened children k End = None
   first own opened children k (Next x rest) =
-      option_or (option_or (placed k (leading (is_offence own opened children x))) (first_inside own opened children k x))
+      option_or (option_or (offence_at k (leading (is_offence own opened children x))) (first_inside own opened children k x))
       (first own opened (behind_one children x) (k + size_one x) rest)
 
 -- what is told of a task whose body can end with a child unawaited, or can't
-abbrev pub ended : Bool → Option Offence
-ended true = Some EndsWithChildren
-ended false = None
+abbrev pub ending_offence : Bool → Option Offence
+ending_offence true = Some EndsWithChildren
+ending_offence false = None
 
 abbrev pub ending : S → Option Offence
-ending (Task d b) = ended (behind nobody b anyone)
+ending (Task d b) = ending_offence (behind nobody b anyone)
 ending x = None
 
 -- the first offence in a statement, its own marks aside
 abbrev pub first_within : Declared → Openings → Children → ℕ → S → Option (ℕ × Offence)
-first_within own opened children k x = option_or (placed k (ending x)) (first_inside own opened children k x)
+first_within own opened children k x = option_or (offence_at k (ending x)) (first_inside own opened children k x)
 
 abbrev pub first_one : Declared → Openings → Children → ℕ → S → Option (ℕ × Offence)
-first_one own opened children k x = option_or (placed k (leading (is_offence own opened children x))) (first_inside own opened children k x)
+first_one own opened children k x = option_or (offence_at k (leading (is_offence own opened children x))) (first_inside own opened children k x)

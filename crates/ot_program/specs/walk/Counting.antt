@@ -10,8 +10,8 @@ abbrev pub no_counts : Counts
 no_counts = record { statements = 0; tasks = 0; turns = 0; nodes = 0; cells = 0 }
 
 -- so many statements, nodes of values and cells of sections more
-abbrev pub counted : Counts → ℕ → ℕ → ℕ → Counts
-counted n statements nodes cells =
+abbrev pub more_counts : Counts → ℕ → ℕ → ℕ → Counts
+more_counts n statements nodes cells =
     record n { statements = n.statements + statements; nodes = n.nodes + nodes; cells = n.cells + cells }
 
 -- the counts, where none passes its limit
@@ -21,7 +21,7 @@ within_limits n =
 
 -- one statement more that has this value
 abbrev pub with_expression : Counts → E → Result Counts Refusal
-with_expression n e = within_limits (counted n 1 (nodes_of e) (picked_of e))
+with_expression n e = within_limits (more_counts n 1 (nodes_of e) (picked_of e))
 
 -- one turn of a `for` more, which counts when it begins
 abbrev pub one_turn : Counts → Result Counts Refusal

@@ -1,6 +1,6 @@
 -- Variables: the names that the `for`s around a statement bind.
 use Rattle.ot_program.specs.Limits.{max_depth, size_depth}
-use Rattle.ot_program.specs.Meanings.{Bindings, whole_number, bound, is_name}
+use Rattle.ot_program.specs.Meanings.{Bindings, whole_number, number_bound, is_name}
 use Rattle.ot_program.specs.walk.Reading.{◌>>=◌, both_of}
 use Rattle.ot_program.specs.declared.fault.Refusal.TheVariants.{Form, Size, TooLarge}
 use Rattle.ot_program.specs.declared.fault.Refusal.{Refusal}
@@ -17,7 +17,7 @@ known_number (Some n) = Ok n
 
 -- a variable that some `for` around binds
 abbrev pub variable_of : Bindings → List ℕ → Result ℕ Refusal
-variable_of variables name = if is_name name then known_number (bound variables name) else Err Form
+variable_of variables name = if is_name name then known_number (number_bound variables name) else Err Form
 
 -- what the code's chain of variables stands for
 abbrev pub bindings_of : Variables → Bindings

@@ -16,7 +16,7 @@ use Rattle.ot_program.specs.declared.fault.Refusal.{Refusal}
 use Rattle.ot_program.specs.declared.profile.Profile.{Profile}
 use Rattle.serde_json.specs.Data.{Data, array, no_items, item, string, Items}
 use Rattle.std.specs.Prelude.{[], ℕ, List, ◌∷◌, Option, Some, None, Result, Ok, Err, ◌&&◌, if◌then◌else◌, suc, ◌+◌, codes, zero, ◌++◌, map, flat_map, ◌-◌, ⊤}
-use Rattle.ot_program.specs.walk.Counting.{counted, within_limits, with_expression, one_turn, one_task, deeper, no_counts}
+use Rattle.ot_program.specs.walk.Counting.{more_counts, within_limits, with_expression, one_turn, one_task, deeper, no_counts}
 use Rattle.ot_model.specs.declared.expr.Section.{Section}
 
 -- statements that were read, and the counts after them
@@ -27,8 +27,8 @@ Read = Result (List S × Counts) Refusal
 abbrev pub Reader : Type 0
 Reader = Counts → Read
 
-abbrev pub refused : Refusal → Reader
-refused c n = Err c
+abbrev pub reader_refused : Refusal → Reader
+reader_refused c n = Err c
 
 -- One after the other. So the first statement with a fault decides, and a count that passes its limit
 -- is a fault of the statement that passes it.
@@ -65,7 +65,7 @@ abbrev pub declared_of : Arrays → Profile → Bindings → ℕ → Data → Da
 declared_of shape profile variables level clauses body n = do
   p ← both_of (clauses_of shape profile variables clauses) (list_of body)
   fits ← deeper level
-  m ← within_limits (counted n 1 0 (cells_in (map (λ c. c.section) p.0)))
+  m ← within_limits (more_counts n 1 0 (cells_in (map (λ c. c.section) p.0)))
   k ← one_task shape.tasks m
   uses ← declaration p.0
   Ok (uses, k)
@@ -74,7 +74,7 @@ declared_of shape profile variables level clauses body n = do
 abbrev pub waited_of : Arrays → Bindings → Data → Counts → Result (List Use × Counts) Refusal
 waited_of shape variables clauses n = do
   cs ← wait_clauses_of shape variables clauses
-  m ← within_limits (counted n 1 0 (cells_in (map (λ c. c.section) cs)))
+  m ← within_limits (more_counts n 1 0 (cells_in (map (λ c. c.section) cs)))
   uses ← declaration cs
   Ok (uses, m)
 
@@ -83,7 +83,7 @@ abbrev pub grouped_of : Arrays → Bindings → ℕ → Data → Data → Counts
 grouped_of shape variables level sections body n = do
   p ← both_of (sections_of shape variables sections) (list_of body)
   fits ← deeper level
-  m ← within_limits (counted n 1 0 (cells_in p.0))
+  m ← within_limits (more_counts n 1 0 (cells_in p.0))
   Ok (flat_map cells_of p.0, m)
 
 abbrev pub name_of : Data → Result (List ℕ) Refusal
@@ -112,7 +112,7 @@ set_in shape variables cell value n = do
 
 -- a reader that wants an operation
 abbrev pub by_operation : Option Operation → (Operation → Reader) → Reader
-by_operation None reader = refused Form
+by_operation None reader = reader_refused Form
 by_operation (Some op) reader = reader op
 
 abbrev pub fold_in : Arrays → Bindings → Data → Data → Operation → Reader
@@ -122,11 +122,11 @@ fold_in shape variables cell value op n = do
 
 abbrev pub wait_in : Reader
 wait_in n = do
-  m ← within_limits (counted n 1 0 0)
+  m ← within_limits (more_counts n 1 0 0)
   Ok (Wait None ∷ [], m)
 
 abbrev pub wait_form : Data → Reader
-wait_form tag = if is_word tag (codes "wait") then wait_in else refused Form
+wait_form tag = if is_word tag (codes "wait") then wait_in else reader_refused Form
 
 abbrev pub wait_for_in : Arrays → Bindings → Data → Reader
 wait_for_in shape variables clauses n = do
@@ -135,7 +135,7 @@ wait_for_in shape variables clauses n = do
 
 abbrev pub wait_for_form : Arrays → Profile → Bindings → Data → Data → Reader
 wait_for_form shape profile variables tag clauses =
-    if is_two profile && is_word tag (codes "wait") then wait_for_in shape variables clauses else refused Form
+    if is_two profile && is_word tag (codes "wait") then wait_for_in shape variables clauses else reader_refused Form
 
 -- the first body before the second
 abbrev pub if_in : (Counts → Result (E × Counts) Refusal) → Reader → Reader → Reader
@@ -178,7 +178,7 @@ unfoldable mutual
   -- `[statement, ..]`, a body at a level
   pub body_in : Arrays → Profile → ℕ → Data → Bindings → Reader
   body_in shape profile level (array ds) variables = all_in shape profile level ds variables
-  body_in shape profile level _ variables = refused Form
+  body_in shape profile level _ variables = reader_refused Form
 
   pub all_in : Arrays → Profile → ℕ → Items → Bindings → Reader
   all_in shape profile level no_items variables = λ n. Ok ([], n)
@@ -195,19 +195,19 @@ unfoldable mutual
       then with_body Task (declared_of shape profile variables level a b) (body_in shape profile (level + 1) b variables) else
       (if is_one profile && is_word t (codes "group")
       then group_in shape variables level a b (body_in shape profile (level + 1) b variables) Plus else
-      refused Form)))
+      reader_refused Form)))
   one_in shape profile level (array (item t (item a (item b (item c no_items))))) variables =
       if is_two profile && is_word t (codes "fold") then by_operation (fold_of a) (fold_in shape variables b c) else
       (if is_two profile && is_word t (codes "group")
       then by_operation (fold_of a) (group_in shape variables level b c (body_in shape profile (level + 1) c variables)) else
       (if is_word t (codes "if")
       then if_in (condition_of shape variables level a b c) (body_in shape profile (level + 1) b variables) (body_in shape profile (level + 1) c variables) else
-      refused Form))
+      reader_refused Form))
   one_in shape profile level (array (item t (item a (item b (item c (item d no_items)))))) variables =
       if is_word t (codes "for")
       then for_in variables (range_of variables level a b c d) (body_in shape profile (level + 1) d)
-      else refused Form
-  one_in shape profile level _ variables = refused Form
+      else reader_refused Form
+  one_in shape profile level _ variables = reader_refused Form
 
 -- Programs: the own form with what is shown, and then the body.
 
@@ -216,11 +216,11 @@ unfoldable mutual
 abbrev pub shows_of : Arrays → Data → Data → Result (List Section × Counts) Refusal
 shows_of shape shows body = do
   p ← both_of (sections_of shape [] shows) (list_of body)
-  n ← within_limits (counted no_counts 0 0 (cells_in p.0))
+  n ← within_limits (more_counts no_counts 0 0 (cells_in p.0))
   Ok (p.0, n)
 
-abbrev pub expanded : List Section → List S × Counts → Expanded
-expanded shows read =
+abbrev pub program_expanded : List Section → List S × Counts → Expanded
+program_expanded shows read =
     record { shows = shows; body = body_of read.0; statements = read.1.statements; tasks = read.1.tasks }
 
 -- the program's body is at the first level
@@ -231,7 +231,7 @@ abbrev pub program_at : Arrays → Profile → Data → Data → Result Expanded
 program_at shape profile shows body = do
   p ← shows_of shape shows body
   read ← body_in shape profile first_level body [] p.1
-  Ok (expanded p.0 read)
+  Ok (program_expanded p.0 read)
 
 abbrev pub walk_in : Arrays → Option Profile → Data → Data → Result Expanded Refusal
 walk_in shape None shows body = Err Form

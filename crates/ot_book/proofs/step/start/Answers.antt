@@ -3,7 +3,7 @@ use Rattle.serde_json.specs.View.{view}
 use Rattle.ot_program.specs.Programs.{program_of}
 use Rattle.ot_check.specs.declared.checked.Checked.{Checked}
 use Rattle.ot_store.specs.Arrays.{cells_in, shape_in}
-use Rattle.ot_book.specs.Answers.{Runs, started}
+use Rattle.ot_book.specs.Answers.{Runs, program_step}
 use Rattle.ot_book.specs.Faults.{told_by_check}
 use Rattle.ot_book.specs.Considering.{ComesToAnswer}
 use Rattle.ot_book.proofs.JudgedLemmas.{started-runs, started-fails, error-holds}
@@ -18,7 +18,7 @@ returns-in_err-checked-clause-refused c =
     let text = program_of (shape_in c.args.limits.now arrays) (view c.args.text.now) in
     let read = ap (λ s. program_of s (view c.args.text.now)) (sym c.in_ok-shape.ensures.shape) ∙ c.in_ok-program.ensures.read in
     let fault = c.in_err-checked.field-0.0 in
-    error-holds c.from_residual-in_err-checked.result (told_by_check fault) (ComesToAnswer (started arrays text) arrays arrays) c.from_residual-in_err-checked.ensures.1
+    error-holds c.from_residual-in_err-checked.result (told_by_check fault) (ComesToAnswer (program_step arrays text) arrays arrays) c.from_residual-in_err-checked.ensures.1
     (started-fails Checked arrays text (expanded_of c.in_ok-program.program) fault c.first_offence_is_first.ensures read c.in_err-checked.ensures.told)
 
 pub job_over-requires : goal.job_over-requires

@@ -4,7 +4,7 @@ use Rattle.ot_model.specs.View.{expr_of, stmt_of, stmts_of}
 use Rattle.ot_model.specs.Tree.{size, size_one}
 use Rattle.ot_check.specs.Offences.{Declared}
 use Rattle.ot_check.proofs.Cited.{stmt_of-Set, stmt_of-Fold, stmt_of-If, stmt_of-Task, stmt_of-Wait, stmt_of-Group, rest_is, rest_none}
-use Rattle.ot_c_judge.specs.Lacks.{found}
+use Rattle.ot_c_judge.specs.Lacks.{stood_in_body}
 use Rattle.ot_c_judge.specs.Fits.{Fits}
 use Rattle.ot_c_judge.proofs.FoundLemmas.{found-here, follows_past, follows_other, found-first, found-next, found-now}
 use Rattle.ot_c_judge.proofs.found.+find.Goals as goal
@@ -15,7 +15,7 @@ find_in-returns-in-Err-clause-found t c =
     let b = c.args.body.now.items in
     let rest = rest_is c.deref-stmt-items.result.now b c.loop-stmt.stmt-index c.stmt-item.result c.deref-stmt-items.ensures.value c.loop-stmt-test.true c.stmt-item.is in
     let more = stmts_of (drop (c.loop-stmt.stmt-index + 1) b) in
-    c.loop-stmt.invariant.found ∙ ap (found c.args.goal own c.loop-stmt.next) rest ∙ found-now c.args.goal own c.loop-stmt.next (stmt_of c.stmt-item.result) more _ c.in-Err.ensures.found
+    c.loop-stmt.invariant.found ∙ ap (stood_in_body c.args.goal own c.loop-stmt.next) rest ∙ found-now c.args.goal own c.loop-stmt.next (stmt_of c.stmt-item.result) more _ c.in-Err.ensures.found
 
 pub find_in-loop-stmt-preserved : goal.find_in-loop-stmt-preserved
 find_in-loop-stmt-preserved t c =
@@ -28,7 +28,7 @@ find_in-loop-stmt-preserved t c =
       next = omega (arith, sizes, c.loop-stmt.invariant.next, c.in-Ok.ensures.next);
       fits = (subst Fits rest c.loop-stmt.invariant.fits).1;
       found = c.loop-stmt.invariant.found
-          ∙ ap (found c.args.goal own c.loop-stmt.next) rest
+          ∙ ap (stood_in_body c.args.goal own c.loop-stmt.next) rest
           ∙ found-next c.args.goal own c.loop-stmt.next c.in-Ok.behind x more c.in-Ok.ensures.next c.in-Ok.ensures.found;
     }
 
@@ -36,7 +36,7 @@ pub find_in-returns-clause-found : goal.find_in-returns-clause-found
 find_in-returns-clause-found t c =
     let own : Declared = option_map (λ d. d.now) c.args.own in
     let none = rest_none c.deref-stmt-items.result.now c.args.body.now.items c.loop-stmt.stmt-index c.deref-stmt-items.ensures.value c.loop-stmt-test.false in
-    c.loop-stmt.invariant.found ∙ ap (found c.args.goal own c.loop-stmt.next) none
+    c.loop-stmt.invariant.found ∙ ap (stood_in_body c.args.goal own c.loop-stmt.next) none
 
 pub find_one-returns-then-place-goal-clause-found : goal.find_one-returns-then-place-goal-clause-found
 find_one-returns-then-place-goal-clause-found t c =

@@ -5,4 +5,4 @@ use Rattle.ot_c_program.proofs.region.listed.Given as goal
 
 -- those that are left complete what there is
 abbrev pub invariant-loop-clause : goal.invariant-loop-clause
-invariant-loop-clause l = meant.shown_clauses l.meanings l.seen.items (clauses_of (drop l.clause-index l.clauses)) ≡ meant.listed l.meanings (clauses_of l.clauses)
+invariant-loop-clause l = meant.shown_clauses l.meanings l.seen.items (clauses_of (drop l.clause-index l.clauses)) ≡ meant.meanings_listed l.meanings (clauses_of l.clauses)

@@ -2,7 +2,7 @@ use Rattle.std.proofs.Common.{◌++◌, ◌∙◌, map, ap, sym, length, take, d
 use Rattle.std.proofs.lemmas.List.{take_rest, length-drop}
 use Rattle.ot_c_words.specs.Tables.{Text}
 use Rattle.ot_c_words.specs.Pieces.{front}
-use Rattle.ot_c_words.specs.Words.{spoken, all_spoken}
+use Rattle.ot_c_words.specs.Words.{words_spoken, all_spoken}
 use Rattle.ot_c_words.proofs.ReadLemmas.{piece_read, fault_read, end_read}
 use Rattle.ot_c_words.proofs.words.words_of.Goals as goal
 
@@ -21,8 +21,8 @@ loop-at-preserved c =
       c.in_ok-put_piece.ensures.below,
       piece_read c.args.text.now l.on c.behind-on.result l.at c.in-Ok.found l.words.starts.items c.put_piece.new.self.starts.items (all_spoken l.words.names.keys l.words.words.items) (all_spoken c.put_piece.new.self.names.keys c.put_piece.new.self.words.items)
           (c.in-Ok.ensures.value ∙ ap (λ (bytes : Text). front l.on bytes) rest) within.0 (omega (arith, within, ap length rest)) c.behind-on.ensures
-          (c.in_ok-put_piece.ensures.starts ∙ ap (λ (bytes : Text). l.words.starts.items ++ map (λ w. l.at) (spoken l.on (take c.in-Ok.found.1 bytes) c.in-Ok.found.0)) rest)
-          (c.in_ok-put_piece.ensures.words ∙ ap (λ (bytes : Text). all_spoken l.words.names.keys l.words.words.items ++ spoken l.on (take c.in-Ok.found.1 bytes) c.in-Ok.found.0) rest)
+          (c.in_ok-put_piece.ensures.starts ∙ ap (λ (bytes : Text). l.words.starts.items ++ map (λ w. l.at) (words_spoken l.on (take c.in-Ok.found.1 bytes) c.in-Ok.found.0)) rest)
+          (c.in_ok-put_piece.ensures.words ∙ ap (λ (bytes : Text). all_spoken l.words.names.keys l.words.words.items ++ words_spoken l.on (take c.in-Ok.found.1 bytes) c.in-Ok.found.0) rest)
           ∙ l.invariant.2,
       c.in_ok-put_piece.ensures.names,
     )

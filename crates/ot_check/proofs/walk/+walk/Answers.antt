@@ -4,7 +4,7 @@ use Rattle.ot_model.specs.View.{expr_of, stmt_of, stmts_of}
 use Rattle.ot_model.specs.Tree.{Set, Fold, If, size, size_one}
 use Rattle.ot_model.specs.Names.{NamedIn}
 use Rattle.ot_check.specs.Discipline.{anyone, behind, behind_one, is_marked, nobody, nothing_open, through, through_one, with_group}
-use Rattle.ot_check.specs.walk.Walk.{ended, first, first_one, first_within, leading, placed}
+use Rattle.ot_check.specs.walk.Walk.{ending_offence, first, first_one, first_within, leading, offence_at}
 use Rattle.ot_sets.specs.Sets.{bit_in, has}
 use Rattle.ot_check.specs.walk.States.{IsBehind, Leads, is_open, lens_of}
 use Rattle.ot_check.proofs.TellingLemmas.{first_one-parts, or-assoc, or-none}
@@ -97,8 +97,8 @@ pub walk_one-returns-clause-told : goal.walk_one-returns-clause-told
 walk_one-returns-clause-told t c = λ own opened children decls h.
     let x = stmt_of c.args.stmt.now in
     c.earlier.ensures
-    ∙ ap (λ o. option_or o c.in_ok-within.within.first) (c.at.ensures ∙ ap (placed c.args.place) (c.own_offence-own.ensures own opened children decls h))
-    ∙ ap (option_or (placed c.args.place (leading (is_marked own opened children x)))) (c.in_ok-within.ensures.told own opened children decls h)
+    ∙ ap (λ o. option_or o c.in_ok-within.within.first) (c.at.ensures ∙ ap (offence_at c.args.place) (c.own_offence-own.ensures own opened children decls h))
+    ∙ ap (option_or (offence_at c.args.place (leading (is_marked own opened children x)))) (c.in_ok-within.ensures.told own opened children decls h)
     ∙ sym (first_one-parts own opened children c.args.place x)
 
 pub walk_task-returns-clause-told : goal.walk_task-returns-clause-told
@@ -107,9 +107,9 @@ walk_task-returns-clause-told t c = λ own opened children decls h.
     let begun = stands-first (Some c.args.decl.now) decls c.begin_task.new.self c.args.standing.now.tasks c.in_ok-outer.ensures.begun c.begin_task.ensures.tasks h.known in
     let body = c.in_ok-walked.ensures.behind (Some c.args.decl.now) nothing_open nobody decls begun in
     c.earlier.ensures
-    ∙ ap (λ o. option_or o c.in_ok-walked.walked.first) (c.at.ensures ∙ ap (placed c.args.place) (c.ended.ensures
-    ∙ ap ended (c.has_children-left.ensures (Some c.args.decl.now) nothing_open (behind nobody b) (decls ++ body.later) body.stands)))
-    ∙ ap (option_or (placed c.args.place (ended (behind nobody b anyone))))
+    ∙ ap (λ o. option_or o c.in_ok-walked.walked.first) (c.at.ensures ∙ ap (offence_at c.args.place) (c.ended.ensures
+    ∙ ap ending_offence (c.has_children-left.ensures (Some c.args.decl.now) nothing_open (behind nobody b) (decls ++ body.later) body.stands)))
+    ∙ ap (option_or (offence_at c.args.place (ending_offence (behind nobody b anyone))))
     (c.in_ok-walked.ensures.told (Some c.args.decl.now) nothing_open nobody decls begun)
 
 pub walk_task-returns-clause-behind : goal.walk_task-returns-clause-behind

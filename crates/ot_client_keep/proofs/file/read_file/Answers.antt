@@ -1,13 +1,13 @@
 use Rattle.std.proofs.Common.{◌≡◌, ◌∙◌, [], ◌∷◌, ◌++◌, Some, ap, ap₂, sym, true, false}
 use Rattle.hex.specs.Hex.{encode_with, lower_digits}
 use Rattle.sha2.specs.Sha256.{sha256}
-use Rattle.ot_client_keep.specs.Files.{bye_line, note_line, summed}
+use Rattle.ot_client_keep.specs.Files.{bye_line, note_line, text_summed}
 use Rattle.ot_client_keep.proofs.FileLemmas.{note-ends, note-others, note_front, some_pair}
 use Rattle.ot_client_keep.proofs.file.read_file.Goals as goal
 
 pub returns-in_default : goal.returns-in_default
 returns-in_default c = λ session next used fits_next fits_used lines is.
-    let bytes = sha256 (summed session next used) in
+    let bytes = sha256 (text_summed session next used) in
     let front = note_front (encode_with lower_digits bytes) next used in
     let ends = note-ends (encode_with lower_digits bytes) next used in
     let text : c.args.file.now ≡ session ++ (bye_line ++ (front ++ 10 ∷ [])) = is ∙ ap (λ l. session ++ (bye_line ++ l)) ends in
@@ -16,7 +16,7 @@ returns-in_default c = λ session next used fits_next fits_used lines is.
 
 pub returns-in_default-read_numbers : goal.returns-in_default-read_numbers
 returns-in_default-read_numbers c = λ session next used fits_next fits_used lines is.
-    let bytes = sha256 (summed session next used) in
+    let bytes = sha256 (text_summed session next used) in
     let front = note_front (encode_with lower_digits bytes) next used in
     let ends = note-ends (encode_with lower_digits bytes) next used in
     let text : c.args.file.now ≡ session ++ (bye_line ++ (front ++ 10 ∷ [])) = is ∙ ap (λ l. session ++ (bye_line ++ l)) ends in
@@ -27,7 +27,7 @@ returns-in_default-read_numbers c = λ session next used fits_next fits_used lin
 
 pub returns : goal.returns
 returns c = λ session next used fits_next fits_used lines is.
-    let bytes = sha256 (summed session next used) in
+    let bytes = sha256 (text_summed session next used) in
     let front = note_front (encode_with lower_digits bytes) next used in
     let ends = note-ends (encode_with lower_digits bytes) next used in
     let text : c.args.file.now ≡ session ++ (bye_line ++ (front ++ 10 ∷ [])) = is ∙ ap (λ l. session ++ (bye_line ++ l)) ends in

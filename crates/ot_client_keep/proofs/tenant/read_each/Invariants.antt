@@ -1,5 +1,5 @@
 use Rattle.std.proofs.Common.{◌≡◌, map, take}
-use Rattle.ot_store.specs.Arrays.{listed}
+use Rattle.ot_store.specs.Arrays.{arrays_listed}
 use Rattle.ot_model.specs.Programs.{arrays_of}
 use Rattle.ot_client_ask.specs.Streams.{link, outgoing}
 use Rattle.ot_client_keep.specs.Arrays.{named_by}
@@ -12,4 +12,4 @@ invariant-loop-shape g l =
     AsksInTurn (link (g.H.LineSource.coming l.fn.heard) (outgoing (g.W.Sink.contents l.fn.wire) (g.W.Sink.failures l.fn.wire)))
     (link (g.H.LineSource.coming l.heard) (outgoing (g.W.Sink.contents l.wire) (g.W.Sink.failures l.wire)))
     (map cells_turn (map named_by l.arrays.items))
-    × (listed (map named_by l.arrays.items) ≡ arrays_of (take l.shape-index l.shapes))
+    × (arrays_listed (map named_by l.arrays.items) ≡ arrays_of (take l.shape-index l.shapes))

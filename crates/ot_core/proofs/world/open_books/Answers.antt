@@ -3,7 +3,7 @@ use Rattle.std.specs.Prelude.{All}
 use Rattle.std.proofs.lemmas.List.{map-append}
 use Rattle.std.proofs.lemmas.List.Elements.{All-push}
 use Rattle.ot_book.specs.Books.{new_register}
-use Rattle.ot_core.specs.Accounts.{Account, IsSound, new_account}
+use Rattle.ot_core.specs.Accounts.{Account, IsSoundAccount, new_account}
 use Rattle.ot_core.specs.Openings.{opening_of}
 use Rattle.ot_core.proofs.world.open_books.Goals as goal
 
@@ -14,5 +14,5 @@ loop-name-preserved c =
       c.in_ok-push.ensures.items ∙ ap (λ (xs : List Account). xs ++ c.new-in-loop-name.result ∷ []) c.loop-name.invariant.0
           ∙ ap (λ t. map opening_of c.loop-name.yielded ++ t ∷ []) one
           ∙ sym (map-append opening_of c.loop-name.yielded ((c.in-Some.name, c.in-Some.limits, c.in-Some.store) ∷ [])),
-      subst (All IsSound) (sym c.in_ok-push.ensures.items) (All-push IsSound c.loop-name.tenants.items c.new-in-loop-name.result c.loop-name.invariant.1 c.new-in-loop-name.ensures.sound),
+      subst (All IsSoundAccount) (sym c.in_ok-push.ensures.items) (All-push IsSoundAccount c.loop-name.tenants.items c.new-in-loop-name.result c.loop-name.invariant.1 c.new-in-loop-name.ensures.sound),
     )

@@ -1,7 +1,7 @@
 use Rattle.std.proofs.Common.{◌≡◌, ◌∙◌, ◌-◌, ◌<◌, ◌≤◌, ◌++◌, ◌∷◌, [], ℕ, Bool, false, length, refl, subst, arith}
 use Rattle.std.specs.Prelude.{IfOk, Ok}
 use Rattle.ot_check.proofs.Cited.{if_ok}
-use Rattle.ot_exec_outline.specs.Followed.{answered}
+use Rattle.ot_exec_outline.specs.Followed.{list_answer}
 use Rattle.ot_exec_outline.specs.Ways.{endings}
 use Rattle.ot_exec_outline.proofs.AskedLemmas.{ends-behind}
 use Rattle.ot_exec_machine.specs.Runs.{run_of, asked_in}
@@ -19,7 +19,7 @@ returns-then-way-given t c =
     let given = c.args.given.now in
     let budget = c.args.budget.now in
     let left : ℕ = budget - 1 in
-    let few : asked (answered given) ≤ length given = subst (λ (n : ℕ). n ≤ length given) c.in_ok-way.ensures.asked c.if-way-given.true in
+    let few : asked (list_answer given) ≤ length given = subst (λ (n : ℕ). n ≤ length given) c.in_ok-way.ensures.asked c.if-way-given.true in
     let told : IfOk c.met_alone.result (λ met. (found_in met, left) ≡ met_in fault (endings asked c.args.questions given) budget) =
     if_ok c.met_alone.result (λ met. (left : ℕ) → (found_in met, left) ≡ met_on given c.in_ok-way.way.fault left (None_met, left))
     (λ met. (found_in met, left) ≡ met_in fault (endings asked c.args.questions given) budget)
@@ -43,7 +43,7 @@ returns-in-NoFault t c =
     let left = c.first_fault-in-NoFault.new.budget in
     let ones = endings asked less c.deref.result.now in
     let twos = endings asked less c.deref-in-NoFault.result.now in
-    let over : length given < asked (answered given) = subst (λ (n : ℕ). length given < n) c.in_ok-way.ensures.asked (omega (arith, c.if-way-given.false)) in
+    let over : length given < asked (list_answer given) = subst (λ (n : ℕ). length given < n) c.in_ok-way.ensures.asked (omega (arith, c.if-way-given.false)) in
     let ends = ends-behind asked c.args.questions given c.deref.result.now c.deref-in-NoFault.result.now over (omega (arith, c.if-questions-eq0.false))
     (c.deref.ensures.value ∙ c.in_ok-one.ensures) (c.deref-in-NoFault.ensures.value ∙ c.in_ok-two-in-NoFault.ensures) in
     let first : (None_met, mid) ≡ met_in fault ones budget = subst (λ (m : Met). (found_in m, mid) ≡ met_in fault ones budget) c.in-NoFault.is c.in_ok-met.ensures.met in
@@ -69,7 +69,7 @@ returns t c =
     let left = c.first_fault.new.budget in
     let ones = endings asked less c.deref.result.now in
     let twos = endings asked less (given ++ false ∷ []) in
-    let over : length given < asked (answered given) = subst (λ (n : ℕ). length given < n) c.in_ok-way.ensures.asked (omega (arith, c.if-way-given.false)) in
+    let over : length given < asked (list_answer given) = subst (λ (n : ℕ). length given < n) c.in_ok-way.ensures.asked (omega (arith, c.if-way-given.false)) in
     let ends = ends-behind asked c.args.questions given c.deref.result.now (given ++ false ∷ []) over (omega (arith, c.if-questions-eq0.false))
     (c.deref.ensures.value ∙ c.in_ok-one.ensures) refl in
     let told = ends_it fault (endings asked c.args.questions given) ones twos budget left ends c.in_ok-met.met c.in_default.not-NoFault c.in_ok-met.ensures.met in

@@ -3,7 +3,7 @@ use Rattle.std.specs.Prelude.{IfOk, Result}
 use Rattle.std.specs.declared.alloc.AllocError.{AllocError}
 use Rattle.std.proofs.lemmas.List.Elements.{All-nil}
 use Rattle.ot_check.proofs.Cited.{if_ok}
-use Rattle.ot_exec_outline.specs.Followed.{answered}
+use Rattle.ot_exec_outline.specs.Followed.{list_answer}
 use Rattle.ot_exec_outline.specs.Ways.{Ending, endings, HasNoRace, TellsOf, TellsAlone}
 use Rattle.ot_exec_outline.specs.declared.ways.Told.{Told}
 use Rattle.ot_exec_outline.proofs.AskedLemmas.{settled-end, more-end, ends-behind, nowhere, alone, ends_it, goes_on}
@@ -13,7 +13,7 @@ pub returns-then-budget-eq0-clause-told : goal.returns-then-budget-eq0-clause-to
 returns-then-budget-eq0-clause-told g t c =
     let asked = g.W.Asks.asked_by c.args.asks.now in
     let given = c.args.given.now in
-    let few : asked (answered given) ≤ length given = subst (λ (n : ℕ). n ≤ length given) c.in_ok-way.ensures.asked c.if-way-given.true in
+    let few : asked (list_answer given) ≤ length given = subst (λ (n : ℕ). n ≤ length given) c.in_ok-way.ensures.asked c.if-way-given.true in
     inr (
       given,
       record {
@@ -34,7 +34,7 @@ returns-then-way-given g t c =
     let given = c.args.given.now in
     let budget = c.args.budget.now in
     let left : ℕ = budget - 1 in
-    let few : asked (answered given) ≤ length given = subst (λ (n : ℕ). n ≤ length given) c.in_ok-way.ensures.asked c.if-way-given.true in
+    let few : asked (list_answer given) ≤ length given = subst (λ (n : ℕ). n ≤ length given) c.in_ok-way.ensures.asked c.if-way-given.true in
     let ends = settled-end asked c.args.questions given few in
     let told : IfOk c.told_on.result (TellsOf order events (endings asked c.args.questions given) budget left) =
     if_ok c.told_on.result (TellsAlone order events given) (TellsOf order events (endings asked c.args.questions given) budget left)
@@ -50,7 +50,7 @@ pub returns-then-questions-eq0-clause-told : goal.returns-then-questions-eq0-cla
 returns-then-questions-eq0-clause-told g t c =
     let asked = g.W.Asks.asked_by c.args.asks.now in
     let given = c.args.given.now in
-    let over : length given < asked (answered given) = subst (λ (n : ℕ). length given < n) c.in_ok-way.ensures.asked (omega (arith, c.if-way-given.false)) in
+    let over : length given < asked (list_answer given) = subst (λ (n : ℕ). length given < n) c.in_ok-way.ensures.asked (omega (arith, c.if-way-given.false)) in
     inl (record {
       before = [];
       behind = [];
@@ -71,7 +71,7 @@ returns-in-RacesNowhere g t c =
     let left = c.race_of-in-RacesNowhere.new.budget in
     let ones = endings asked less c.deref.result.now in
     let twos = endings asked less c.deref-in-RacesNowhere.result.now in
-    let over : length given < asked (answered given) = subst (λ (n : ℕ). length given < n) c.in_ok-way.ensures.asked (omega (arith, c.if-way-given.false)) in
+    let over : length given < asked (list_answer given) = subst (λ (n : ℕ). length given < n) c.in_ok-way.ensures.asked (omega (arith, c.if-way-given.false)) in
     let ends = ends-behind asked c.args.questions given c.deref.result.now c.deref-in-RacesNowhere.result.now over (omega (arith, c.if-questions-eq0.false))
     (c.deref.ensures.value ∙ c.in_ok-one.ensures) (c.deref-in-RacesNowhere.ensures.value ∙ c.in_ok-two-in-RacesNowhere.ensures) in
     let first = subst (TellsOf order events ones budget mid) c.in-RacesNowhere.is c.in_ok-told.ensures.told in
@@ -96,7 +96,7 @@ returns g t c =
     let left = c.race_of.new.budget in
     let ones = endings asked less c.deref.result.now in
     let twos = endings asked less (given ++ false ∷ []) in
-    let over : length given < asked (answered given) = subst (λ (n : ℕ). length given < n) c.in_ok-way.ensures.asked (omega (arith, c.if-way-given.false)) in
+    let over : length given < asked (list_answer given) = subst (λ (n : ℕ). length given < n) c.in_ok-way.ensures.asked (omega (arith, c.if-way-given.false)) in
     let ends = ends-behind asked c.args.questions given c.deref.result.now (given ++ false ∷ []) over (omega (arith, c.if-questions-eq0.false))
     (c.deref.ensures.value ∙ c.in_ok-one.ensures) refl in
     let told : TellsOf order events (endings asked c.args.questions given) budget left c.in_ok-told.told =

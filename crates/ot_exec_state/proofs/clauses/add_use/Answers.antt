@@ -1,7 +1,7 @@
 use Rattle.std.proofs.Common.{◌≡◌, ◌∙◌, ap, sym, ℕ, List}
 use Rattle.std.specs.Prelude.{slice_get}
 use Rattle.ot_model.specs.declared.stmt.Use.{Use}
-use Rattle.ot_exec_state.specs.Clauses.{before, with_use, placed}
+use Rattle.ot_exec_state.specs.Clauses.{before, with_use, use_placed}
 use Rattle.ot_exec_state.proofs.UseLemmas.{by_place, order_kept, still_in_order}
 use Rattle.ot_exec_state.proofs.clauses.add_use.Goals as goal
 
@@ -13,8 +13,8 @@ returns-clause-told c =
     let found = c.use_at-found.result in
     let place_is : place ≡ before u.cell us = c.place_of-place.ensures.place ∙ ap (before u.cell) c.deref.ensures.value in
     let found_is : found ≡ slice_get us place = c.use_at-found.ensures ∙ ap (λ (xs : List Use). slice_get xs place) c.deref-2.ensures.value in
-    let is : with_use u us ≡ placed u us place found =
-    by_place u us ∙ ap (λ (n : ℕ). placed u us n (slice_get us n)) (sym place_is) ∙ ap (placed u us place) (sym found_is) in
+    let is : with_use u us ≡ use_placed u us place found =
+    by_place u us ∙ ap (λ (n : ℕ). use_placed u us n (slice_get us n)) (sym place_is) ∙ ap (use_placed u us place) (sym found_is) in
     rw is c.put_use.ensures
 
 pub returns-clause-ordered : goal.returns-clause-ordered
@@ -25,6 +25,6 @@ returns-clause-ordered c =
     let found = c.use_at-found.result in
     let place_is : place ≡ before u.cell us = c.place_of-place.ensures.place ∙ ap (before u.cell) c.deref.ensures.value in
     let found_is : found ≡ slice_get us place = c.use_at-found.ensures ∙ ap (λ (xs : List Use). slice_get xs place) c.deref-2.ensures.value in
-    let is : with_use u us ≡ placed u us place found =
-    by_place u us ∙ ap (λ (n : ℕ). placed u us n (slice_get us n)) (sym place_is) ∙ ap (placed u us place) (sym found_is) in
+    let is : with_use u us ≡ use_placed u us place found =
+    by_place u us ∙ ap (λ (n : ℕ). use_placed u us n (slice_get us n)) (sym place_is) ∙ ap (use_placed u us place) (sym found_is) in
     still_in_order c.put_use.result c.put_use.new.uses.items (with_use u us) (rw is c.put_use.ensures) (order_kept u us c.requires)

@@ -1,6 +1,6 @@
 use Rattle.std.proofs.Common.{map, sym, ap, ◌∙◌, subst}
 use Rattle.ot_file_diagnosis.specs.DiagnosisView.{diagnosis_by}
-use Rattle.ot_file_judge.specs.Judging.{IsPlaced, Standing, Goes, IsBehind}
+use Rattle.ot_file_judge.specs.Judging.{IsPlaced, Standing, Goes, IsBookBehind}
 use Rattle.ot_file_judge.proofs.FindingLemmas.{match_none, match_some}
 use Rattle.ot_file_report.specs.Report.{IsTold}
 use Rattle.ot_file_report.proofs.ReportLemmas.{reporting_more, reporting_ends}

@@ -1,5 +1,5 @@
 use Rattle.std.proofs.Common.{◌≡◌, ◌∙◌, ◌||◌, ◌==◌, Bool, ap, sym, subst, arith, inl, inr, take, get_or, true, false, true≢false, []}
-use Rattle.ot_job.proofs.Common.{cases_eq, eqb-true, has, at, is_claimable, members, put, put-here, put-other}
+use Rattle.ot_job.proofs.Common.{cases_eq, eqb-true, has, at, is_claimable, members, told_put, put-here, put-other}
 use Rattle.std.proofs.lemmas.List.Folds.{list_any_more}
 use Rattle.ot_job.proofs.pick.refresh_children.Goals as goal
 
@@ -39,16 +39,16 @@ loop-child-preserved c = λ old tells.
     let number = c.child-number.result in
     let now = c.loop-child.invariant old tells in
     record {
-      test = put now.test number c.is_claimable.result;
+      test = told_put now.test number c.is_claimable.result;
       tells = c.mark.ensures _ (members tasks) now.test now.tells;
       told = λ k pos h up there. elim (cases_eq k number) [
-        | inl is ↦ subst (λ j. put now.test number c.is_claimable.result j ≡ is_claimable tasks j) (sym is) (put-here now.test number c.is_claimable.result ∙ c.is_claimable.ensures)
+        | inl is ↦ subst (λ j. told_put now.test number c.is_claimable.result j ≡ is_claimable tasks j) (sym is) (put-here now.test number c.is_claimable.result ∙ c.is_claimable.ensures)
         | inr apart ↦ put-other now.test number c.is_claimable.result k apart ∙ now.told k pos h up (first-or (has (at tasks k).child (take i xs)) (get_or xs i 0 == (at tasks k).child)
             (sym (list_any_more (λ x. x == (at tasks k).child) xs i 0 c.loop-child-test.true) ∙ there) (λ same. apart (sym (now.tells.numbered.is k pos h)
             ∙ ap (λ p. get_or (get_or c.loop-child.roster.numbers p []) (at tasks k).child 0) up ∙ ap (λ n. get_or (get_or c.loop-child.roster.numbers c.args.parent []) n 0) (sym (eqb-true (get_or xs i 0) (at tasks k).child same)) ∙ sym c.child-number.ensures)))
       ];
       others = λ k was. elim (cases_eq k number) [
-        | inl is ↦ subst (λ j. put now.test number c.is_claimable.result j ≡ is_claimable tasks j) (sym is) (put-here now.test number c.is_claimable.result ∙ c.is_claimable.ensures)
+        | inl is ↦ subst (λ j. told_put now.test number c.is_claimable.result j ≡ is_claimable tasks j) (sym is) (put-here now.test number c.is_claimable.result ∙ c.is_claimable.ensures)
         | inr apart ↦ put-other now.test number c.is_claimable.result k apart ∙ now.others k was
       ];
     }

@@ -6,7 +6,7 @@ use Rattle.ot_parts.specs.declared.step.Step.TheVariants as v
 use Rattle.ot_parts.specs.Steps.{Deed, deed_of, deeds_of}
 use Rattle.ot_owner.specs.Lending.{value_at}
 use Rattle.ot_job_task.specs.Copies.{Look}
-use Rattle.ot_job_task.specs.Deeds.{made, CanDoAll}
+use Rattle.ot_job_task.specs.Deeds.{copies_made, CanDoAll}
 use Rattle.ot_job_task.proofs.DeedLemmas.{can-assign, changed-some, made-assigned, none-left, rest-can, step-can, step-made}
 use Rattle.ot_job_task.proofs.assign.assign_all.Goals as goal
 
@@ -18,7 +18,7 @@ loop-step-init c =
     let is : map deed_of steps ≡ deeds_of body = c.steps-steps.ensures in
     let short : length (deeds_of body) < 2 ^ 64 = omega (arith, ap length is, length-map steps deed_of, c.steps-steps.type_inv) in (
       refl,
-      λ cell. ap (λ (ns : List _). made (map deed_of steps) ns (value_at lent) cell) c.new-stack.ensures ∙ ap (λ (ds : List Deed). made ds [] (value_at lent) cell) is
+      λ cell. ap (λ (ns : List _). copies_made (map deed_of steps) ns (value_at lent) cell) c.new-stack.ensures ∙ ap (λ (ds : List Deed). copies_made ds [] (value_at lent) cell) is
           ∙ ap (λ (f : Look). f cell) (made-assigned body (value_at lent)),
       subst (λ (ns : List _). CanDoAll lent (length ns) (map deed_of steps)) (sym c.new-stack.ensures) (subst (CanDoAll lent 0) (sym is) (can-assign lent body c.requires.can short)),
       λ cell some. some,

@@ -3,7 +3,7 @@ use Rattle.std.specs.Prelude.{Some, IsSome, is_some}
 use Rattle.std.proofs.Math.ListN.{get_or-map}
 use Rattle.std.proofs.lemmas.List.{length-map}
 use Rattle.ot_model.specs.Cells.{updated}
-use Rattle.ot_owner.specs.Owning.{Summed, copy_in, row_in, folded, folded_in}
+use Rattle.ot_owner.specs.Owning.{Summed, copy_in, row_in, copies_folded, folded_in}
 use Rattle.ot_owner.specs.Kept.{summed_of, summeds_of, made_of, holder_from}
 use Rattle.ot_owner.proofs.RowLemmas.{map-changed, map-kept}
 use Rattle.ot_owner.proofs.GroupLemmas.{folded-at, holder-is, no_holder}
@@ -33,7 +33,7 @@ returns-in-Some-clause-folded c =
     (sym (ap (λ xs. holder_from 0 (summeds_of xs) c.args.cell) c.deref.ensures.value) ∙ sym c.find.ensures ∙ c.in-Some.is) in
     let at : h.0 ≡ c.in-Some.i = omega (arith, h.1) in
     map-changed summed_of items c.in-Some.i c.index_mut.result.now c.fold.new.self (λ (g : Summed). folded_in c.args.worker c.args.number g (Some c.in-Some.place)) c.index_mut.ensures.value c.fold.ensures.folded
-    ∙ sym (subst (λ k. folded c.args.worker c.args.cell c.args.number gs ≡ updated gs k (λ (g : Summed). folded_in c.args.worker c.args.number g (Some c.in-Some.place))) at h.3)
+    ∙ sym (subst (λ k. copies_folded c.args.worker c.args.cell c.args.number gs ≡ updated gs k (λ (g : Summed). folded_in c.args.worker c.args.number g (Some c.in-Some.place))) at h.3)
 
 pub returns-in_default-clause-folded : goal.returns-in_default-clause-folded
 returns-in_default-clause-folded c =

@@ -4,7 +4,7 @@ use Rattle.std.proofs.lemmas.List.{drop_all}
 use Rattle.std.proofs.lemmas.List.Sorted.{IsPermutation-append_comm}
 use Rattle.ot_model.specs.Cells.{mode_in}
 use Rattle.ot_model.specs.declared.stmt.Use.{Use}
-use Rattle.ot_parts.specs.Modes.{added, strongest}
+use Rattle.ot_parts.specs.Modes.{mode_added, strongest}
 use Rattle.ot_parts.proofs.StrongestLemmas.{strongest-permuted}
 use Rattle.ot_parts.proofs.held.gather.Goals as goal
 
@@ -14,7 +14,7 @@ returns-clause-exact c = λ cell.
     let aside = c.args.aside.now.items in
     let sorted = c.deref-used-items.result.now in
     let none : drop c.loop-used.used-index sorted ≡ [] = drop_all c.loop-used.used-index sorted (omega (arith, c.loop-used-test.false)) in
-    sym (ap (λ (us : List Use). fold (added cell) (mode_in c.loop-used.list.items cell) us) none) ∙ c.loop-used.invariant.1 cell
+    sym (ap (λ (us : List Use). fold (mode_added cell) (mode_in c.loop-used.list.items cell) us) none) ∙ c.loop-used.invariant.1 cell
     ∙ ap (λ us. strongest us cell) c.deref-used-items.ensures.value
     ∙ sym (strongest-permuted c.extend_from_slice.new.self.items c.sort_unstable_by_key.new.self.items cell c.sort_unstable_by_key.ensures.permutation)
     ∙ ap (λ us. strongest us cell) (c.in_ok-extend_from_slice.ensures.items ∙ ap (λ us. aside ++ us) c.deref.ensures.value)

@@ -5,7 +5,7 @@ use Rattle.ot_model.specs.Programs.{expanded_of}
 use Rattle.ot_model.specs.Tree.{S}
 use Rattle.ot_model.specs.View.{stmt_of}
 use Rattle.ot_program.specs.walk.Parts.{sections_of}
-use Rattle.ot_program.specs.walk.Statements.{shows_of, expanded, list_of}
+use Rattle.ot_program.specs.walk.Statements.{shows_of, program_expanded, list_of}
 use Rattle.ot_program.proofs.Joins.{Fails-then, join_gives, join_fails, gives_refused}
 use Rattle.ot_program.proofs.ProgramForms.{program_fails_counts, program_fails_body, program_reads}
 use Rattle.ot_program.proofs.ProgramsWalked.{program_counts}
@@ -55,4 +55,4 @@ returns c =
     (rw (← c.in_ok-shows.ensures) at (join_gives (λ v. v.items) (λ u. u) c.read_sections.result c.map_err-list.result
     (sections_of shape [] (view c.args.shows.now)) (list_of (view c.args.body.now)) c.read_sections.ensures (search rules)))
     (rw (c.none.ensures, c.cells.ensures, c.deref.ensures.value) at c.in_ok-counts.ensures) added.is
-    ∙ ap (λ (xs : List S). Ok (expanded c.in_ok-shows.shows.items (xs, c.read_body.new.counts))) all
+    ∙ ap (λ (xs : List S). Ok (program_expanded c.in_ok-shows.shows.items (xs, c.read_body.new.counts))) all

@@ -9,7 +9,7 @@ use Rattle.ot_model.specs.declared.stmt.Use.{Use}
 use Rattle.ot_race.specs.Races.{IsUsed}
 use Rattle.ot_race.specs.View.{event_of, events_in}
 use Rattle.ot_race.proofs.PlaceLemmas.{place_map, place_read}
-use Rattle.ot_race_locks.specs.Kinds.{kind, groups_at, AreAllGroups, AreGrown, AreFull, Fits}
+use Rattle.ot_race_locks.specs.Kinds.{kind, groups_at, AreAllGroups, AreGrown, AreFull, KindFits}
 use Rattle.ot_race_locks.proofs.GroupLemmas.{all_groups_more, all_groups_next, too_many}
 use Rattle.ot_race_locks.proofs.ListLemmas.{among_first}
 use Rattle.ot_race_locks.proofs.touch.keep.Goals as goal
@@ -33,7 +33,7 @@ returns-then-not-branch c =
     too_many es locks n (take k uses) u old (c.loop-used.invariant u.cell) (λ mode l. used mode (among_first k uses (use_as mode u.cell) l))
     (used u.mode (Contains-get_or uses k some_use c.loop-used-test.true))
     (subst (λ set. AreFull (kind set u.mode) old) c.set_at-set.ensures
-    (subst (Fits (kind c.set_at-set.result u.mode) n c.args.known.now old (groups_at c.add.new.self.rows.items u.cell)) c.if-not-branch.true c.in_ok-add.ensures.there))
+    (subst (KindFits (kind c.set_at-set.result u.mode) n c.args.known.now old (groups_at c.add.new.self.rows.items u.cell)) c.if-not-branch.true c.in_ok-add.ensures.there))
 
 pub loop-used-preserved : goal.loop-used-preserved
 loop-used-preserved c =
@@ -50,7 +50,7 @@ loop-used-preserved c =
     subst (λ us. AreAllGroups es locks n us new) (sym (take_more uses k some_use c.loop-used-test.true))
     (all_groups_more es locks n (take k uses) u known rows new c.requires.known c.loop-used.invariant
     (subst (λ set. AreGrown (kind set u.mode) n known (groups_at rows u.cell) (groups_at new u.cell)) c.set_at-set.ensures
-    (subst (Fits (kind c.set_at-set.result u.mode) n known (groups_at rows u.cell) (groups_at new u.cell)) c.if-not-branch.false added.there))
+    (subst (KindFits (kind c.set_at-set.result u.mode) n known (groups_at rows u.cell) (groups_at new u.cell)) c.if-not-branch.false added.there))
     added.others)
 
 pub returns : goal.returns

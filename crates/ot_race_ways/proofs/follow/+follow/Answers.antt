@@ -11,7 +11,7 @@ use Rattle.ot_model.specs.Names.{NamedIn, OneNamedIn}
 use Rattle.ot_model.specs.declared.stmt.Stmt.{the_lemmas}
 use Rattle.ot_check.proofs.Cited.{rest_is}
 use Rattle.ot_race.specs.View.{event_of, events_in}
-use Rattle.ot_race_ways.specs.Known.{known, may_read}
+use Rattle.ot_race_ways.specs.Known.{number_in_value, may_read}
 use Rattle.ot_race_ways.specs.Numbered.{takes_first, left_for_second}
 use Rattle.ot_race_ways.specs.Ways.{ways, ways_one, ways_of_if, turn}
 use Rattle.ot_race_ways.specs.declared.verdict.Turn.{Turn}
@@ -90,11 +90,11 @@ pub follow_one-returns-then-first-clause-events : goal.follow_one-returns-then-f
 follow_one-returns-then-first-clause-events t c =
     let is : stmt_of c.args.stmt.now ≡ If (expr_of c.in-If.expr) (stmts_of c.in-If.one.items) (stmts_of c.in-If.two.items) =
     ap stmt_of c.in-If.is ∙ search (rules, the_lemmas) in
-    let few : ways_of_if (known (expr_of c.in-If.expr)) (ways (stmts_of c.in-If.one.items)) (ways (stmts_of c.in-If.two.items)) < 1025 =
+    let few : ways_of_if (number_in_value (expr_of c.in-If.expr)) (ways (stmts_of c.in-If.one.items)) (ways (stmts_of c.in-If.two.items)) < 1025 =
     few_of_if _ _ _ (stmt_of c.args.stmt.now) is c.requires.few_ways in
     let told : c.takes_first-first.result ≡ true = c.if-first.true in
-    let taken : takes_first (known (expr_of c.in-If.expr)) c.args.way (ways (stmts_of c.in-If.one.items)) ≡ true =
-    sym (counted_takes (known (expr_of c.in-If.expr)) c.args.way c.extent_all-extent.result.ways (ways (stmts_of c.in-If.one.items)) (ways (stmts_of c.in-If.two.items))
+    let taken : takes_first (number_in_value (expr_of c.in-If.expr)) c.args.way (ways (stmts_of c.in-If.one.items)) ≡ true =
+    sym (counted_takes (number_in_value (expr_of c.in-If.expr)) c.args.way c.extent_all-extent.result.ways (ways (stmts_of c.in-If.one.items)) (ways (stmts_of c.in-If.two.items))
     c.extent_all-extent.ensures.ways few) ∙ ap (λ o. takes_first o c.args.way c.extent_all-extent.result.ways) (sym c.known_number-decided.ensures)
     ∙ sym c.takes_first-first.ensures ∙ told in
     let reads = c.in_ok-note_reads-in-If.ensures ∙ ap (λ l. l ++ map (use_as Reads) (may_read (expr_of c.in-If.expr))) c.new-uses.ensures.items in
@@ -106,11 +106,11 @@ pub follow_one-returns-then-first-clause-turns : goal.follow_one-returns-then-fi
 follow_one-returns-then-first-clause-turns t c =
     let is : stmt_of c.args.stmt.now ≡ If (expr_of c.in-If.expr) (stmts_of c.in-If.one.items) (stmts_of c.in-If.two.items) =
     ap stmt_of c.in-If.is ∙ search (rules, the_lemmas) in
-    let few : ways_of_if (known (expr_of c.in-If.expr)) (ways (stmts_of c.in-If.one.items)) (ways (stmts_of c.in-If.two.items)) < 1025 =
+    let few : ways_of_if (number_in_value (expr_of c.in-If.expr)) (ways (stmts_of c.in-If.one.items)) (ways (stmts_of c.in-If.two.items)) < 1025 =
     few_of_if _ _ _ (stmt_of c.args.stmt.now) is c.requires.few_ways in
     let told : c.takes_first-first.result ≡ true = c.if-first.true in
-    let taken : takes_first (known (expr_of c.in-If.expr)) c.args.way (ways (stmts_of c.in-If.one.items)) ≡ true =
-    sym (counted_takes (known (expr_of c.in-If.expr)) c.args.way c.extent_all-extent.result.ways (ways (stmts_of c.in-If.one.items)) (ways (stmts_of c.in-If.two.items))
+    let taken : takes_first (number_in_value (expr_of c.in-If.expr)) c.args.way (ways (stmts_of c.in-If.one.items)) ≡ true =
+    sym (counted_takes (number_in_value (expr_of c.in-If.expr)) c.args.way c.extent_all-extent.result.ways (ways (stmts_of c.in-If.one.items)) (ways (stmts_of c.in-If.two.items))
     c.extent_all-extent.ensures.ways few) ∙ ap (λ o. takes_first o c.args.way c.extent_all-extent.result.ways) (sym c.known_number-decided.ensures)
     ∙ sym c.takes_first-first.ensures ∙ told in
     let put = c.in_ok-push-in-If.ensures.items ∙ ap (λ (v : Vec Turn Global). v.items ++ turn c.args.place c.takes_first-first.result ∷ []) c.in_ok-put-in-If.ensures.turns in
@@ -120,16 +120,16 @@ pub follow_one-returns-else-first-clause-events : goal.follow_one-returns-else-f
 follow_one-returns-else-first-clause-events t c =
     let is : stmt_of c.args.stmt.now ≡ If (expr_of c.in-If.expr) (stmts_of c.in-If.one.items) (stmts_of c.in-If.two.items) =
     ap stmt_of c.in-If.is ∙ search (rules, the_lemmas) in
-    let few : ways_of_if (known (expr_of c.in-If.expr)) (ways (stmts_of c.in-If.one.items)) (ways (stmts_of c.in-If.two.items)) < 1025 =
+    let few : ways_of_if (number_in_value (expr_of c.in-If.expr)) (ways (stmts_of c.in-If.one.items)) (ways (stmts_of c.in-If.two.items)) < 1025 =
     few_of_if _ _ _ (stmt_of c.args.stmt.now) is c.requires.few_ways in
     let told : c.takes_first-first.result ≡ false = c.if-first.false in
-    let taken : takes_first (known (expr_of c.in-If.expr)) c.args.way (ways (stmts_of c.in-If.one.items)) ≡ false =
-    sym (counted_takes (known (expr_of c.in-If.expr)) c.args.way c.extent_all-extent.result.ways (ways (stmts_of c.in-If.one.items)) (ways (stmts_of c.in-If.two.items))
+    let taken : takes_first (number_in_value (expr_of c.in-If.expr)) c.args.way (ways (stmts_of c.in-If.one.items)) ≡ false =
+    sym (counted_takes (number_in_value (expr_of c.in-If.expr)) c.args.way c.extent_all-extent.result.ways (ways (stmts_of c.in-If.one.items)) (ways (stmts_of c.in-If.two.items))
     c.extent_all-extent.ensures.ways few) ∙ ap (λ o. takes_first o c.args.way c.extent_all-extent.result.ways) (sym c.known_number-decided.ensures)
     ∙ sym c.takes_first-first.ensures ∙ told in
-    let left : c.left_for_second-left.result ≡ left_for_second (known (expr_of c.in-If.expr)) c.args.way (ways (stmts_of c.in-If.one.items)) =
+    let left : c.left_for_second-left.result ≡ left_for_second (number_in_value (expr_of c.in-If.expr)) c.args.way (ways (stmts_of c.in-If.one.items)) =
     c.left_for_second-left.ensures ∙ ap (λ o. left_for_second o c.args.way c.extent_all-extent.result.ways) c.known_number-decided.ensures
-    ∙ counted_left (known (expr_of c.in-If.expr)) c.args.way c.extent_all-extent.result.ways (ways (stmts_of c.in-If.one.items)) (ways (stmts_of c.in-If.two.items))
+    ∙ counted_left (number_in_value (expr_of c.in-If.expr)) c.args.way c.extent_all-extent.result.ways (ways (stmts_of c.in-If.one.items)) (ways (stmts_of c.in-If.two.items))
     c.extent_all-extent.ensures.ways few in
     let reads = c.in_ok-note_reads-in-If.ensures ∙ ap (λ l. l ++ map (use_as Reads) (may_read (expr_of c.in-If.expr))) c.new-uses.ensures.items in
     let place : c.args.place + 1 + c.extent_all-extent.result.statements ≡ c.args.place + 1 + size (stmts_of c.in-If.one.items) = ap (λ n. c.args.place + 1 + n) c.extent_all-extent.ensures.statements in
@@ -141,16 +141,16 @@ pub follow_one-returns-else-first-clause-turns : goal.follow_one-returns-else-fi
 follow_one-returns-else-first-clause-turns t c =
     let is : stmt_of c.args.stmt.now ≡ If (expr_of c.in-If.expr) (stmts_of c.in-If.one.items) (stmts_of c.in-If.two.items) =
     ap stmt_of c.in-If.is ∙ search (rules, the_lemmas) in
-    let few : ways_of_if (known (expr_of c.in-If.expr)) (ways (stmts_of c.in-If.one.items)) (ways (stmts_of c.in-If.two.items)) < 1025 =
+    let few : ways_of_if (number_in_value (expr_of c.in-If.expr)) (ways (stmts_of c.in-If.one.items)) (ways (stmts_of c.in-If.two.items)) < 1025 =
     few_of_if _ _ _ (stmt_of c.args.stmt.now) is c.requires.few_ways in
     let told : c.takes_first-first.result ≡ false = c.if-first.false in
-    let taken : takes_first (known (expr_of c.in-If.expr)) c.args.way (ways (stmts_of c.in-If.one.items)) ≡ false =
-    sym (counted_takes (known (expr_of c.in-If.expr)) c.args.way c.extent_all-extent.result.ways (ways (stmts_of c.in-If.one.items)) (ways (stmts_of c.in-If.two.items))
+    let taken : takes_first (number_in_value (expr_of c.in-If.expr)) c.args.way (ways (stmts_of c.in-If.one.items)) ≡ false =
+    sym (counted_takes (number_in_value (expr_of c.in-If.expr)) c.args.way c.extent_all-extent.result.ways (ways (stmts_of c.in-If.one.items)) (ways (stmts_of c.in-If.two.items))
     c.extent_all-extent.ensures.ways few) ∙ ap (λ o. takes_first o c.args.way c.extent_all-extent.result.ways) (sym c.known_number-decided.ensures)
     ∙ sym c.takes_first-first.ensures ∙ told in
-    let left : c.left_for_second-left.result ≡ left_for_second (known (expr_of c.in-If.expr)) c.args.way (ways (stmts_of c.in-If.one.items)) =
+    let left : c.left_for_second-left.result ≡ left_for_second (number_in_value (expr_of c.in-If.expr)) c.args.way (ways (stmts_of c.in-If.one.items)) =
     c.left_for_second-left.ensures ∙ ap (λ o. left_for_second o c.args.way c.extent_all-extent.result.ways) c.known_number-decided.ensures
-    ∙ counted_left (known (expr_of c.in-If.expr)) c.args.way c.extent_all-extent.result.ways (ways (stmts_of c.in-If.one.items)) (ways (stmts_of c.in-If.two.items))
+    ∙ counted_left (number_in_value (expr_of c.in-If.expr)) c.args.way c.extent_all-extent.result.ways (ways (stmts_of c.in-If.one.items)) (ways (stmts_of c.in-If.two.items))
     c.extent_all-extent.ensures.ways few in
     let place : c.args.place + 1 + c.extent_all-extent.result.statements ≡ c.args.place + 1 + size (stmts_of c.in-If.one.items) = ap (λ n. c.args.place + 1 + n) c.extent_all-extent.ensures.statements in
     let put = c.in_ok-push-in-If.ensures.items ∙ ap (λ (v : Vec Turn Global). v.items ++ turn c.args.place c.takes_first-first.result ∷ []) c.in_ok-put-in-If.ensures.turns in

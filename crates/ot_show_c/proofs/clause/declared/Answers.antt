@@ -13,9 +13,9 @@ pub returns-clause-text : goal.returns-clause-text
 returns-clause-text c =
     let a = c.args.out.now in
     let us = c.args.decl.now in
-    let i : List Text → Text = λ n. written.dependences n (codes "in") us m.Reads in
-    let o : List Text → Text = λ n. written.dependences n (codes "out") us m.Writes in
-    let x : Operation → List Text → Text = λ op n. written.folded n us op in
+    let i : List Text → Text = λ n. written.c_dependences n (codes "in") us m.Reads in
+    let o : List Text → Text = λ n. written.c_dependences n (codes "out") us m.Writes in
+    let x : Operation → List Text → Text = λ op n. written.fold_clauses n us op in
     let n0 : c.dependences.new.out.names ≡ a.names = c.dependences.ensures.names in
     let t1 = grown i o a c.dependences.new.out c.dependences-2.new.out c.in_ok-dependences.ensures.text n0 c.in_ok-dependences-2.ensures.text in
     let n1 : c.dependences-2.new.out.names ≡ a.names = c.dependences-2.ensures.names ∙ n0 in

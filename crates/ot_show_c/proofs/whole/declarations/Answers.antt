@@ -1,7 +1,7 @@
 use Rattle.std.proofs.Common.{◌≡◌, ◌++◌, ◌||◌, ◌<◌, ◌∷◌, ◌+◌, ◌∙◌, drop, length, min, ap, subst, arith, ◌≤◌}
 use Rattle.std.proofs.lemmas.Result.{on_ok_weaker}
 use Rattle.ot_model.specs.Programs.{expanded_of, arrays_of}
-use Rattle.ot_show_c.specs.Programs.{any_declared, array_of, declared, declaration, words_if, declared_from, lists_of}
+use Rattle.ot_show_c.specs.Programs.{any_declared, array_of, c_declared, declaration, words_if, declared_from, lists_of}
 use Rattle.ot_show_c.specs.Named.{names}
 use Rattle.ot_show_c.proofs.DeclaredLemmas.{left, text_step, any_step, none_left, ended, there}
 use Rattle.ot_show_c.proofs.whole.declarations.Goals as goal
@@ -19,9 +19,9 @@ loop-number-preserved c =
     let one : drop i xs ≡ a ∷ drop (i + 1) xs = there xs i a (omega arith) c.index-arrays-number.is in
     let two : drop i vs ≡ v ∷ drop (i + 1) vs = there vs i v (omega arith) c.index-before-number.is in
     let old = c.loop-number.out.text in
-    let new : c.declaration_if.new.out.text ≡ old ++ words_if (names p i) (declaration m (declared (array_of a) v.items)) =
-    c.in_ok-declaration_if.ensures.text ∙ ap (λ ns. old ++ words_if c.names-named.result (declaration m (declared (array_of a) ns))) c.deref.ensures.value
-    ∙ ap (λ b. old ++ words_if b (declaration m (declared (array_of a) v.items))) c.names-named.ensures in (
+    let new : c.declaration_if.new.out.text ≡ old ++ words_if (names p i) (declaration m (c_declared (array_of a) v.items)) =
+    c.in_ok-declaration_if.ensures.text ∙ ap (λ ns. old ++ words_if c.names-named.result (declaration m (c_declared (array_of a) ns))) c.deref.ensures.value
+    ∙ ap (λ b. old ++ words_if b (declaration m (c_declared (array_of a) v.items))) c.names-named.ensures in (
       c.declaration_if.ensures.names ∙ c.loop-number.invariant.0,
       text_step m p i xs vs a v old c.declaration_if.new.out.text _ one two new c.loop-number.invariant.1,
       ap (λ b. (c.loop-number.any || b) || any_declared (left p (i + 1) xs vs)) c.names-named.ensures

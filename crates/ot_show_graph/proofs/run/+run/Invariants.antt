@@ -4,7 +4,7 @@ use Rattle.ot_model.specs.Tree.{size, tasks_in}
 use Rattle.ot_model.specs.Serial.{serial, state_of}
 use Rattle.ot_model.specs.Names.{NamedIn}
 use Rattle.ot_model.specs.Cells.{lengths}
-use Rattle.ot_show_graph.specs.Passing.{children_in, inside, passes, unawaited}
+use Rattle.ot_show_graph.specs.Passing.{children_in, inside, passes, children_unawaited}
 use Rattle.ot_show_graph.specs.Children.{all_of}
 use Rattle.ot_show_graph.specs.Graphs.{families_of, marks_of}
 use Rattle.ot_show_graph.proofs.run.+run.Given as goal
@@ -24,8 +24,8 @@ invariant-run_all-loop-stmt l = record {
       ≡ all_of l.initial.region.children.items ++ children_in l.place (stmts_of l.body.items) (state_of l.initial.run.cells l.initial.run.counts);
   families : families_of l.run.families.items ++ inside l.next (stmts_of (drop l.stmt-index l.body.items)) (state_of l.run.cells l.run.counts)
       ≡ families_of l.initial.run.families.items ++ inside l.place (stmts_of l.body.items) (state_of l.initial.run.cells l.initial.run.counts);
-  pending : unawaited l.next (stmts_of (drop l.stmt-index l.body.items)) (state_of l.run.cells l.run.counts) (all_of l.region.pending.items)
-      ≡ unawaited l.place (stmts_of l.body.items) (state_of l.initial.run.cells l.initial.run.counts) (all_of l.initial.region.pending.items);
+  pending : children_unawaited l.next (stmts_of (drop l.stmt-index l.body.items)) (state_of l.run.cells l.run.counts) (all_of l.region.pending.items)
+      ≡ children_unawaited l.place (stmts_of l.body.items) (state_of l.initial.run.cells l.initial.run.counts) (all_of l.initial.region.pending.items);
   marks : marks_of l.run.marks.items
       ++ passes l.region.parent l.next (stmts_of (drop l.stmt-index l.body.items)) (state_of l.run.cells l.run.counts) (all_of l.region.pending.items)
       ≡ marks_of l.initial.run.marks.items

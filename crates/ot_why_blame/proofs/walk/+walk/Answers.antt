@@ -6,7 +6,7 @@ use Rattle.ot_model.specs.View.{expr_of, stmt_of, stmts_of}
 use Rattle.ot_check.specs.Offences.{PassesOne, Passes, awaits}
 use Rattle.ot_check.proofs.Cited.{if_ok, stmt_of-Set, stmt_of-Fold, stmt_of-If, stmt_of-Task, stmt_of-Wait, stmt_of-Group, rest_is, rest_none}
 use Rattle.ot_check.specs.Discipline.{through}
-use Rattle.ot_why_blame.specs.Walk.{Pending, pending_of, carried, met, Carries, Arrives, ArrivesOne}
+use Rattle.ot_why_blame.specs.Walk.{Pending, pending_of, pending_carried, met_statement, Carries, Arrives, ArrivesOne}
 use Rattle.ot_why_blame.proofs.WalkLemmas.{if_err, carries-set, carries-fold, carries-none, carries-first, carries-second, carries-task, carries-made, carries-wait, carries-group, carries-next, arrives-here, arrives-first, arrives-second, arrives-task, arrives-group, arrives-next, arrives-later}
 use Rattle.ot_why_blame.proofs.FollowLemmas.{or-cases, if-cases, only-cases, declares_not, met-here, follows_past, follows_still, follows_other, follows_first, carried-next, met-next, met-first}
 use Rattle.ot_why_blame.proofs.walk.+walk.Goals as goal
@@ -51,10 +51,10 @@ walk-loop-stmt-preserved t c =
           (arrives-later k x more p q place here now c.in-Ok.ensures.carries
           (subst (λ n. Arrives n more q place here now) c.in-Ok.ensures.place arrives))),
       c.loop-stmt.invariant.3
-          ∙ ap (carried c.args.search.now.child p k) rest
+          ∙ ap (pending_carried c.args.search.now.child p k) rest
           ∙ carried-next c.args.search.now.child p q k c.in-Ok.now.next x more c.in-Ok.ensures.follows.0 c.in-Ok.ensures.place,
       c.loop-stmt.invariant.4
-          ∙ ap (met c.args.search.now.place c.args.search.now.child p k) rest
+          ∙ ap (met_statement c.args.search.now.place c.args.search.now.child p k) rest
           ∙ met-next c.args.search.now.place c.args.search.now.child p q k c.in-Ok.now.next x more c.in-Ok.ensures.follows.0 c.in-Ok.ensures.place c.in-Ok.ensures.follows.1,
     )
 
@@ -187,7 +187,7 @@ walk-returns-clause-follows t c =
     let s = c.args.search.now in
     let p = pending_of c.loop-stmt.behind.child in
     let k = c.loop-stmt.behind.next in
-    (sym (c.loop-stmt.invariant.3 ∙ ap (carried s.child p k) none), c.loop-stmt.invariant.4 ∙ ap (met s.place s.child p k) none)
+    (sym (c.loop-stmt.invariant.3 ∙ ap (pending_carried s.child p k) none), c.loop-stmt.invariant.4 ∙ ap (met_statement s.place s.child p k) none)
 
 pub walk-returns-in-Err-clause-follows : goal.walk-returns-in-Err-clause-follows
 walk-returns-in-Err-clause-follows t c =
@@ -197,7 +197,7 @@ walk-returns-in-Err-clause-follows t c =
     let p = pending_of c.loop-stmt.behind.child in
     let k = c.loop-stmt.behind.next in
     let more = stmts_of (drop (c.loop-stmt.stmt-index + 1) b) in
-    c.loop-stmt.invariant.4 ∙ ap (met s.place s.child p k) rest ∙ met-first s.place s.child p k (stmt_of c.stmt-item.result) more _ c.in-Err.ensures.follows
+    c.loop-stmt.invariant.4 ∙ ap (met_statement s.place s.child p k) rest ∙ met-first s.place s.child p k (stmt_of c.stmt-item.result) more _ c.in-Err.ensures.follows
 
 pub walk_one-returns-then-place-search-clause-follows : goal.walk_one-returns-then-place-search-clause-follows
 walk_one-returns-then-place-search-clause-follows t c =

@@ -4,14 +4,14 @@ use Rattle.serde_json.specs.Data.{Data}
 use Rattle.serde_json.specs.View.{view}
 use Rattle.ot_program.specs.Faults.{clause_faults}
 use Rattle.ot_program.specs.Meanings.{clause}
-use Rattle.ot_why_place.specs.Spots.{bindings_of}
+use Rattle.ot_why_place.specs.Spots.{trail_bindings}
 use Rattle.ot_why_mixed.specs.Rows.{row_of, row_by, Fits}
 use Rattle.ot_why_mixed.proofs.ClauseLemmas.{three_items, three_folds, folds_row}
 use Rattle.ot_why_mixed.proofs.clause.clause_of_three.Goals as goal
 
 pub returns-clause-row : goal.returns-clause-row
 returns-clause-row c shape profile arrays none =
-    let variables = bindings_of c.args.trail.now in
+    let variables = trail_bindings c.args.trail.now in
     let items = three_items c.args.items.now _ _ _ c.requires c._tag-item.is c.op-item.is c.section-item.is in
     let f = three_folds shape profile variables (view c._tag-item.result) (view c.op-item.result) (view c.section-item.result) (subst (λ (d : Data). clause_faults shape profile variables d ≡ []) items none) in
     subst (λ (d : Data). option_map row_by c.section_of.result ≡ Some (row_of shape (clause shape profile variables d))) (sym items)
@@ -20,7 +20,7 @@ returns-clause-row c shape profile arrays none =
 
 pub returns-clause-fits : goal.returns-clause-fits
 returns-clause-fits c shape profile arrays none =
-    let variables = bindings_of c.args.trail.now in
+    let variables = trail_bindings c.args.trail.now in
     let items = three_items c.args.items.now _ _ _ c.requires c._tag-item.is c.op-item.is c.section-item.is in
     let f = three_folds shape profile variables (view c._tag-item.result) (view c.op-item.result) (view c.section-item.result) (subst (λ (d : Data). clause_faults shape profile variables d ≡ []) items none) in
     subst (λ (d : Data). Fits (clause shape profile variables d).section) (sym items)

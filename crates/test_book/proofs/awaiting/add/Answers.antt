@@ -1,11 +1,11 @@
 use Rattle.std.proofs.Common.{◌++◌, ◌∷◌, ℕ, List, [], length, refl, sym, subst}
 use Rattle.ot_model.specs.declared.stmt.Use.{Use}
-use Rattle.ot_depend.specs.Siblings.{Sibling, IsUnfinished, created}
+use Rattle.ot_depend.specs.Siblings.{Sibling, IsUnfinished, sibling_created}
 use Rattle.test_book.proofs.awaiting.add.Goals as goal
 
 -- a child that was just added has not finished
-added : (siblings : List Sibling) (uses : List Use) (groups : List ℕ) → IsUnfinished (siblings ++ created uses groups ∷ []) (length siblings)
-added [] uses groups = record { itself = created uses groups; known = refl; unfinished = refl }
+added : (siblings : List Sibling) (uses : List Use) (groups : List ℕ) → IsUnfinished (siblings ++ sibling_created uses groups ∷ []) (length siblings)
+added [] uses groups = record { itself = sibling_created uses groups; known = refl; unfinished = refl }
 added (s ∷ siblings) uses groups =
     let rest = added siblings uses groups in
     record { itself = rest.itself; known = rest.known; unfinished = rest.unfinished }

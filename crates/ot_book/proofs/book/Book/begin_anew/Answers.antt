@@ -1,7 +1,7 @@
 use Rattle.std.proofs.Common.{◌≡◌, ◌++◌, [], ◌∷◌, sym, ap, ◌∙◌, subst, arith, None, true, false}
 use Rattle.std.specs.Prelude.{option_map}
 use Rattle.ot_book.specs.Answers.{Accepted}
-use Rattle.ot_book.specs.Books.{next_number, appended, cleared, logged, IsFull}
+use Rattle.ot_book.specs.Books.{next_number, register_with_line, log_cleared, line_logged, IsFull}
 use Rattle.ot_book.specs.BookView.{register_of, entries_of}
 use Rattle.ot_book.specs.declared.told.Told.TheVariants as v
 use Rattle.ot_book.specs.declared.book.Book.TheInside.{Inside}
@@ -28,7 +28,7 @@ now_inside c = record {
 closed_at : (c : goal.After-drop-self-inside-5) → c.self.inside.pending ≡ None
 closed_at c = not_pending c.self.inside true (λ full. c.requires.free (subst (λ r. IsFull r true) c.self.view_is full))
 
-is_anew : (c : goal.After-drop-self-inside-5) → register_of (now_inside c) ≡ appended (cleared (register_of c.self.inside)) c.args.line.now false
+is_anew : (c : goal.After-drop-self-inside-5) → register_of (now_inside c) ≡ register_with_line (log_cleared (register_of c.self.inside)) c.args.line.now false
 is_anew c =
     let inside = c.self.inside in
     let items = c.push_reserved.ensures.items ∙ ap (λ es. es ++ record { line = c.in_ok-line.line; told = v.Accepted } ∷ []) c.in_ok-log.ensures.items in
@@ -47,4 +47,4 @@ invariant_of-self c =
 pub returns-clause-anew : goal.returns-clause-anew
 returns-clause-anew c =
     is_anew c ∙ sym (logged-checkpoint (register_of c.self.inside) c.args.line.now false c.requires.checkpoint)
-    ∙ ap (λ r. logged r c.args.line.now false) c.self.view_is
+    ∙ ap (λ r. line_logged r c.args.line.now false) c.self.view_is

@@ -5,9 +5,9 @@ use Rattle.ot_model.specs.Names.{FitsShape}
 use Rattle.ot_model.specs.Programs.{expanded_of}
 use Rattle.ot_model.specs.Serial.{State as RunState, serial_run}
 use Rattle.ot_model.proofs.SerialLemmas.{serial_run-≤}
-use Rattle.ot_store.specs.Arrays.{cells_in, recelled}
-use Rattle.ot_book.specs.Answers.{Done, Runs, shown}
-use Rattle.ot_book.specs.Books.{Register, next_step, open_step, appended, logged, closed}
+use Rattle.ot_store.specs.Arrays.{cells_in, with_cells}
+use Rattle.ot_book.specs.Answers.{Done, Runs, numbers_shown}
+use Rattle.ot_book.specs.Books.{Register, next_step, open_step, register_with_line, line_logged, request_closed}
 use Rattle.ot_book.specs.BookView.{register_of, entries_of}
 use Rattle.ot_book.specs.declared.book.Book.TheInside.{Inside}
 use Rattle.ot_book.proofs.CloseLemmas.{lengths-meaning, logged-done, register-from, numbers-from, entries_of-pushed, line-pending, register-is}
@@ -56,7 +56,7 @@ now_inside c = record {
   kept = c.self.inside.kept;
 }
 
-logged_is : (c : goal.After-drop-spec-inside-2) → register_of (now_inside c) ≡ appended (register_of c.self.inside) c.in-Some.pending.line.items false
+logged_is : (c : goal.After-drop-spec-inside-2) → register_of (now_inside c) ≡ register_with_line (register_of c.self.inside) c.in-Some.pending.line.items false
 logged_is c =
     let inside = c.self.inside in
     let b = register_of inside in
@@ -67,11 +67,11 @@ logged_is c =
     let line = line-pending inside.pending p kept in
     let cells = c.requires.open.cells ∙ ap (λ (r : Register). cells_in r.store) (sym c.self.view_is) in
     let shows : List (List ℕ) = map (λ l. l.items) c.show_all.new.lists.items in
-    let shown_is : shows ≡ shown (expanded_of spec.checked.program).shows outcome.cells =
-    c.show_all.ensures ∙ ap (λ q. shown q.program.shows.items outcome.cells) c.checked.ensures.checked in
+    let shown_is : shows ≡ numbers_shown (expanded_of spec.checked.program).shows outcome.cells =
+    c.show_all.ensures ∙ ap (λ q. numbers_shown q.program.shows.items outcome.cells) c.checked.ensures.checked in
     let log : entries_of c.push_reserved.new.self.items ≡ b.log ++ (p.line.items, Done outcome.counts.tasks outcome.counts.units shows) ∷ [] =
     entries_of-pushed inside.log.items c.push_reserved.new.self.items _ c.push_reserved.ensures.items in
-    let changed = register-is b _ (recelled b.store outcome.cells) _ _ _ None _ (b.used + outcome.counts.units)
+    let changed = register-is b _ (with_cells b.store outcome.cells) _ _ _ None _ (b.used + outcome.counts.units)
     c.set_cells.ensures log (ap (option_map (λ q. q.line.items)) c.take.ensures.after) (ap (λ n. inside.used + n) c.from.ensures) in
     register-from _ _ c.requires.open.asks (λ asks.
     let runs : next_step b p.line.items ≡ Runs (expanded_of spec.checked.program) =
@@ -97,8 +97,8 @@ returns c =
     let line = line-pending inside.pending c.in-Some.pending (sym c.take.ensures.value ∙ c.in-Some.is) in
     let b = register_of inside in
     let p = c.in-Some.pending in
-    let other : register_of (now_inside c) ≡ logged b p.line.items false = register-from _ _ c.requires.open.asks (λ asks.
+    let other : register_of (now_inside c) ≡ line_logged b p.line.items false = register-from _ _ c.requires.open.asks (λ asks.
     let runs : next_step b p.line.items ≡ Runs (expanded_of c.args.spec.checked.program) =
     ap (next_step b) (sym line) ∙ ap open_step c.self.view_is ∙ asks in
     logged_is c ∙ sym (logged-other b p.line.items false (runs-other b.limits b.store b.used p.line.items _ runs))) in
-    other ∙ ap (λ l. logged b l false) (sym line) ∙ ap closed c.self.view_is
+    other ∙ ap (λ l. line_logged b l false) (sym line) ∙ ap request_closed c.self.view_is

@@ -2,7 +2,7 @@ use Rattle.std.proofs.Common.{◌≡◌, sym, ap, ◌∙◌, refl, arith, Some, 
 use Rattle.std.specs.Prelude.{option_map}
 use Rattle.ot_model.specs.Programs.{expanded_of}
 use Rattle.ot_book.specs.Answers.{Runs}
-use Rattle.ot_book.specs.Books.{next_step, open_step, appended, logged, refused}
+use Rattle.ot_book.specs.Books.{next_step, open_step, register_with_line, line_logged, request_refused}
 use Rattle.ot_book.specs.BookView.{register_of}
 use Rattle.ot_book.specs.declared.book.Book.TheInside.{Inside}
 use Rattle.ot_book.proofs.BookLemmas.{logged-other, runs-other}
@@ -25,7 +25,7 @@ now_inside c = record {
   kept = c.self.inside.kept;
 }
 
-logged_is : (c : goal.After-drop-spec-inside-2) → register_of (now_inside c) ≡ appended (register_of c.self.inside) c.in-Some.pending.line.items true
+logged_is : (c : goal.After-drop-spec-inside-2) → register_of (now_inside c) ≡ register_with_line (register_of c.self.inside) c.in-Some.pending.line.items true
 logged_is c =
     let log = entries_of-pushed c.self.inside.log.items c.push_reserved.new.self.items _ c.push_reserved.ensures.items in
     register-is (register_of c.self.inside) _ _ _ _ _ None _ _ refl log (ap (option_map (λ q. q.line.items)) c.take.ensures.after) refl
@@ -45,8 +45,8 @@ returns c =
     let b = register_of inside in
     let p = c.in-Some.pending in
     let line = line-pending inside.pending p (sym c.take.ensures.value ∙ c.in-Some.is) in
-    let other : register_of (now_inside c) ≡ logged b p.line.items true = register-from _ _ c.requires.asks (λ asks.
+    let other : register_of (now_inside c) ≡ line_logged b p.line.items true = register-from _ _ c.requires.asks (λ asks.
     let runs : next_step b p.line.items ≡ Runs (expanded_of c.args.spec.checked.program) =
     ap (next_step b) (sym line) ∙ ap open_step c.self.view_is ∙ asks in
     logged_is c ∙ sym (logged-other b p.line.items true (runs-other b.limits b.store b.used p.line.items _ runs))) in
-    other ∙ ap (λ l. logged b l true) (sym line) ∙ ap refused c.self.view_is
+    other ∙ ap (λ l. line_logged b l true) (sym line) ∙ ap request_refused c.self.view_is

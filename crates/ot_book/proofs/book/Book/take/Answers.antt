@@ -1,6 +1,6 @@
 use Rattle.std.proofs.Common.{◌≡◌, ◌+◌, ◌++◌, [], ◌∷◌, sym, ap, ◌∙◌, subst, refl, arith, ◌⊎◌, vec_len, None, false}
 use Rattle.std.specs.Prelude.{option_map, option_and_then}
-use Rattle.ot_book.specs.Answers.{Lost, Now, parsed, is_checkpoint}
+use Rattle.ot_book.specs.Answers.{Lost, Now, parse_step, is_checkpoint}
 use Rattle.ot_book.specs.Requests.{request_of, asks_checkpoint}
 use Rattle.ot_book.specs.Books.{next_step, IsFull, IsFullFor, AnswersNow}
 use Rattle.ot_book.specs.declared.book.Book.TheInside.{Inside}
@@ -44,7 +44,7 @@ answers_now c =
     let log : entries_of c.push_reserved.new.self.items ≡ b.log ++ (line, told) ∷ [] =
     entries_of-pushed inside.log.items c.push_reserved.new.self.items _ items ∙ ap (λ l. b.log ++ (l, told) ∷ []) c.in_ok-kept.ensures.items in
     let came : ((told ≡ Lost) × (store ≡ b.store)) ⊎ (next_step b line ≡ Now told store) =
-    subst (λ v. ((told ≡ Lost) × (store ≡ b.store)) ⊎ (parsed b.limits b.store b.used v ≡ Now told store)) c.requires c.in-Now.ensures in
+    subst (λ v. ((told ≡ Lost) × (store ≡ b.store)) ⊎ (parse_step b.limits b.store b.used v ≡ Now told store)) c.requires c.in-Now.ensures in
     let other : is_checkpoint line ≡ false = test_is c ∙ c.if-checkpoint.false in
     let now = answered-now b line told store (ap (option_map (λ q. q.line.items)) closed) other came in
     subst (AnswersNow b line) (sym (register-is b store store _ _ b.pending b.pending b.used b.used refl log refl refl)) now

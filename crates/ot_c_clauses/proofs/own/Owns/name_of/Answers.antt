@@ -1,7 +1,7 @@
 use Rattle.std.proofs.Common.{◌≡◌, ◌∙◌, map, sym, ap}
 use Rattle.std.specs.Prelude.{◌==◌}
 use Rattle.std.specs.List.{count_by, list_any}
-use Rattle.ot_c_clauses.specs.Cells.{is_at, marked}
+use Rattle.ot_c_clauses.specs.Cells.{is_at, under_in}
 use Rattle.ot_c_clauses.specs.Owns.{name_if}
 use Rattle.ot_c_clauses.proofs.OwnLemmas.{all_named, arrays_named, at_named, marks_behind}
 use Rattle.ot_c_clauses.proofs.own.Owns.name_of.Goals as goal
@@ -11,7 +11,7 @@ returns-in_ok-with_run-in-Some c =
     let s = c.self.inside in
     let x = c.args.array in
     all_named x c.in-Some.first c.in-Some.end s.named c.in_ok-with_run-in-Some.field-0 c.in-Some.ensures.1 c.in_ok-with_run-in-Some.ensures s.cells.items
-    ∙ ap (λ run. map (name_if x run) (map (marked s.named) s.cells.items)) (sym c.in-Some.ensures.0)
+    ∙ ap (λ run. map (name_if x run) (map (under_in s.named) s.cells.items)) (sym c.in-Some.ensures.0)
     ∙ ap (map (name_if x c.args.cells)) c.self.view_is
 
 pub invariant_of-result-in-None : goal.invariant_of-result-in-None
@@ -30,6 +30,6 @@ returns-in_ok-all_named_by-in-None c =
     let s = c.self.inside in
     let x = c.args.array in
     let run = c.args.cells in
-    ap (map (marked s.named)) (c.in_ok-all_named_by-in-None.ensures ∙ ap (map (name_if x run)) c.deref.ensures.value)
+    ap (map (under_in s.named)) (c.in_ok-all_named_by-in-None.ensures ∙ ap (map (name_if x run)) c.deref.ensures.value)
     ∙ marks_behind x run s.named s.cells.items
     ∙ ap (map (name_if x run)) c.self.view_is

@@ -1,6 +1,6 @@
 use Rattle.std.proofs.Common.{◌≡◌, ◌∙◌, ◌+◌, cond, ap, arith}
 use Rattle.std.specs.Prelude.{Some}
-use Rattle.ot_c_overlap.specs.Claims.{claimed}
+use Rattle.ot_c_overlap.specs.Claims.{claimed_section}
 use Rattle.ot_c_overlap.proofs.ClaimLemmas.{is_upto, entered_none, entered_next}
 use Rattle.ot_c_overlap.proofs.claims.Claims.enter.Goals as goal
 
@@ -19,4 +19,4 @@ pub returns : goal.returns
 returns c = λ parent array index.
     let end : c.loop-index.index ≡ c.args.item.now.section.start + c.args.item.now.section.len = omega (arith, c.loop-index.invariant.0, c.loop-index-test.false) in
     c.loop-index.invariant.2 parent array index
-    ∙ ap (λ n. cond (is_upto c.args.item.now n parent array index) (Some c.args.item.now.section) (claimed c.args.self.now parent array index)) end
+    ∙ ap (λ n. cond (is_upto c.args.item.now n parent array index) (Some c.args.item.now.section) (claimed_section c.args.self.now parent array index)) end

@@ -2,9 +2,9 @@ use Rattle.std.proofs.Common.{◌≡◌, ℕ, ◌+◌, ◌-◌, ◌*◌, ◌∷�
 use Rattle.serde_json.specs.Data.{depth, items_depth}
 use Rattle.serde_json.specs.View.{view, items_view}
 use Rattle.ot_program.specs.Copies.{copies, copies_of, turns}
-use Rattle.ot_why_place.specs.Texts.{depth_of}
-use Rattle.ot_why_place.specs.Spots.{bindings_of}
-use Rattle.ot_c_overlap.specs.Items.{met_in}
+use Rattle.ot_why_place.specs.Texts.{body_depth}
+use Rattle.ot_why_place.specs.Spots.{trail_bindings}
+use Rattle.ot_c_overlap.specs.Items.{items_met_in}
 use Rattle.ot_c_overlap.specs.View.{met_by, ground_by}
 use Rattle.ot_c_overlap.proofs.walk.Walk.+walk.Given as goal
 
@@ -12,17 +12,17 @@ use Rattle.ot_c_overlap.proofs.walk.Walk.+walk.Given as goal
 abbrev pub invariant-items-loop-item : goal.invariant-items-loop-item
 invariant-items-loop-item l =
     (level : ℕ)
-    → met_in (ground_by l.self) l.parent (copies_of l.self.profile level (items_view l.items) (bindings_of l.trail)) (met_by l.initial.met)
-    ≡ met_in (ground_by l.self) l.parent (copies_of l.self.profile level (items_view (drop l.item-index l.items)) (bindings_of l.trail)) (met_by l.met)
+    → items_met_in (ground_by l.self) l.parent (copies_of l.self.profile level (items_view l.items) (trail_bindings l.trail)) (met_by l.initial.met)
+    ≡ items_met_in (ground_by l.self) l.parent (copies_of l.self.profile level (items_view (drop l.item-index l.items)) (trail_bindings l.trail)) (met_by l.met)
 
 -- what is met in all turns is met in the rest
 abbrev pub invariant-turns-loop-number : goal.invariant-turns-loop-number
 invariant-turns-loop-number l =
     (level : ℕ)
-    → met_in (ground_by l.self) l.parent (turns level (bindings_of l.trail)
-    (λ n. copies l.self.profile (level + 1) (view l.body) ((l.turns.variable.now, n) ∷ bindings_of l.trail)) l.turns.first (l.turns.behind - l.turns.first)) (met_by l.initial.met)
-    ≡ met_in (ground_by l.self) l.parent (turns level (bindings_of l.trail)
-    (λ n. copies l.self.profile (level + 1) (view l.body) ((l.turns.variable.now, n) ∷ bindings_of l.trail)) l.number (l.turns.behind - l.number)) (met_by l.met)
+    → items_met_in (ground_by l.self) l.parent (turns level (trail_bindings l.trail)
+    (λ n. copies l.self.profile (level + 1) (view l.body) ((l.turns.variable.now, n) ∷ trail_bindings l.trail)) l.turns.first (l.turns.behind - l.turns.first)) (met_by l.initial.met)
+    ≡ items_met_in (ground_by l.self) l.parent (turns level (trail_bindings l.trail)
+    (λ n. copies l.self.profile (level + 1) (view l.body) ((l.turns.variable.now, n) ∷ trail_bindings l.trail)) l.number (l.turns.behind - l.number)) (met_by l.met)
 
 -- each call goes to what nests less deep, or further on in the walk
 abbrev pub decreases-body : goal.decreases-body
@@ -35,7 +35,7 @@ abbrev pub decreases-statement : goal.decreases-statement
 decreases-statement l = 6 * depth (view l.statement.now) + 4
 
 abbrev pub decreases-bodies : goal.decreases-bodies
-decreases-bodies l = 6 * depth_of l.text + 3
+decreases-bodies l = 6 * body_depth l.text + 3
 
 abbrev pub decreases-turns : goal.decreases-turns
 decreases-turns l = 6 * depth (view l.body.now) + 2

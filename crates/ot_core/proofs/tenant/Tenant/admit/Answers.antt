@@ -4,7 +4,7 @@ use Rattle.std.proofs.lemmas.List.{length-map, map-append}
 use Rattle.ot_store.specs.declared.limits.Limits.{Limits}
 use Rattle.ot_book.specs.Books.{max_number}
 use Rattle.ot_book.specs.Room.{takes}
-use Rattle.ot_core.specs.Accounts.{Account, IsSound, room_asked, IsFull, HasRoomFor}
+use Rattle.ot_core.specs.Accounts.{Account, IsSoundAccount, room_asked, LacksRoom, HasRoomFor}
 use Rattle.ot_core.specs.AccountView.{account_of}
 use Rattle.ot_core.proofs.AccountLemmas.{sound-admitted, full-past, test-takes, entries-asked, entries-admitted}
 use Rattle.ot_core.proofs.tenant.Tenant.admit.Goals as goal
@@ -13,14 +13,14 @@ pub returns-then-len-ge-MAX_LINES-clause-admitted : goal.returns-then-len-ge-MAX
 returns-then-len-ge-MAX_LINES-clause-admitted c =
     let a = account_of c.self.inside in
     let past : max_number ≤ length a.asked = omega (arith, c.if-len-ge-MAX_LINES.true, c.len.ensures, c.self.inside.asked.ok.0, length-map c.self.inside.asked.items (λ l. l.items)) in
-    (subst (λ b. IsFull b c.args.line.now) c.self.view_is (full-past a c.args.line.now past), refl)
+    (subst (λ b. LacksRoom b c.args.line.now) c.self.view_is (full-past a c.args.line.now past), refl)
 
 pub returns-then-not-has_room-clause-admitted : goal.returns-then-not-has_room-clause-admitted
 returns-then-not-has_room-clause-admitted c =
     let a = account_of c.self.inside in
     let left : length a.asked < max_number = omega (arith, c.if-len-ge-MAX_LINES.false, c.len.ensures, c.self.inside.asked.ok.0, length-map c.self.inside.asked.items (λ l. l.items)) in
     let test = test-takes a c.args.line.now _ _ _ c.has_room.result left c.has_room.ensures (ap (λ (l : Limits). l.log) c.limits.ensures) c.self.invariant.since c.in_ok-checkpoint.ensures in
-    (subst (λ b. IsFull b c.args.line.now) c.self.view_is (sym test ∙ c.if-not-has_room.true), refl)
+    (subst (λ b. LacksRoom b c.args.line.now) c.self.view_is (sym test ∙ c.if-not-has_room.true), refl)
 
 left_at : (c : goal.After-self-1) → length (account_of c.self.inside).asked < max_number
 left_at c = omega (arith, c.if-len-ge-MAX_LINES.false, c.len.ensures, c.self.inside.asked.ok.0, length-map c.self.inside.asked.items (λ l. l.items))
@@ -39,7 +39,7 @@ asked_at c =
 pub invariant_of-self-2 : goal.invariant_of-self-2
 invariant_of-self-2 c =
     let a = account_of c.self.inside in record {
-      sound = subst (λ ls. let b : Account = record a { asked = ls } in IsSound b) (sym (asked_at c)) (sound-admitted a c.args.line.now c.self.invariant.sound (room_at c));
+      sound = subst (λ ls. let b : Account = record a { asked = ls } in IsSoundAccount b) (sym (asked_at c)) (sound-admitted a c.args.line.now c.self.invariant.sound (room_at c));
       since =
           c.next_since-self-inside.ensures
           ∙ ap (λ n. if c.in_ok-checkpoint.checkpoint then 1 else n + 1) c.self.invariant.since

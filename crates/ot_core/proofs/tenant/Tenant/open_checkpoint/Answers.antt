@@ -3,7 +3,7 @@ use Rattle.std.proofs.lemmas.List.{map-append}
 use Rattle.ot_book.specs.Answers.{is_checkpoint}
 use Rattle.ot_book.specs.Books.{IsFullFor, OpensLine, AnswersNow}
 use Rattle.ot_book.specs.ReplyView.{told_of}
-use Rattle.ot_core.specs.Accounts.{told, next_line, IsUnopened, with_reply}
+use Rattle.ot_core.specs.Accounts.{told_so_far, next_line, IsUnopened, with_reply}
 use Rattle.ot_core.specs.AccountView.{account_of}
 use Rattle.ot_core.proofs.AccountLemmas.{checkpoint-answered, checkpoint-logged, checkpoint-is, free-next, tenant-replied, read-next}
 use Rattle.ot_core.proofs.tenant.Tenant.open_checkpoint.Goals as goal
@@ -24,7 +24,7 @@ is_replied c =
     let line = read-next a _ _ _ c.self.view_is c.line_at.ensures c.answered-next.ensures in
     let asks : is_checkpoint c.line_at.result.now ≡ true = ap is_checkpoint line ∙ ap (λ b. is_checkpoint (next_line b)) c.self.view_is ∙ c.requires.checkpoint in
     let now : AnswersNow a.book c.line_at.result.now c.open.new.self = (subst (OpensLine a.book c.line_at.result.now c.open.new.self) c.in-Answered.is c.in_ok-open.ensures.opened).1 in
-    let kept : map told_of c.put_behind.new.kept.items ≡ told a =
+    let kept : map told_of c.put_behind.new.kept.items ≡ told_so_far a =
     ap (map told_of) c.put_behind.ensures ∙ map-append told_of c.reserve.new.self.items c.in_ok-copies.copies.items
     ∙ ap (λ ts. map told_of ts ++ map told_of c.in_ok-copies.copies.items) c.in_ok-reserve.ensures.items
     ∙ ap (λ ts. a.kept ++ ts) (c.in_ok-copies.ensures ∙ ap (map (λ e. e.1)) c.log.ensures.entries) in

@@ -1,7 +1,7 @@
 use Rattle.std.proofs.Common.{◌≡◌, sym, ◌∙◌, subst, refl, Some, true≢false, slice_get}
 use Rattle.ot_core.specs.Accounts as asking
 use Rattle.ot_core.specs.Accounts.{IsUnopened, IsAnswered, Waits}
-use Rattle.ot_core.specs.Scenes.{IsScene, Moves, moved}
+use Rattle.ot_core.specs.Scenes.{IsScene, Moves, with_account}
 use Rattle.ot_core.specs.SceneView.{scene_of}
 use Rattle.ot_hall.proofs.FloorLemmas.{seen}
 use Rattle.ot_core.proofs.SceneLemmas.{scene-answered, scene-opened, answered-lost, moves-at, can-open, cannot-open, starts-job}
@@ -32,7 +32,7 @@ invariant_of-self-in_default-submit c =
     let waits : Waits c.in-Some.account.now c.in-Some-2.spec c.open.new.self = subst (λ o. asking.OpensNext c.in-Some.account.now o c.open.new.self) c.in-Some-2.is c.in_ok-spec.ensures.opened in
     let b = c.close_refused.new.self in
     let answered = answered-lost _ _ b _ waits c.close_refused.ensures.is in
-    subst (λ f. IsScene (moved (scene_of c.self.inside) c.args.tenant b f)) (sym c.in_default-submit.ensures.back.1) (scene-answered _ c.args.tenant _ b c.self.invariant (seen _ _ _ c.in-Some.ensures.item.3.0 c.in-Some.ensures.item.1) free.1 c.close_refused.ensures.sound answered)
+    subst (λ f. IsScene (with_account (scene_of c.self.inside) c.args.tenant b f)) (sym c.in_default-submit.ensures.back.1) (scene-answered _ c.args.tenant _ b c.self.invariant (seen _ _ _ c.in-Some.ensures.item.3.0 c.in-Some.ensures.item.1) free.1 c.close_refused.ensures.sound answered)
 
 pub returns-in_default-submit-clause-stepped : goal.returns-in_default-submit-clause-stepped
 returns-in_default-submit-clause-stepped c =
@@ -42,7 +42,7 @@ returns-in_default-submit-clause-stepped c =
     let b = c.close_refused.new.self in
     let answered = answered-lost _ _ b _ waits c.close_refused.ensures.is in (
       can-open _ _ c.args.tenant _ c.self.view_is here free,
-      subst (λ f. Moves IsAnswered c.args.self.now c.args.tenant (moved (scene_of c.self.inside) c.args.tenant b f)) (sym c.in_default-submit.ensures.back.1) (moves-at IsAnswered _ _ c.args.tenant _ b c.self.view_is here answered),
+      subst (λ f. Moves IsAnswered c.args.self.now c.args.tenant (with_account (scene_of c.self.inside) c.args.tenant b f)) (sym c.in_default-submit.ensures.back.1) (moves-at IsAnswered _ _ c.args.tenant _ b c.self.view_is here answered),
     )
 
 pub invariant_of-self-2 : goal.invariant_of-self-2

@@ -3,8 +3,8 @@ use Rattle.std.specs.List.{list_any}
 use Rattle.std.proofs.lemmas.List.{length-map, map-append}
 use Rattle.std.specs.Arc.{arc_value}
 use Rattle.ot_model.specs.declared.stmt.Use.{Use}
-use Rattle.ot_depend.specs.Siblings.{created}
-use Rattle.ot_depend.specs.Kept.{Kid, siblings, enlisted}
+use Rattle.ot_depend.specs.Siblings.{sibling_created}
+use Rattle.ot_depend.specs.Kept.{Kid, siblings, kids_enlisted}
 use Rattle.ot_depend.specs.Cells.{lines_of, enter_all}
 use Rattle.ot_depend.specs.Groups.{count_of}
 use Rattle.ot_depend.specs.Children.{kid_of, kids_of}
@@ -15,7 +15,7 @@ use Rattle.ot_depend.proofs.kept.Kept.add.Goals as goal
 
 -- a child with these waiters
 abbrev fresh : List Use → List ℕ → ℕ → List ℕ → Kid
-fresh us gs waiting waiters = record { it = created us gs; waiting = waiting; waiters = waiters }
+fresh us gs waiting waiters = record { it = sibling_created us gs; waiting = waiting; waiters = waiters }
 
 pub enlist-waiting-requires-clause-known : goal.enlist-waiting-requires-clause-known
 enlist-waiting-requires-clause-known c =
@@ -47,7 +47,7 @@ returns c =
     let n_is : c.len-child.result ≡ length kids = omega (arith, c.len-child.ensures, c.args.self.now.children.ok.0, length-map c.args.self.now.children.items kid_of) in
     let after = after_add kids c.args.self.now.cells c.args.self.now.groups c.args.self.now.unfinished c.requires.kept c.enter.new.self c.raise.new.self (arc_value c.args.decl) c.args.groups.items
     c.len-child.result c.enlist-waiting.result c.args.self.now.spots.items c.args.self.now.earlier.items kids2 n_is c.requires.planned.uses_are c.requires.planned.placed c.requires.planned.found
-    (c.enlist-waiting.ensures.exact ∙ ap (enlisted c.len-child.result kids) c.deref.ensures.value) c.enlist-waiting.ensures.waiting
+    (c.enlist-waiting.ensures.exact ∙ ap (kids_enlisted c.len-child.result kids) c.deref.ensures.value) c.enlist-waiting.ensures.waiting
     (c.enter.ensures.lines ∙ ap (enter_all c.len-child.result (lines_of c.args.self.now.cells.rows.items)) c.deref-2.ensures.value) c.enter.ensures.places
     (λ g. c.raise.ensures g ∙ ap (λ xs. count_of c.args.self.now.groups g + cond {A = ℕ} (list_any (λ x. x == g) xs) 1 0) c.deref-3.ensures.value) in
     let put : kids_of c.push_reserved.new.self.items ≡ kids2 ++ fresh (arc_value c.args.decl) c.args.groups.items c.enlist-waiting.result [] ∷ [] =

@@ -4,7 +4,7 @@ use Rattle.std.proofs.lemmas.Option.{slice_get_within}
 use Rattle.std.proofs.lemmas.List.{length-map}
 use Rattle.ot_model.specs.Cells.{updated}
 use Rattle.ot_depend.specs.Siblings.{Sibling}
-use Rattle.ot_depend.specs.Kept.{Kid, siblings, woken, ended, waiters_of}
+use Rattle.ot_depend.specs.Kept.{Kid, siblings, woken, kid_ended, waiters_of}
 use Rattle.ot_depend.specs.Groups.{count_of}
 use Rattle.ot_depend.specs.Children.{kid_of, kids_of}
 use Rattle.ot_depend.specs.View.{IsTrueOf}
@@ -69,8 +69,8 @@ returns c =
     let within = within_woken k.children.items c.wake.new.children.items told c.args.child c.requires.unfinished.itself c.wake.ensures c.requires.unfinished.known in
     let same = groups_woken k.children.items c.wake.new.children.items told c.args.child me.0 c.index.result.now c.wake.ensures me.1 within c.index.ensures in
     let now : Child = record c.index_mut.result.now { finished = true } in
-    let put : kids_of (set c.wake.new.children.items c.args.child now) ≡ updated (woken (kids_of k.children.items) told) c.args.child ended =
-    kids_of-set ended c.wake.new.children.items c.args.child c.index_mut.result.now now within c.index_mut.ensures.value refl ∙ ap (λ ks. updated ks c.args.child ended) c.wake.ensures in
+    let put : kids_of (set c.wake.new.children.items c.args.child now) ≡ updated (woken (kids_of k.children.items) told) c.args.child kid_ended =
+    kids_of-set kid_ended c.wake.new.children.items c.args.child c.index_mut.result.now now within c.index_mut.ensures.value refl ∙ ap (λ ks. updated ks c.args.child kid_ended) c.wake.ensures in
     record {
       marked = ap siblings put ∙ siblings_finished (kids_of k.children.items) k.cells k.groups k.unfinished c.requires.kept c.args.child me.0 me.1 not_yet;
       kids = put;

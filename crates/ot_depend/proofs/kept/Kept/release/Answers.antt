@@ -5,7 +5,7 @@ use Rattle.std.proofs.lemmas.List.{length-map}
 use Rattle.ot_model.specs.Cells.{updated}
 use Rattle.ot_model.proofs.CellsLemmas.{length-updated}
 use Rattle.ot_depend.specs.Siblings.{Sibling, FinishedAreReady, is_ready, waiting_for, has, times}
-use Rattle.ot_depend.specs.Kept.{Kid, siblings, woken, ended, waiters_of, WaitForAll}
+use Rattle.ot_depend.specs.Kept.{Kid, siblings, woken, kid_ended, waiters_of, WaitForAll}
 use Rattle.ot_depend.specs.Children.{kid_of, kids_of}
 use Rattle.ot_depend.specs.View.{IsTrueOf}
 use Rattle.ot_depend.specs.declared.child.Child.{Child}
@@ -16,10 +16,10 @@ use Rattle.ot_depend.proofs.ReleaseLemmas.{quiet, siblings-quiet, kept-quiet, re
 use Rattle.ot_depend.proofs.kept.Kept.release.Goals as goal
 
 -- a child that is known is known once it has finished
-within_finished : (kids : List Kid) (now : List Child) (i : ℕ) (s : Sibling) → kids_of now ≡ updated (woken kids (waiters_of kids i)) i ended → slice_get (siblings kids) i ≡ Some s → i < length now
+within_finished : (kids : List Kid) (now : List Child) (i : ℕ) (s : Sibling) → kids_of now ≡ updated (woken kids (waiters_of kids i)) i kid_ended → slice_get (siblings kids) i ≡ Some s → i < length now
 within_finished kids now i s is known =
     let inside = slice_get_within (siblings kids) i s known in
-    omega (arith, ap length is, length-updated (woken kids (waiters_of kids i)) i ended, length-woken (waiters_of kids i) kids, length-map now kid_of, length-map kids (λ (k : Kid). k.it))
+    omega (arith, ap length is, length-updated (woken kids (waiters_of kids i)) i kid_ended, length-woken (waiters_of kids i) kids, length-map now kid_of, length-map kids (λ (k : Kid). k.it))
 
 pub index_mut-requires : goal.index_mut-requires
 index_mut-requires c =
@@ -37,7 +37,7 @@ returns c =
     let within = within_finished kids c.finish.new.self.children.items i c.requires.unfinished.itself c.finish.ensures.kids c.requires.unfinished.known in
     let r : Child = c.index_mut.result.now in
     let there = kid_at c.finish.new.self.children.items i r within c.index_mut.ensures.value in
-    let is = c.finish.ensures.kids ∙ ap (λ ws. updated (woken kids ws) i ended) (waiters-are kids i me.0 me.1) in
+    let is = c.finish.ensures.kids ∙ ap (λ ws. updated (woken kids ws) i kid_ended) (waiters-are kids i me.0 me.1) in
     let over = released kids i me.0 kids1 (kid_of r) me.1 is there in
     let none = ap (λ v. v.items) c.replace.ensures.after ∙ c.new.ensures.items in
     let now : Child = record r { waiters = c.replace.new.dest } in

@@ -1,7 +1,7 @@
 use Rattle.std.proofs.Common.{◌<◌, length, ◌+◌, ◌*◌, ◌%◌, ◌∙◌, subst, arith, None, Some}
 use Rattle.std.proofs.lemmas.List.{get_or_default}
 use Rattle.std.specs.Slice.Scan.{HoldsNowhere}
-use Rattle.ot_hall.specs.Marking.{IsFirst, IsLowest, has_bit}
+use Rattle.ot_hall.specs.Marking.{IsFirst, IsLowest, has_bit_at}
 use Rattle.ot_hall.proofs.MarkLemmas.{found, not-found, looked-on, place-fits}
 use Rattle.ot_hall.proofs.marks.Marks.first_from.Goals as goal
 
@@ -30,7 +30,7 @@ loop-place-preserved c =
     let inside = c.self.inside in
     let within : c.loop-place.place < length inside.words.items = omega (arith, c.loop-place-test.true, c.len-place-end.ensures, c.loop-place.auto.place-end, inside.words.ok.0) in
     looked-on inside.words.items c.args.from c.loop-place.next c.loop-place.place c.loop-place.invariant
-    (subst (λ w. HoldsNowhere (has_bit w) (c.loop-place.next % 64) 64) (c.index.ensures ∙ get_or_default inside.words.items c.loop-place.place _ 0 within) c.in_default.ensures)
+    (subst (λ w. HoldsNowhere (has_bit_at w) (c.loop-place.next % 64) 64) (c.index.ensures ∙ get_or_default inside.words.items c.loop-place.place _ 0 within) c.in_default.ensures)
 
 pub returns : goal.returns
 returns c =

@@ -1,6 +1,6 @@
 use Rattle.std.proofs.Common.{◌<◌, ap, ◌∙◌, set, ◌/◌, arith}
 use Rattle.std.proofs.lemmas.List.{get_or_default, length-set}
-use Rattle.ot_hall.specs.Marking.{has_bit}
+use Rattle.ot_hall.specs.Marking.{has_bit_at}
 use Rattle.ot_hall.proofs.MarkLemmas.{Puts, put-marks, put-other, below-count, within-words}
 use Rattle.ot_hall.proofs.marks.Marks.put.Goals as goal
 use Rattle.ot_hall.proofs.marks.Marks.put.Goals.{After-with_bit}
@@ -22,7 +22,7 @@ puts c =
       record {
         within = within;
         here = c.with_bit.ensures.here;
-        others = λ i low apart. c.with_bit.ensures.others i low apart ∙ ap (λ w. has_bit w i) (c.index.ensures ∙ get_or_default words (c.args.number / 64) _ 0 within);
+        others = λ i low apart. c.with_bit.ensures.others i low apart ∙ ap (λ w. has_bit_at w i) (c.index.ensures ∙ get_or_default words (c.args.number / 64) _ 0 within);
       },
     )
 

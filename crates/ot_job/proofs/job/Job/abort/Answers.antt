@@ -1,5 +1,5 @@
 use Rattle.std.proofs.Common.{ap, true≢false}
-use Rattle.ot_job.proofs.Common.{aborted}
+use Rattle.ot_job.proofs.Common.{job_aborted}
 use Rattle.ot_job.proofs.job.Job.abort.Goals as goal
 
 pub invariant_of-self : goal.invariant_of-self
@@ -16,4 +16,4 @@ invariant_of-self c = record {
 }
 
 pub returns : goal.returns
-returns c = ap aborted c.self.view_is
+returns c = ap job_aborted c.self.view_is

@@ -1,7 +1,7 @@
 use Rattle.std.proofs.Common.{rules, ◌≡◌, ◌<◌, ◌∙◌, refl, ap, sym, subst, arith, length, List, option_map}
 use Rattle.std.specs.Arc.{arc_value}
-use Rattle.ot_job.proofs.Common.{IfOk-from_err, lengths, updated, expr_of, tasks_in-≤-size, lease_of, Owned, leading, awake, begun, Region, Run, Claims, live_of, Live, claimable_in, Taken, IsWell, Working}
-use Rattle.ot_job.specs.Dealings.{state_of}
+use Rattle.ot_job.proofs.Common.{IfOk-from_err, lengths, updated, expr_of, tasks_in-≤-size, lease_of, Owned, leading, awake, piece_begun, Region, Run, Claims, live_of, Live, claimable_in, Taken, IsWell, Working}
+use Rattle.ot_job.specs.Dealings.{live_state}
 use Rattle.ot_job.proofs.ClaimedLemmas.{AreLent, picked-is, picked-named, may-lend, lends}
 use Rattle.ot_job.proofs.CourseLemmas.{counts-few}
 use Rattle.ot_job.proofs.DealingsLemmas.{picked-some, picked-working}
@@ -14,8 +14,8 @@ use Rattle.ot_job.proofs.job.Job.claim.Goals as goal
 found : (c : In-Some) → IsPicked c.self.inside c.args.pick c.in-Some.task
 found c = picked-here c.self.inside _ c.args.pick c.in-Some.task _ c.self.view_is c.pick.ensures c.in-Some.is
 
-working : (c : In-Some) → state_of c.args.self.now ≡ Working
-working c = subst (λ (l : Live). state_of l ≡ Working) c.self.view_is (picked-working (live_of c.self.inside) c.args.pick c.in-Some.task (found c).working (found c).is)
+working : (c : In-Some) → live_state c.args.self.now ≡ Working
+working c = subst (λ (l : Live). live_state l ≡ Working) c.self.view_is (picked-working (live_of c.self.inside) c.args.pick c.in-Some.task (found c).working (found c).is)
 
 some : (c : In-Some) → 0 < length (claimable_in c.args.self.now)
 some c = subst (λ (l : Live). 0 < length (claimable_in l)) c.self.view_is (picked-some (live_of c.self.inside) c.args.pick c.in-Some.task (found c).working (found c).is)
@@ -23,7 +23,7 @@ some c = subst (λ (l : Live). 0 < length (claimable_in l)) c.self.view_is (pick
 -- the job with what the owners have lent
 abbrev lent_to : After-lend-lent → Live
 lent_to c = record (live_of c.self.inside) {
-  regions = updated c.self.inside.tasks c.in-Some.task (begun c.args.worker (lease_of c.lend-lent.result));
+  regions = updated c.self.inside.tasks c.in-Some.task (piece_begun c.args.worker (lease_of c.lend-lent.result));
   cells = c.lend-lent.new.cells;
   owned = c.lend-lent.new.owners.owned;
 }
@@ -35,8 +35,8 @@ lent c =
     c.args.worker (arc_value c.in_ok-assigns.field-0.decl) c.in_ok-assigns.ensures.held c.in_ok-assigns.ensures.ordered c.in_ok-slip.slip c.in_ok-slip.ensures.slip c.prepare-2.new.self c.prepare-2.ensures.owned
     c.group_passed-passed.result c.group_passed-passed.ensures c.lend-lent.new.cells c.lend-lent.new.owners.owned c.lend-lent.result c.lend-lent.ensures
 
-begun-now : (c : After-begin) → c.begin.new.self ≡ updated c.self.inside.tasks c.in-Some.task (begun c.args.worker (lease_of c.lend-lent.result))
-begun-now c = c.begin.ensures ∙ ap (λ (r : Run). updated c.self.inside.tasks c.in-Some.task (begun r.worker r.lease)) c.new.ensures
+begun-now : (c : After-begin) → c.begin.new.self ≡ updated c.self.inside.tasks c.in-Some.task (piece_begun c.args.worker (lease_of c.lend-lent.result))
+begun-now c = c.begin.ensures ∙ ap (λ (r : Run). updated c.self.inside.tasks c.in-Some.task (piece_begun r.worker r.lease)) c.new.ensures
 
 pub get-picked-requires : goal.get-picked-requires
 get-picked-requires c = (found (goal.at.get-picked-requires c).In-Some).known

@@ -1,5 +1,5 @@
 use Rattle.std.proofs.Common.{◌≡◌, ℕ, ◌+◌, ◌∙◌, ap, ap₂, sym, subst, arith, List, Bool, true}
-use Rattle.ot_job.proofs.Common.{Owned, Region, IsBack, live_of, Live, Settles, settled, state_in, Came, IsOut, IsWell, Inside, Working}
+use Rattle.ot_job.proofs.Common.{Owned, Region, IsBack, live_of, Live, Settles, regions_settled, state_in, Came, IsOut, IsWell, Inside, Working}
 use Rattle.ot_job.proofs.DealingsLemmas.{works}
 use Rattle.ot_job.proofs.InsideLemmas.{IsSettled, after, found-out, found-as, not-found-out, may-end, may-take-back, fits, units-more, tasks-more, is-settled}
 use Rattle.ot_job.proofs.SettleLemmas.{has-piece, has-run, out-here, ok-holds, err-holds}
@@ -35,7 +35,7 @@ settles c =
     is-settled s c.self.invariant c.if-self.false d out c.take_back.new.cells c.take_back.new.owners.owned c.in-Ok.room names
     (subst (λ (n : ℕ). IsBack s.owners.owned s.cells (record c.args.done { task = n }) c.worker-worker.result c.in-Ok.room s.counts.units c.take_back.new.owners.owned c.take_back.new.cells) (sym c.task-task.ensures) back)
     (ok-holds c.settle.result (sym c.is_err.ensures.value ∙ c.if-is_err.false) c.settle.ensures.ordered) c.settle.new.self c.tasks_next-created.result (c.assigns-assigns.result + c.units_next-control.result)
-    (ok-holds c.settle.result (sym c.is_err.ensures.value ∙ c.if-is_err.false) c.settle.ensures.settled ∙ ap (λ (b : Bool). settled b s.counts.units d.task s.tasks) c.is_taken.ensures)
+    (ok-holds c.settle.result (sym c.is_err.ensures.value ∙ c.if-is_err.false) c.settle.ensures.settled ∙ ap (λ (b : Bool). regions_settled b s.counts.units d.task s.tasks) c.is_taken.ensures)
     (tasks-more s.tasks d found t c.get-running.ensures c.tasks_next-created.result c.tasks_next-created.ensures.exact)
     (units-more s.tasks d found t c.get-running.ensures c.assigns-assigns.result c.units_next-control.result c.assigns-assigns.ensures c.units_next-control.ensures.exact)
 

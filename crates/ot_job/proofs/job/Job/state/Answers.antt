@@ -3,14 +3,14 @@ use Rattle.ot_job.proofs.Common.{Live, all_ended, any_out, IsWell, lengths, Work
 use Rattle.ot_job.proofs.DealingsLemmas.{none-out, out-none}
 use Rattle.ot_job.proofs.StartLemmas.{ended-none-out, state-is-failing, state-is-failed, state-is-ended, state-is-working}
 use Rattle.ot_job.proofs.job.Job.state.Goals as goal
-use Rattle.ot_job.specs.Dealings.{state_of, IsOver, NoneOut}
-use Rattle.ot_job.specs.Holding.{AllHold, HavePresent, AreApart}
+use Rattle.ot_job.specs.Dealings.{live_state, IsOver, NoneOut}
+use Rattle.ot_job.specs.Holding.{AllHold, HavePresent, ArePiecesApart}
 use Rattle.ot_job.specs.Kept.{IsKeptIn}
 use Rattle.ot_job.specs.declared.state.State.{State}
 
 -- what holds of the job wherever it stands
-stands : (now : Live) → IsWell now → (s : State) → s ≡ state_of now → (IsOver s → NoneOut now) → (s ≡ Failing → NoneOut now → ⊥) → IsKeptIn s now
-    → record { is : s ≡ state_of now; calm : IsOver s → NoneOut now; going : s ≡ Failing → NoneOut now → ⊥; kept : IsKeptIn s now; holds : AllHold now; present : HavePresent now; apart : AreApart now; lengths : lengths now.cells ≡ lengths now.before }
+stands : (now : Live) → IsWell now → (s : State) → s ≡ live_state now → (IsOver s → NoneOut now) → (s ≡ Failing → NoneOut now → ⊥) → IsKeptIn s now
+    → record { is : s ≡ live_state now; calm : IsOver s → NoneOut now; going : s ≡ Failing → NoneOut now → ⊥; kept : IsKeptIn s now; holds : AllHold now; present : HavePresent now; apart : ArePiecesApart now; lengths : lengths now.cells ≡ lengths now.before }
 stands now w s is calm going kept = record { is = is; calm = calm; going = going; kept = kept; holds = w.holds; present = w.present; apart = w.apart; lengths = w.lengths }
 
 pub returns-then-any_out : goal.returns-then-any_out

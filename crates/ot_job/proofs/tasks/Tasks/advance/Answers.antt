@@ -1,5 +1,5 @@
 use Rattle.std.proofs.Common.{◌≡◌, ◌∙◌, List, length, ap, sym, subst, arith}
-use Rattle.ot_job.proofs.Common.{IfOk-weaker, Region, executed, tasks_next, HasPiece, AreKept, at, CreatesInOrder}
+use Rattle.ot_job.proofs.Common.{IfOk-weaker, Region, control_executed, tasks_next, HasPiece, AreKept, at, CreatesInOrder}
 use Rattle.std.proofs.lemmas.Result.{on_err_weaker}
 use Rattle.ot_job.proofs.KeepingLemmas.{kept-stepped}
 use Rattle.ot_job.proofs.StepLemmas.{executed-none}
@@ -21,7 +21,7 @@ invariant_of-self c =
 
 pub returns-clause-executed : goal.returns-clause-executed
 returns-clause-executed c =
-    IfOk-weaker c.execute.result _ _ (λ x is. is ∙ ap (λ (l : List Region). executed c.args.taken c.args.group c.args.i l) c.self.view_is) c.execute.ensures.executed
+    IfOk-weaker c.execute.result _ _ (λ x is. is ∙ ap (λ (l : List Region). control_executed c.args.taken c.args.group c.args.i l) c.self.view_is) c.execute.ensures.executed
 
 pub returns-clause-ordered : goal.returns-clause-ordered
 returns-clause-ordered c =

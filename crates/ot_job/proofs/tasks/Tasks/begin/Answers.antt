@@ -1,5 +1,5 @@
 use Rattle.std.proofs.Common.{◌≡◌, ◌<◌, ◌∙◌, List, length, false, refl, ap, sym, subst, arith, is_some}
-use Rattle.ot_job.proofs.Common.{updated, Region, leading, awake, begun, at, is_claimable, members, AreKept}
+use Rattle.ot_job.proofs.Common.{updated, Region, leading, awake, piece_begun, at, is_claimable, members, AreKept}
 use Rattle.ot_job.proofs.ClaimableLemmas.{at-here}
 use Rattle.ot_job.proofs.ViewLemmas.{set-changed}
 use Rattle.ot_job.proofs.KeepingLemmas.{kept-updated, now-busy}
@@ -27,7 +27,7 @@ pub invariant_of-self : goal.invariant_of-self
 invariant_of-self c =
     let rs = c.self.inside.tasks.items in
     let i = c.args.i in
-    let change = begun c.args.running.worker c.args.running.lease in
+    let change = piece_begun c.args.running.worker c.args.running.lease in
     let (within, none) = idle (goal.at.invariant_of-self c).After-begin in
     let now = set-changed rs i c.index_mut.result.now c.begin.new.self change c.index_mut.ensures.value c.begin.ensures in
     subst (λ (l : List Region). AreKept l c.begin-2.new.self) (sym now)
@@ -35,8 +35,8 @@ invariant_of-self c =
 
 pub returns : goal.returns
 returns c =
-    set-changed c.self.inside.tasks.items c.args.i c.index_mut.result.now c.begin.new.self (begun c.args.running.worker c.args.running.lease) c.index_mut.ensures.value c.begin.ensures
-    ∙ ap (λ (l : List Region). updated l c.args.i (begun c.args.running.worker c.args.running.lease)) c.self.view_is
+    set-changed c.self.inside.tasks.items c.args.i c.index_mut.result.now c.begin.new.self (piece_begun c.args.running.worker c.args.running.lease) c.index_mut.ensures.value c.begin.ensures
+    ∙ ap (λ (l : List Region). updated l c.args.i (piece_begun c.args.running.worker c.args.running.lease)) c.self.view_is
 
 pub index_mut-requires : goal.index_mut-requires
 index_mut-requires c = omega (arith, c.requires.known, ap length c.self.view_is, c.self.inside.tasks.ok.0)

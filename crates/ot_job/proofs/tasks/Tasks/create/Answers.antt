@@ -1,5 +1,5 @@
 use Rattle.std.proofs.Common.{◌≡◌, ◌∙◌, ap, sym, subst, arith, List, length}
-use Rattle.ot_job.proofs.Common.{IfOk-from_err, Region, executed, tasks_next, HasPiece, is_claimable, members, AreKept, at, CreatesInOrder}
+use Rattle.ot_job.proofs.Common.{IfOk-from_err, Region, control_executed, tasks_next, HasPiece, is_claimable, members, AreKept, at, CreatesInOrder}
 use Rattle.ot_job.proofs.KeepingLemmas.{long-tasks, kept-created}
 use Rattle.ot_job.proofs.ViewLemmas.{on_err_always}
 use Rattle.ot_job.proofs.tasks.Tasks.create.Goals.{After-make_room, After-deref}
@@ -13,7 +13,7 @@ piece c = subst (λ (l : List Region). HasPiece l c.args.i × (tasks_next (at l 
 roomy : (c : After-make_room) → AreKept c.self.inside.tasks.items c.make_room.new.self
 roomy c = let rs = c.self.inside.tasks.items in c.make_room.ensures.same (length rs) (members rs) (is_claimable rs) c.self.invariant
 
-is : (c : After-deref) → c.deref.result.now ≡ executed c.args.taken c.args.group c.args.i c.self.inside.tasks.items
+is : (c : After-deref) → c.deref.result.now ≡ control_executed c.args.taken c.args.group c.args.i c.self.inside.tasks.items
 is c = c.deref.ensures.value ∙ c.in_ok-execute.ensures.executed
 
 pub make_room-requires : goal.make_room-requires
@@ -59,7 +59,7 @@ returns-in_err-execute c =
     record { ordered = IfOk-from_err _ _ err; executed = IfOk-from_err _ _ err; refused = on_err_always _ (c.in_err-execute.ensures.refused ∙ c.self.view_is) }
 
 pub returns-clause-executed : goal.returns-clause-executed
-returns-clause-executed c = c.in_ok-execute.ensures.executed ∙ ap (λ (l : List Region). executed c.args.taken c.args.group c.args.i l) c.self.view_is
+returns-clause-executed c = c.in_ok-execute.ensures.executed ∙ ap (λ (l : List Region). control_executed c.args.taken c.args.group c.args.i l) c.self.view_is
 
 pub returns-clause-ordered : goal.returns-clause-ordered
 returns-clause-ordered c = subst (λ (l : List Region). CreatesInOrder (at l c.args.i)) c.self.view_is c.in_ok-execute.ensures.ordered

@@ -1,5 +1,5 @@
 use Rattle.std.proofs.Common.{◌≡◌, ◌∙◌, ap, sym, arith, List, Bool, length, if◌then◌else◌}
-use Rattle.ot_job.proofs.Common.{IfOk-weaker, Region, executed, tasks_next, is_at_end, at, closed}
+use Rattle.ot_job.proofs.Common.{IfOk-weaker, Region, control_executed, tasks_next, is_at_end, at, region_ended_at}
 use Rattle.ot_job.proofs.ClaimableLemmas.{at-here}
 use Rattle.ot_job.proofs.SettleLemmas.{none-next}
 use Rattle.ot_job.proofs.tasks.Tasks.move_on.Goals.{After-is_at_end, After-tasks_next}
@@ -35,14 +35,14 @@ returns-then-is_at_end-clause-ordered c = λ child is.
 pub returns-then-is_at_end-clause-moved : goal.returns-then-is_at_end-clause-moved
 returns-then-is_at_end-clause-moved c =
     let at_end = ends (goal.at.returns-then-is_at_end-clause-moved c).After-is_at_end ∙ c.if-is_at_end.true in
-    c.close.ensures ∙ ap (λ (b : Bool). if b then closed c.args.i c.args.self.now else executed c.args.taken c.args.group c.args.i c.args.self.now) (sym at_end)
+    c.close.ensures ∙ ap (λ (b : Bool). if b then region_ended_at c.args.i c.args.self.now else control_executed c.args.taken c.args.group c.args.i c.args.self.now) (sym at_end)
 
 pub returns-then-tasks_next-eq0-clause-moved : goal.returns-then-tasks_next-eq0-clause-moved
 returns-then-tasks_next-eq0-clause-moved c =
     let ahead = ends (goal.at.returns-then-tasks_next-eq0-clause-moved c).After-is_at_end ∙ c.if-is_at_end.false in
-    IfOk-weaker c.advance.result _ _ (λ x is. is ∙ ap (λ (b : Bool). if b then closed c.args.i c.args.self.now else executed c.args.taken c.args.group c.args.i c.args.self.now) (sym ahead)) c.advance.ensures.executed
+    IfOk-weaker c.advance.result _ _ (λ x is. is ∙ ap (λ (b : Bool). if b then region_ended_at c.args.i c.args.self.now else control_executed c.args.taken c.args.group c.args.i c.args.self.now) (sym ahead)) c.advance.ensures.executed
 
 pub returns-else-tasks_next-eq0-clause-moved : goal.returns-else-tasks_next-eq0-clause-moved
 returns-else-tasks_next-eq0-clause-moved c =
     let ahead = ends (goal.at.returns-else-tasks_next-eq0-clause-moved c).After-is_at_end ∙ c.if-is_at_end.false in
-    IfOk-weaker c.create.result _ _ (λ x is. is ∙ ap (λ (b : Bool). if b then closed c.args.i c.args.self.now else executed c.args.taken c.args.group c.args.i c.args.self.now) (sym ahead)) c.create.ensures.executed
+    IfOk-weaker c.create.result _ _ (λ x is. is ∙ ap (λ (b : Bool). if b then region_ended_at c.args.i c.args.self.now else control_executed c.args.taken c.args.group c.args.i c.args.self.now) (sym ahead)) c.create.ensures.executed

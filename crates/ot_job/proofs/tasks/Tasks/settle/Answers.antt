@@ -1,5 +1,5 @@
 use Rattle.std.proofs.Common.{◌∙◌, ap, sym, subst, arith, List, is_some}
-use Rattle.ot_job.proofs.Common.{IfOk-from_err, updated, Region, stopped, HasPiece}
+use Rattle.ot_job.proofs.Common.{IfOk-from_err, updated, Region, region_stopped, HasPiece}
 use Rattle.ot_job.proofs.StepLemmas.{moved-running, moved-long}
 use Rattle.ot_job.proofs.ViewLemmas.{on_err_always}
 use Rattle.ot_job.proofs.tasks.Tasks.settle.Goals as goal
@@ -15,7 +15,7 @@ stop-requires c =
     })
 
 pub returns-clause-settled : goal.returns-clause-settled
-returns-clause-settled c = c.stop.ensures ∙ ap (λ (l : List Region). updated l c.args.i stopped) c.in_ok-move_on.ensures.moved
+returns-clause-settled c = c.stop.ensures ∙ ap (λ (l : List Region). updated l c.args.i region_stopped) c.in_ok-move_on.ensures.moved
 
 pub returns-in_err-move_on : goal.returns-in_err-move_on
 returns-in_err-move_on c =

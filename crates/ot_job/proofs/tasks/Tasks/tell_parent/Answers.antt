@@ -1,5 +1,5 @@
 use Rattle.std.proofs.Common.{◌≡◌, ◌<◌, ◌∙◌, ap, sym, subst, arith, ℕ, List, All, length}
-use Rattle.ot_job.proofs.Common.{updated, length-updated, IsReady, IsUnfinished, with_finished, LetsTheSame, Region, without, IsRefreshed, is_claimable, members, AreKept, Tells, put, at, parent_of}
+use Rattle.ot_job.proofs.Common.{updated, length-updated, IsReady, IsUnfinished, with_finished, LetsTheSame, Region, without, IsRefreshed, is_claimable, members, AreKept, Tells, told_put, at, parent_of}
 use Rattle.ot_job.specs.Calls.{MayFinish}
 use Rattle.ot_job.proofs.KeepingLemmas.{kept-told, member-told, tells-told}
 use Rattle.ot_job.proofs.ClaimableLemmas.{at-here, place-told}
@@ -51,8 +51,8 @@ refresh_children-requires c =
     let many = ap (λ m. m.kids) (member-told rs c.place_among-parent.result.0 c.place_among-parent.result.1 c.self.inside.roster c.self.invariant c.deref.result.now is c.place_among-parent.result.0) in
     record {
       told = (
-        put (is_claimable rs) c.place_among-parent.result.0 c.is_claimable.result,
-        subst (λ (l : List Region). Tells (length l) (members l) (put (is_claimable rs) c.place_among-parent.result.0 c.is_claimable.result) c.mark.new.self) (sym same) (c.mark.ensures _ _ _ tells),
+        told_put (is_claimable rs) c.place_among-parent.result.0 c.is_claimable.result,
+        subst (λ (l : List Region). Tells (length l) (members l) (told_put (is_claimable rs) c.place_among-parent.result.0 c.is_claimable.result) c.mark.new.self) (sym same) (c.mark.ensures _ _ _ tells),
       );
       children = subst (λ (l : List Region). All (λ w. w < length (at l c.place_among-parent.result.0).children) c.deref-3.result.now) (sym same)
           (subst (λ (n : ℕ). All (λ w. w < n) c.deref-3.result.now) (ap (λ (r : Region). length r.children) (sym here) ∙ many)
@@ -68,7 +68,7 @@ invariant_of-self c =
     let here = at-here rs p c.index_mut.result.now (up (goal.at.invariant_of-self c).After-place_among-parent) c.index_mut.ensures.value in
     let others = subst (λ (r : Region). LetsTheSame c.release_child-waiters.result.items r.children (with_finished r.children child)) (sym here) c.release_child-waiters.ensures.others in
     let tells = tells-told rs p child c.self.inside.roster c.self.invariant c.deref.result.now is in
-    let free = put (is_claimable rs) p c.is_claimable.result in
+    let free = told_put (is_claimable rs) p c.is_claimable.result in
     let refreshed = subst (λ (ws : List ℕ). IsRefreshed c.deref-2.result.now p ws free c.refresh_children.new.roster) c.deref-3.ensures.value
     (c.refresh_children.ensures free (subst (λ (l : List Region). Tells (length l) (members l) free c.mark.new.self) (c.deref.ensures.value ∙ sym c.deref-2.ensures.value) (c.mark.ensures _ _ _ tells))) in
     subst (λ (l : List Region). AreKept l c.refresh_children.new.roster) c.deref.ensures.value

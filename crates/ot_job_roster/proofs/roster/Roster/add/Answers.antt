@@ -1,7 +1,7 @@
 use Rattle.std.proofs.Common.{◌≡◌, ◌≢◌, ◌<◌, ◌+◌, ◌∙◌, ◌++◌, ◌∷◌, [], ℕ, List, length, get_or, map, set, ap, sym, subst, arith, vec_capacity}
 use Rattle.std.proofs.Math.ListN.{get_or-map}
 use Rattle.std.proofs.lemmas.List.{get_or_default, length-map, map-append, map-set}
-use Rattle.ot_job_roster.specs.Members.{Kept, Tells, put, with_member}
+use Rattle.ot_job_roster.specs.Members.{Kept, Tells, told_put, with_member}
 use Rattle.ot_job_roster.specs.Listed.{has}
 use Rattle.ot_job_roster.specs.RosterView.{kept_of}
 use Rattle.ot_job_roster.proofs.TellsLemmas.{tells-more}
@@ -33,6 +33,6 @@ returns c = λ n s test old.
       rooms = map vec_capacity c.push_reserved-2.new.self.items;
     } in
     let set_now = subst (λ k. (has k c.set.new.self.listed ≡ c.args.free) × ((j : ℕ) → j ≢ k → has j c.set.new.self.listed ≡ has j c.self.inside.free.listed)) number (c.set.ensures.noted, c.set.ensures.others) in
-    subst (λ ns. Tells (n + 1) (with_member n p s) (put test n c.args.free) (kept ns)) (sym made)
+    subst (λ ns. Tells (n + 1) (with_member n p s) (told_put test n c.args.free) (kept ns)) (sym made)
     (tells-more n s test (kept_of c.self.inside) t p within c.set.new.self.room c.args.free c.set.new.self.listed (vec_capacity c.push_reserved-2.new.self) (map vec_capacity c.push_reserved-2.new.self.items)
     (omega (arith, c.requires.room.list, ap (λ k. k.room) c.self.view_is, old.numbered.long, c.set.ensures.room)) c.set.ensures.ordered set_now.0 set_now.1)

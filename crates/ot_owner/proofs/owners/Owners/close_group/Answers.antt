@@ -6,7 +6,7 @@ use Rattle.ot_model.specs.Cells.{cell_of}
 use Rattle.ot_owner.specs.Keeping.{IsSound, IsLast, Made, HasRow, Prepared}
 use Rattle.ot_owner.specs.Kept.{loans_in, spare_in, summed_of, summeds_of, made_of, mades_of}
 use Rattle.ot_owner.specs.Owning.{Owned, IsFreeFor, Summed, NoTwoShare, copies_in, without, folds_in}
-use Rattle.ot_owner.specs.Worth.{combined, worth_over, closed_over}
+use Rattle.ot_owner.specs.Worth.{copies_combined, worth_over, closed_over}
 use Rattle.ot_owner.specs.declared.rows.Group.{Group}
 use Rattle.ot_owner.proofs.OpenLemmas.{closing-at, not_open, closed-sound, worth-closed, same_worth}
 use Rattle.ot_owner.proofs.RowLemmas.{seen-at, all-removed}
@@ -46,8 +46,8 @@ returns-clause-stored c = λ cell.
     let closes = closing-at c.args.group c.in-Some.place items c.deref.result.now c.place_of.result c.deref.ensures.value c.place_of.ensures c.in-Some.is in
     let was : summeds_of items ≡ c.args.self.now.owned.groups = ap (λ k. k.owned.groups) c.self.view_is in
     c.combine.ensures.combined cell
-    ∙ same_worth (λ n. combined x.op n (copies_in cell (summed_of x))) (closed_over c.args.group c.args.self.now.owned.groups cell) (cell_of c.args.cells.now cell)
-    (λ n. ap (λ (g : Group). combined g.op n (copies_in cell (summed_of g))) c.index.ensures ∙ sym (closes.closed cell x n) ∙ ap (λ gs. closed_over c.args.group gs cell n) was)
+    ∙ same_worth (λ n. copies_combined x.op n (copies_in cell (summed_of x))) (closed_over c.args.group c.args.self.now.owned.groups cell) (cell_of c.args.cells.now cell)
+    (λ n. ap (λ (g : Group). copies_combined g.op n (copies_in cell (summed_of g))) c.index.ensures ∙ sym (closes.closed cell x n) ∙ ap (λ gs. closed_over c.args.group gs cell n) was)
 
 pub returns-clause-groups : goal.returns-clause-groups
 returns-clause-groups c =

@@ -5,7 +5,7 @@ use Rattle.std.proofs.lemmas.List.{nil_from_length}
 use Rattle.ot_model.specs.Tree.{append}
 use Rattle.ot_model.proofs.TreeLemmas as tree
 use Rattle.ot_parts.specs.Assigns.{assigns_of}
-use Rattle.ot_parts.specs.Parts.{leading, behind, test_of, part_of, parts_of}
+use Rattle.ot_parts.specs.Parts.{leading, after_parts, test_of, part_of, parts_of}
 use Rattle.ot_parts.specs.Left.{PassesAll, StopsAt, frame_parts, outer_parts, parts_left}
 use Rattle.ot_parts.specs.declared.part.Part.{Part}
 use Rattle.ot_parts.specs.declared.frames.Frame.{Frame}
@@ -63,7 +63,7 @@ returns-in-Some-2-clause-condition c =
     let stops : StopsAt (frame_parts frame) run more part =
     subst (λ (v : Vec Part Global). StopsAt (drop frame.at v.items) run more part) c.deref-in-Some-split_last.ensures (rw c.in-Some-2.is at c.in_ok-part-2.ensures) in
     let left : outer_parts c.loop-frame.left.now ≡ frame_parts frame ++ outer_parts behind_it = ap outer_parts c.in-Some-split_last.ensures.cases.0 ∙ outer-push behind_it frame in
-    (stopped (frame_parts frame) (outer_parts behind_it) run more part stops).1 ∙ ap (λ l. test_of (behind (parts_of l))) (sym left) ∙ ap test_of c.loop-frame.invariant.1
+    (stopped (frame_parts frame) (outer_parts behind_it) run more part stops).1 ∙ ap (λ l. test_of (after_parts (parts_of l))) (sym left) ∙ ap test_of c.loop-frame.invariant.1
 
 pub loop-frame-preserved : goal.loop-frame-preserved
 loop-frame-preserved c =

@@ -1,7 +1,7 @@
 use Rattle.std.proofs.Common.{◌≡◌, ◌∙◌, List, [], get_or, sym, ap, subst}
 use Rattle.std.specs.Prelude.{Some, slice_get}
 use Rattle.ot_race.specs.Missing.{IsMissing}
-use Rattle.ot_race.specs.Histories.{Phases, phases_of, row_of, untouched, behind_of}
+use Rattle.ot_race.specs.Histories.{Phases, phases_of, row_of, no_phases, behind_of}
 use Rattle.ot_race.proofs.PlaceLemmas.{read_at, place_found}
 use Rattle.ot_race.proofs.histories.Histories.racing.Goals as goal
 
@@ -18,5 +18,5 @@ returns c =
     ap (λ xs. slice_get xs cell.index) (sym c.deref-2.ensures.value)
     ∙ place_found c.deref-2.result.now cell.index history c.in_ok-history.ensures.lookup.0 c.in_ok-history.ensures.lookup.1 in
     subst (λ (ph : Phases). IsMissing (behind_of ph c.args.mode) c.args.known.now c.racing.result)
-    (sym (ap (λ (r : List Phases). get_or r cell.index untouched) (read_at row_of rows cell.array row [] row-at) ∙ read_at phases_of row.histories.items cell.index history untouched at))
+    (sym (ap (λ (r : List Phases). get_or r cell.index no_phases) (read_at row_of rows cell.array row [] row-at) ∙ read_at phases_of row.histories.items cell.index history no_phases at))
     c.racing.ensures

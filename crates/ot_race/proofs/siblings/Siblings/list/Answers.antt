@@ -1,6 +1,6 @@
 use Rattle.std.proofs.Common.{◌≡◌, ◌∙◌, ◌+◌, [], ◌∷◌, ◌++◌, take, get_or, sym, ap}
 use Rattle.std.proofs.lemmas.List.{take_all, take_more}
-use Rattle.ot_race.specs.Siblings.{seen, seen_by_all}
+use Rattle.ot_race.specs.Siblings.{siblings_seen, seen_by_all}
 use Rattle.ot_race.proofs.RowLemmas.{some_use, seen_more}
 use Rattle.ot_race.proofs.siblings.Siblings.list.Goals as goal
 
@@ -12,7 +12,7 @@ loop-used-preserved c =
     let i = c.loop-used.used-index in
     let used = get_or uses i some_use in
     let more : take (i + 1) uses ≡ take i uses ++ used ∷ [] = take_more uses i some_use c.loop-used-test.true in
-    c.in_ok-list_one.ensures ∙ ap (λ l. l ++ seen s p used) c.loop-used.invariant ∙ sym (seen_more s p (take i uses) used) ∙ ap (seen_by_all s p) (sym more)
+    c.in_ok-list_one.ensures ∙ ap (λ l. l ++ siblings_seen s p used) c.loop-used.invariant ∙ sym (seen_more s p (take i uses) used) ∙ ap (seen_by_all s p) (sym more)
 
 pub returns : goal.returns
 returns c =

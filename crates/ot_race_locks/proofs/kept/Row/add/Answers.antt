@@ -1,6 +1,6 @@
 use Rattle.std.proofs.Common.{◌≡◌, ◌∙◌, List, [], get_or, map, set, sym, subst}
 use Rattle.std.proofs.lemmas.Result.{IfOk-weaker}
-use Rattle.ot_race_locks.specs.Kinds.{kind, groups_of, row_of, Fits}
+use Rattle.ot_race_locks.specs.Kinds.{kind, groups_of, kind_row, KindFits}
 use Rattle.ot_race_locks.specs.declared.group.Group.{Group}
 use Rattle.ot_race.proofs.PlaceLemmas.{read_at, set_here, set_other, place_read}
 use Rattle.ot_race_locks.proofs.ListLemmas.{on_ok_always}
@@ -12,12 +12,12 @@ returns-clause-there c =
     let i = c.args.index in
     let there = c.in_ok-reach.ensures.there in
     let line = c.index_mut.result.now in
-    let before : groups_of line ≡ get_or (row_of c.args.self.now) i [] =
+    let before : groups_of line ≡ get_or (kind_row c.args.self.now) i [] =
     sym (read_at groups_of items i line [] (place_read items i line there c.index_mut.ensures.value)) ∙ c.in_ok-reach.ensures.same i in
     IfOk-weaker c.add.result _ _
     (λ fits e.
-    subst (λ (gs : List Group). Fits (kind c.args.set c.args.mode) c.args.number c.args.known.now gs (get_or (map groups_of (set items i c.add.new.self)) i []) fits) before
-    (subst (λ (gs : List Group). Fits (kind c.args.set c.args.mode) c.args.number c.args.known.now (groups_of line) gs fits)
+    subst (λ (gs : List Group). KindFits (kind c.args.set c.args.mode) c.args.number c.args.known.now gs (get_or (map groups_of (set items i c.add.new.self)) i []) fits) before
+    (subst (λ (gs : List Group). KindFits (kind c.args.set c.args.mode) c.args.number c.args.known.now (groups_of line) gs fits)
     (sym (set_here groups_of items i c.add.new.self [] there)) e)) c.add.ensures
 
 pub returns-clause-others : goal.returns-clause-others

@@ -3,7 +3,7 @@ use Rattle.std.specs.Prelude.{slice_get, unwrap_or, option_map}
 use Rattle.std.proofs.lemmas.Bool.{cases_eq}
 use Rattle.std.proofs.lemmas.Result.{on_ok_weaker}
 use Rattle.ot_show_graph.specs.declared.rows.Page.{Page}
-use Rattle.ot_show_graph.specs.Written.{entry_on, entered_by, nobody}
+use Rattle.ot_show_graph.specs.Written.{entry_on, entered_by, no_child}
 use Rattle.ot_show_graph.proofs.RowLemmas.{place_read, get_here, said_here, said_other, place_apart}
 use Rattle.ot_show_graph.proofs.rows.Shelf.enter.Goals as goal
 
@@ -34,10 +34,10 @@ returns-clause-others c =
     let said = λ (p : Page). entry_on p (i % 32) in
     elim (cases_eq (i / 32) at) [
       | inl same ↦
-          ap (λ a. unwrap_or (option_map said (slice_get (set pages at new) a)) nobody) same
+          ap (λ a. unwrap_or (option_map said (slice_get (set pages at new) a)) no_child) same
           ∙ said_here said (set pages at new) at new (get_here pages at new there) ∙ e (i % 32) (place_apart i index same apart)
           ∙ sym (said_here said pages at page (place_read pages at page there c.index_mut.ensures.value))
-          ∙ sym (ap (λ a. unwrap_or (option_map said (slice_get pages a)) nobody) same)
+          ∙ sym (ap (λ a. unwrap_or (option_map said (slice_get pages a)) no_child) same)
           ∙ c.in_ok-reach.ensures.same i
       | inr other ↦ said_other said pages at (i / 32) new other ∙ c.in_ok-reach.ensures.same i
     ]) c.enter.ensures.others

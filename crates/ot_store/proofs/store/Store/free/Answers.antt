@@ -1,6 +1,6 @@
 use Rattle.std.proofs.Common.{sym, ap, ◌∙◌, arith}
 use Rattle.std.specs.Prelude.{Ok}
-use Rattle.ot_store.specs.Arrays.{freed, named_of}
+use Rattle.ot_store.specs.Arrays.{array_freed, named_of}
 use Rattle.ot_store.proofs.CallLemmas.{freed-unknown, freed-there}
 use Rattle.ot_store.proofs.HeldLemmas.{cells_called-none, cells_called-some, found-≤-count, others-named, AreCounted-remove}
 use Rattle.ot_store.proofs.store.Store.free.Goals as goal
@@ -10,7 +10,7 @@ returns-in_default-clause-refused c =
     let name = c.args.name.now in
     let entries = c.self.inside.arrays.entries in
     let none = cells_called-none name entries (sym c.shift_remove.ensures.value ∙ c.in_default.is) in
-    ap (freed name) (sym c.self.view_is) ∙ freed-unknown name (named_of entries) none
+    ap (array_freed name) (sym c.self.view_is) ∙ freed-unknown name (named_of entries) none
 
 pub overflow_cast-self : goal.overflow_cast-self
 overflow_cast-self c =
@@ -35,6 +35,6 @@ returns-clause-ok c =
     let name = c.args.name.now in
     let entries = c.self.inside.arrays.entries in
     let found = cells_called-some name entries c.in-Some.cells (sym c.shift_remove.ensures.value ∙ c.in-Some.is) in
-    ap (freed name) (sym c.self.view_is)
+    ap (array_freed name) (sym c.self.view_is)
     ∙ freed-there name (named_of entries) c.in-Some.cells.items found
     ∙ ap Ok (others-named name entries c.shift_remove.new.self.entries c.self.inside.count c.shift_remove.ensures.entries c.self.invariant)

@@ -1,7 +1,7 @@
 use Rattle.std.proofs.Common.{◌≡◌, ◌+◌, length, map, refl, sym, ap, ◌∙◌, subst, arith}
 use Rattle.std.specs.Vec.Iter.{into_iter_items, into_iter_len}
 use Rattle.std.proofs.Math.ListN.{length-map}
-use Rattle.ot_store.specs.Arrays.{recelled, named_of, AreCounted}
+use Rattle.ot_store.specs.Arrays.{with_cells, named_of, AreCounted}
 use Rattle.indexmap.specs.IndexMap.{set_value_at}
 use Rattle.indexmap.proofs.CallerLemmas.{index_map_len-with_value_at}
 use Rattle.ot_store.proofs.ArraysLemmas.{cells-fit}
@@ -54,7 +54,7 @@ pub invariant_of-self : goal.invariant_of-self
 invariant_of-self c =
     let inside = c.loop-place.self-inside in
     let none = none-left (into_iter_items c.loop-place.place-iterator.iter) (omega (arith, c.loop-place.invariant.size, c.in-None.ensures.steps.0.0)) in
-    let is : named_of inside.arrays.entries ≡ recelled c.args.self.now c.args.cells =
+    let is : named_of inside.arrays.entries ≡ with_cells c.args.self.now c.args.cells =
     ap (λ vs. refilled (named_of inside.arrays.entries) c.loop-place.place-iterator.count (map (λ v. v.items) vs)) (sym none)
     ∙ c.loop-place.invariant.left in
     let before : AreCounted c.args.self.now inside.count =

@@ -1,18 +1,18 @@
 use Rattle.std.proofs.Common.{◌≡◌, ◌∙◌, ◌+◌, ℕ, sym, ap, arith}
 use Rattle.std.specs.Prelude.{option_map}
-use Rattle.ot_why_place.specs.Spots.{bindings_of}
+use Rattle.ot_why_place.specs.Spots.{trail_bindings}
 use Rattle.ot_why_place.specs.Texts.{text_by}
 use Rattle.ot_why_fault.specs.Walk.{counts_with, told_by}
-use Rattle.ot_why_fault.specs.Whys.{past_limits, shape_of, why_by, short, after}
+use Rattle.ot_why_fault.specs.Whys.{whys_past_limits, shape_of, why_by, short, after}
 use Rattle.ot_why_fault.proofs.FirstLemmas.{entry_is, entry_met, entry_passed}
 use Rattle.ot_why_fault.proofs.find.Finder.enter.Goals as goal
 
 pub returns-in-Some : goal.returns-in-Some
 returns-in-Some c nested level =
     let shape = (shape_of c.args.self.now.arrays.now c.args.self.now.tasks) in
-    let variables = bindings_of c.args.trail.now in
+    let variables = trail_bindings c.args.trail.now in
     let text = text_by c.args.self.now.profile c.args.text in
-    let past = c.past_limits.ensures ∙ ap (λ (n : ℕ). after (told_by c.own_parts-own.new.first) (past_limits n c.plus-counts.result)) c.from.ensures in
+    let past = c.past_limits.ensures ∙ ap (λ (n : ℕ). after (told_by c.own_parts-own.new.first) (whys_past_limits n c.plus-counts.result)) c.from.ensures in
     let told = entry_is shape nested c.args.level variables text _ _ _ _ c.args.passed.counts _ _ level c.new-first.ensures
     c.own_parts-own.ensures.first c.own_parts-own.ensures.counts c.plus-counts.ensures past
     (λ none. c.in_ok-why.ensures nested none) in
@@ -21,9 +21,9 @@ returns-in-Some c nested level =
 pub returns-in-None : goal.returns-in-None
 returns-in-None c nested level =
     let shape = (shape_of c.args.self.now.arrays.now c.args.self.now.tasks) in
-    let variables = bindings_of c.args.trail.now in
+    let variables = trail_bindings c.args.trail.now in
     let text = text_by c.args.self.now.profile c.args.text in
-    let past = c.past_limits.ensures ∙ ap (λ (n : ℕ). after (told_by c.own_parts-own.new.first) (past_limits n c.plus-counts.result)) c.from.ensures in
+    let past = c.past_limits.ensures ∙ ap (λ (n : ℕ). after (told_by c.own_parts-own.new.first) (whys_past_limits n c.plus-counts.result)) c.from.ensures in
     let told = entry_is shape nested c.args.level variables text _ _ _ _ c.args.passed.counts _ _ level c.new-first.ensures
     c.own_parts-own.ensures.first c.own_parts-own.ensures.counts c.plus-counts.ensures past
     (λ none. c.in_ok-why.ensures nested none) in
