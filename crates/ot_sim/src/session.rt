@@ -1,12 +1,8 @@
 //! Sim from bytes to bytes: lines come in, and each is answered before the next is taken.
-ghost use Rattle.std.specs.Prelude.{◌≡◌, ◌≢◌, ◌≤◌, ℕ, Err, OnOk};
-ghost use Rattle.std.specs.Io.KnownBytes.{IsAtEnd};
+ghost use Rattle.std.specs.Prelude.{◌≡◌};
 ghost use Rattle.ot_lines.specs.Lines.{hearing_opened};
-ghost use Rattle.ot_session.specs.Serving.{next_count, count_after};
 ghost use Rattle.ot_sim.specs.Playing.{empty_play};
-ghost use Rattle.ot_sim.specs.Talk.{TalksOver};
 ghost use Rattle.ot_sim.specs.Running.{sim_bounds, IsSimRun, PlaysHeldLine};
-ghost use Rattle.ot_sim.specs.declared.fault.SimFault.TheVariants.{ReadFailed, WriteFailed, TooManyTurns};
 
 use crate::fault::{SimFault, Untold};
 use crate::play::Play;
@@ -32,15 +28,9 @@ pub fn sim_lines<R: Source, W: Sink>(
     source: &mut R,
     sink: &mut W,
 ) -> Result<(), SimFault>
-    ensures talks { TalksOver (R.flow source.old).ahead (R.flow source.new).ahead (W.contents sink.old) (W.contents sink.new) result }
-    ensures reads { (k : ℕ) × (k ≤ 1000000) × ((R.flow source.new).reads ≡ count_after k (R.flow source.old).reads) }
-    ensures turns { result ≡ Err TooManyTurns → (R.flow source.new).reads ≡ count_after 1000000 (R.flow source.old).reads }
-    ensures at_end { OnOk result (IsAtEnd (R.flow source.new).ahead) }
-    ensures end_told { OnOk result ((R.flow source.new).ends ≡ next_count (R.flow source.old).ends) }
-    ensures read_failed { result ≡ Err ReadFailed → (R.flow source.new).failures ≡ next_count (R.flow source.old).failures }
-    ensures read_worked { result ≢ Err ReadFailed → (R.flow source.new).failures ≡ (R.flow source.old).failures }
-    ensures write_failed { result ≡ Err WriteFailed → W.failures sink.new ≡ next_count (W.failures sink.old) }
-    ensures write_worked { result ≢ Err WriteFailed → W.failures sink.new ≡ W.failures sink.old }
+    ensures { IsSimRun (R.flow source.old)
+        (R.flow source.new)
+        (W.contents sink.old) (W.contents sink.new) (W.failures sink.old) (W.failures sink.new) result }
 {
     let Ok(mut lines) = Lines::new(alloc, sim_bounds()) else {
         return Err(SimFault::Memory);
