@@ -145,7 +145,7 @@ called_fold k t (Called l call e f) = if is_word k && is_target t e then Some (c
 called_fold k t e = None
 
 abbrev pub set_by : Around → IntegerType → Data → Aim → E → Option (Operation × E) → Stated
-set_by a k cell t e None = value_assigned a k e >>= λ d. Ok (form (codes "set_cell_form") (cell ∷ d ∷ []))
+set_by a k cell t e None = value_assigned a k e >>= λ d. Ok (form (codes "set") (cell ∷ d ∷ []))
 set_by a k cell t e (Some x) = changed_cell a t.left None k cell (Some x.0, false) x.1
 
 -- `cell = value`, of a cell of type k
