@@ -120,8 +120,8 @@ LeavesServer old new result = ⊥
 
 -- the replies that were printed are counted, also the one that ends the session
 abbrev pub Counts : List (List ℕ) → Result Asked AskFault → Tally → Type 0
-Counts replies (Ok CutShort) asked_tally = (last : List ℕ) × (is_last last ≡ true) × (asked_tally ≡ tally_of (replies ++ last ∷ []))
-Counts replies result asked_tally = asked_tally ≡ tally_of replies
+Counts replies (Ok CutShort) tally = (last : List ℕ) × (is_last last ≡ true) × (tally ≡ tally_of (replies ++ last ∷ []))
+Counts replies result tally = tally ≡ tally_of replies
 
 module _ (Says : List ℕ → List ℕ → Type 0) where
   -- Lines are read and sent in order, and for each one whole reply is heard and printed, with what may be said behind it. Nothing
@@ -157,24 +157,24 @@ module _ (Says : List ℕ → List ℕ → Type 0) where
   EndsAfter false count old new is_refused result = GoesOn count old new is_refused result
 
   -- Lines that are answered, and then an end. A session that is to stop at a refusal stops behind the first reply that is one.
-  pub record Talks (stop : Bool) (old new : Ways) (result : Result Asked AskFault) (asked_tally : Tally) : Type 0 where
+  pub record Talks (stop : Bool) (old new : Ways) (result : Result Asked AskFault) (tally : Tally) : Type 0 where
     pub last : Ways
     pub is_refused : Bool
     pub talk : Talk old last is_refused
     pub first : stop ≡ true → All (λ reply. is_refusal reply ≡ false) (take (length talk.replies - 1) talk.replies)
     pub ends : EndsAfter (stop && is_refused) (length talk.lines) last new is_refused result
-    pub counts : Counts talk.replies result asked_tally
+    pub counts : Counts talk.replies result tally
 
   -- a session of a client: the greeting, and the lines behind it, or a greeting that isn't answered with a welcome
   abbrev pub Asks : List ℕ → Bool → Ways → Ways → Result Asked AskFault → Tally → Type 0
-  Asks name stop old new result asked_tally =
-      ((greeted : Link) × GreetsServer name old.link greeted (Ok tt) × Talks stop (record old { link = greeted }) new result asked_tally)
+  Asks name stop old new result tally =
+      ((greeted : Link) × GreetsServer name old.link greeted (Ok tt) × Talks stop (record old { link = greeted }) new result tally)
       ⊎ ((fault : AskFault)
       × (result ≡ Err fault)
       × GreetsServer name old.link new.link (Err fault)
       × (new.typed ≡ old.typed)
       × (new.printed ≡ old.printed)
-      × (asked_tally ≡ none_counted))
+      × (tally ≡ none_counted))
 
 -- A line that is read to be sent, and a reply that is heard.
 

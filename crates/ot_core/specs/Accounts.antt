@@ -102,7 +102,7 @@ pub record IsAnswered (old : Account) (new : Account) : Type 0 where
   pub lost : Bool
   pub new_is : new ≡ with_reply old lost
   pub never : is_checkpoint (next_line old) ≡ true → lost ≡ false
-  pub at_once : (lost ≡ true) ⊎ ((told_so_far : Told) × (arrays : List Named) × (next_step old.book (next_line old) ≡ Now told_so_far arrays))
+  pub at_once : (lost ≡ true) ⊎ ((told : Told) × (arrays : List Named) × (next_step old.book (next_line old) ≡ Now told arrays))
 
 abbrev pub OpensNext : Account → Option Spec → Account → Type 0
 OpensNext old None new = IsAnswered old new

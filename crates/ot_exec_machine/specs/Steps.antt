@@ -219,7 +219,7 @@ repeating r to s = do
 
 -- the frame of a call or a task that begins here, behind which this form is next
 abbrev pub frame_here : ℕ → Kept → MachineState → Frame
-frame_here back kept_value s = frame back s.slots.base s.trail.task s.trail.context s.locks.held (length s.nest.groups) kept_value
+frame_here back kept s = frame back s.slots.base s.trail.task s.trail.context s.locks.held (length s.nest.groups) kept
 
 unfoldable pub calling : Code → Limits → ℕ → ℕ → ℕ → MachineState → SteppedState
 calling code l site k first s = do

@@ -202,8 +202,8 @@ pub fn run_code(
     limits: Limits,
     answers: &[bool],
 ) -> Result<Run, AllocError>
-    ensures told { IfOk result (λ run_steps. TellsEvents run_steps (run_of code.now limits (list_answer answers.now))) }
-    ensures few { IfOk result (λ run_steps. length run_steps.log.items < 2 ^ 32) }
+    ensures told { IfOk result (λ run. TellsEvents run (run_of code.now limits (list_answer answers.now))) }
+    ensures few { IfOk result (λ run. length run.log.items < 2 ^ 32) }
 {
     match Machine::new(alloc, code, limits) {
         Ok(machine) => run_from(alloc, code, limits, answers, machine),

@@ -35,8 +35,8 @@ pub fn follow<'a>(
 ) -> Result<Vec<Event<'a>>, AllocError>
     requires fits { Fits (steps_in steps.now.items) }
     requires few { steps_size (steps_in steps.now.items) < 2 ^ 32 }
-    ensures events { IfOk result (λ steps_events. events_in steps_events.items ≡ events_by (list_answer answers.now) (steps_in steps.now.items)) }
-    ensures few { IfOk result (λ steps_events. length steps_events.items ≤ steps_size (steps_in steps.now.items)) }
+    ensures events { IfOk result (λ events. events_in events.items ≡ events_by (list_answer answers.now) (steps_in steps.now.items)) }
+    ensures few { IfOk result (λ events. length events.items ≤ steps_size (steps_in steps.now.items)) }
 {
     let mut trail = Trail {
         tasks: 0,

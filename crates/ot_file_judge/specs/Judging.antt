@@ -215,7 +215,7 @@ IsPlacedIn None request blank start end place = place ≡ place_in blank start
 IsPlacedIn (Some book) request blank start end place = IsPlacedBy (last_told book) request (shape_in book.limits book.store) blank start end place
 
 abbrev pub IsPlaced : List ℕ → Refusal → Place → Type 0
-IsPlaced blank refusal_of_piece place = IsPlacedIn refusal_of_piece.book refusal_of_piece.request blank refusal_of_piece.start refusal_of_piece.end place
+IsPlaced blank refusal place = IsPlacedIn refusal.book refusal.request blank refusal.start refusal.end place
 
 -- How far a file was judged.
 

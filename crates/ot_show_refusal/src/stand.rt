@@ -23,7 +23,7 @@ pub(crate) fn stands_in<'a>(
     alloc: Global,
     program: &'a Program,
 ) -> Result<Vec<Stand<'a>>, AllocError>
-    ensures { IfOk result (λ standing_found. standings_of standing_found.items ≡ stands 0 1 (stmts_of program.now.body.items)) }
+    ensures { IfOk result (λ found. standings_of found.items ≡ stands 0 1 (stmts_of program.now.body.items)) }
 {
     let mut found = Vec::new(alloc);
     put_all(0, 1, &program.body, &mut found)?;

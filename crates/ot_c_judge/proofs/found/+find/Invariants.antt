@@ -10,5 +10,5 @@ abbrev pub invariant-find_in-loop-stmt : goal.invariant-find_in-loop-stmt
 invariant-find_in-loop-stmt l = record {
   next : l.next + size (stmts_of (drop l.stmt-index l.body.items)) ≡ l.place + size (stmts_of l.body.items);
   fits : Fits (stmts_of (drop l.stmt-index l.body.items));
-  stood_in_body : stood_in_body l.goal (option_map (λ d. d.now) l.own) l.place (stmts_of l.body.items) ≡ stood_in_body l.goal (option_map (λ d. d.now) l.own) l.next (stmts_of (drop l.stmt-index l.body.items));
+  found : stood_in_body l.goal (option_map (λ d. d.now) l.own) l.place (stmts_of l.body.items) ≡ stood_in_body l.goal (option_map (λ d. d.now) l.own) l.next (stmts_of (drop l.stmt-index l.body.items));
 }

@@ -7,6 +7,6 @@ use Rattle.ot_c_judge.proofs.start.shape_of.Given as goal
 -- those that are left follow
 abbrev pub invariant-loop-array : goal.invariant-loop-array
 invariant-loop-array l = record {
-  array_names_of : arrays_of l.named.items ++ array_names_of (drop l.array-index l.arrays) ≡ array_names_of l.arrays;
+  named : arrays_of l.named.items ++ array_names_of (drop l.array-index l.arrays) ≡ array_names_of l.arrays;
   short : All (λ a. a.1 < 2 ^ 32) (arrays_of l.named.items);
 }

@@ -14,7 +14,7 @@ invariant-follow_all-loop-step l =
       few_tasks : l.trail.tasks + steps_size (steps_in (drop l.step-index l.steps.items)) ≤ l.initial.trail.tasks + steps_size (steps_in l.steps.items);
       few_events : length l.trail.events.items + steps_size (steps_in (drop l.step-index l.steps.items))
           ≤ length l.initial.trail.events.items + steps_size (steps_in l.steps.items);
-      steps_events : events_in l.trail.events.items
+      events : events_in l.trail.events.items
           ++ steps_events (list_answer l.answers) (option_map (λ d. d.now) l.owner.own) l.owner.task (steps_in (drop l.step-index l.steps.items)) l.trail.tasks
           ≡ events_in l.initial.trail.events.items
           ++ steps_events (list_answer l.answers) (option_map (λ d. d.now) l.owner.own) l.owner.task (steps_in l.steps.items) l.initial.trail.tasks;
