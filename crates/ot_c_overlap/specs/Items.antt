@@ -4,8 +4,9 @@ use Rattle.serde_json.specs.Data.{Data, array, no_items, item}
 use Rattle.ot_model.specs.Programs.{Arrays}
 use Rattle.ot_model.specs.declared.expr.Section.{Section}
 use Rattle.ot_program.specs.Copies.{Text, TaskText, WaitForText, GroupText, GroupByText, Placed, Copy, At, Copies, Done, Then}
-use Rattle.ot_program.specs.Meanings.{items, Bindings, section, is_word, profile_of}
+use Rattle.ot_program.specs.Meanings.{items, Bindings, section, is_word}
 use Rattle.ot_program.specs.Programs.{program_copy}
+use Rattle.ot_program.specs.Requested.{ProgramForm, program_form, requested_program}
 use Rattle.ot_c_overlap.specs.declared.item.Item.{Item}
 
 -- a list item that a clause names: whether it writes there, and the section
@@ -118,16 +119,12 @@ abbrev mutual
 abbrev pub none_met : Met
 none_met = record { entries = 0; items = [] }
 
--- of a program, of the profile that its first word names
-abbrev pub program_items : Ground → Data → Data → Data → List Item
-program_items ground word shows body =
-    unwrap_or (option_map (λ profile. (met_one ground 0 (program_copy profile shows body) none_met).items) (profile_of word)) []
+abbrev pub program_items : Ground → ProgramForm → List Item
+program_items ground f = (met_one ground 0 (program_copy f.profile f.shows f.body) none_met).items
 
 abbrev pub text_items : Ground → Data → List Item
-text_items ground (array (item t (item a (item b no_items)))) = program_items ground t a b
-text_items ground _ = []
+text_items ground program = unwrap_or (option_map (program_items ground) (program_form program)) []
 
 -- of the program that a request runs
 abbrev pub items_of : Ground → Data → List Item
-items_of ground (array (item t (item program no_items))) = text_items ground program
-items_of ground _ = []
+items_of ground request = unwrap_or (option_map (text_items ground) (requested_program request)) []

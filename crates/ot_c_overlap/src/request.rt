@@ -1,9 +1,8 @@
 //! The first overlap in the program that a request runs.
 ghost use Rattle.std.specs.Prelude.{IfOk, ◌≡◌};
-ghost use Rattle.serde_json.specs.Data.{array};
-ghost use Rattle.serde_json.specs.View.{view, items_view};
+ghost use Rattle.serde_json.specs.View.{view};
 ghost use Rattle.ot_model.specs.Programs.{arrays_of};
-ghost use Rattle.ot_c_overlap.specs.Items.{items_of, text_items, program_items, ground};
+ghost use Rattle.ot_c_overlap.specs.Items.{items_of, ground};
 ghost use Rattle.ot_c_overlap.specs.Overlaps.{IsFirst};
 
 use crate::first::first_of;
@@ -12,7 +11,7 @@ use crate::names::Names;
 use crate::order::writers_first;
 use crate::walk::{Met, Walk};
 use ot_model::ArrayShape;
-use ot_program::read_profile;
+use ot_program::{program_form, requested_program};
 use serde_json::Value;
 use std::alloc::{AllocError, Global};
 
@@ -40,85 +39,22 @@ fn items_of(
 ) -> Result<Vec<Item>, AllocError>
     ensures { IfOk result (λ items. items.items ≡ items_of (ground (arrays_of arrays.now) reds) (view request.now)) }
 {
-    match request {
-        Value::Array(items) => in_request(alloc, items, arrays, reds),
-        _ => Ok(Vec::new(alloc)),
-    }
-}
-
-#[tactic(auto, using(crate::proofs::RequestLemmas::requests))]
-fn in_request(
-    alloc: Global,
-    items: &[Value],
-    arrays: &[ArrayShape],
-    reds: bool,
-) -> Result<Vec<Item>, AllocError>
-    ensures { IfOk result (λ noted. noted.items ≡ items_of (ground (arrays_of arrays.now) reds) (array (items_view items.now))) }
-{
-    if items.len() != 2 {
-        return Ok(Vec::new(alloc));
-    }
-    match items {
-        [_, program] => in_program(alloc, program, arrays, reds),
-        _ => unreachable!(),
-    }
-}
-
-fn in_program(
-    alloc: Global,
-    program: &Value,
-    arrays: &[ArrayShape],
-    reds: bool,
-) -> Result<Vec<Item>, AllocError>
-    ensures { IfOk result (λ items. items.items ≡ text_items (ground (arrays_of arrays.now) reds) (view program.now)) }
-{
-    match program {
-        Value::Array(items) => in_items(alloc, items, arrays, reds),
-        _ => Ok(Vec::new(alloc)),
-    }
-}
-
-#[tactic(auto, using(crate::proofs::RequestLemmas::programs))]
-fn in_items(
-    alloc: Global,
-    items: &[Value],
-    arrays: &[ArrayShape],
-    reds: bool,
-) -> Result<Vec<Item>, AllocError>
-    ensures { IfOk result (λ noted. noted.items ≡ text_items (ground (arrays_of arrays.now) reds) (array (items_view items.now))) }
-{
-    if items.len() != 3 {
-        return Ok(Vec::new(alloc));
-    }
-    match items {
-        [tag, shows, body] => in_body(alloc, tag, shows, body, arrays, reds),
-        _ => unreachable!(),
-    }
-}
-
-fn in_body(
-    alloc: Global,
-    tag: &Value,
-    shows: &Value,
-    body: &Value,
-    arrays: &[ArrayShape],
-    reds: bool,
-) -> Result<Vec<Item>, AllocError>
-    ensures { IfOk result (λ noted. noted.items ≡ program_items (ground (arrays_of arrays.now) reds) (view tag.now) (view shows.now) (view body.now)) }
-{
     let mut met = Met {
         entries: 0,
         items: Vec::new(alloc),
     };
-    let Some(profile) = read_profile(tag) else {
+    let Some(program) = requested_program(request) else {
+        return Ok(met.items);
+    };
+    let Some(form) = program_form(program) else {
         return Ok(met.items);
     };
     let names = Names::new(alloc, arrays)?;
     let walk = Walk {
-        profile,
+        profile: form.profile,
         names: &names,
         reds,
     };
-    walk.program(shows, body, &mut met)?;
+    walk.program(form.shows, form.body, &mut met)?;
     Ok(met.items)
 }

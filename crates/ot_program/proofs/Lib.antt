@@ -3,6 +3,7 @@ pub mod Forms
 pub mod ValueForms
 pub mod StatementForms
 pub mod ProgramForms
+pub mod RequestForms
 pub mod Joins
 pub mod Lists
 pub mod Readings

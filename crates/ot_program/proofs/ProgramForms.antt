@@ -1,38 +1,22 @@
 -- What a text is read as, where a program is wanted.
-use Rattle.std.proofs.Common.{◌≡◌, ℕ, ◌+◌, ◌-◌, ◌^◌, ◌<◌, min, Bool, true, false, cond, ◌&&◌, List, [], ◌∷◌, length, get_or, Ok, Err, nat_le, refl, sym, arith, inl, inr}
-use Rattle.std.specs.Prelude.{◌≢◌}
+use Rattle.std.proofs.Common.{◌≡◌, ℕ, ◌+◌, ◌-◌, ◌^◌, ◌<◌, min, Bool, true, false, cond, ◌&&◌, List, [], Ok, Err, nat_le, refl, arith, inl, inr}
 use Rattle.std.proofs.lemmas.Bool.{cases_lt, lt-leb}
-use Rattle.serde_json.specs.Data.{Data, array}
-use Rattle.serde_json.specs.View.{view, items_view}
-use Rattle.serde_json.specs.declared.value.Value.{Value}
+use Rattle.serde_json.specs.Data.{Data}
 use Rattle.ot_model.specs.Programs.{Arrays}
 use Rattle.ot_model.specs.Tree.{S}
 use Rattle.ot_model.specs.declared.expr.Section.{Section}
 use Rattle.ot_program.specs.declared.counts.Counts.{Counts}
 use Rattle.ot_program.specs.declared.fault.ProgramFault.{ProgramFault}
 use Rattle.ot_program.specs.declared.fault.Refusal.{Refusal}
-use Rattle.ot_program.specs.declared.fault.Refusal.TheVariants.{Form, TooLarge}
+use Rattle.ot_program.specs.declared.fault.Refusal.TheVariants.{TooLarge}
 use Rattle.ot_program.specs.declared.profile.Profile.{Profile}
 use Rattle.ot_program.specs.Limits.{max_statements, max_nodes, max_cells, cells_in}
-use Rattle.ot_program.specs.Meanings.{profile_of}
 use Rattle.ot_program.specs.Returned.{Fails}
 use Rattle.ot_program.specs.walk.Reading.{both_of}
 use Rattle.ot_program.specs.walk.Counting.{no_counts, more_counts, within_limits}
 use Rattle.ot_program.specs.walk.Parts.{sections_of}
-use Rattle.ot_program.specs.walk.Statements.{list_of, body_in, program_expanded, first_level, program_at, walk_in, walk_of}
+use Rattle.ot_program.specs.walk.Statements.{list_of, body_in, program_expanded, first_level, program_at}
 use Rattle.ot_program.proofs.Joins.{Fails-then}
-
-pub no_program_but_three : (shape : Arrays) (vs : List Value) → length vs ≢ 3
-    → walk_of shape (array (items_view vs)) ≡ Err Form
-no_program_but_three shape (a ∷ b ∷ c ∷ []) other = absurd (other refl)
-no_program_but_three shape _ other = refl
-
-pub program_of_three : (shape : Arrays) (vs : List Value) (t a b : Value) → length vs ≡ 3 → t ≡ get_or vs 0 t → a ≡ get_or vs 1 a → b ≡ get_or vs 2 b
-    → walk_of shape (array (items_view vs)) ≡ walk_in shape (profile_of (view t)) (view a) (view b)
-program_of_three shape (x ∷ y ∷ z ∷ []) t a b three p q r = rw (sym p, sym q, sym r) refl
-program_of_three shape _ t a b three p q r = absurd (omega arith)
-
-pub ruleset program_forms = (no_program_but_three, program_of_three)
 
 -- ---- counts of 32 bits
 

@@ -1,6 +1,6 @@
 -- The walk over a program tells what the definition tells.
 use Rattle.std.proofs.Common.{◌≡◌, ℕ, ◌+◌, ◌≤◌, true, List, [], ◌∷◌, ◌++◌, map, Option, Some, None, Result, Ok, nat_le, refl, sym, ap, ◌∙◌, arith, append-nil}
-use Rattle.std.specs.Prelude.{⊤}
+use Rattle.std.specs.Prelude.{⊤, option_map}
 use Rattle.std.proofs.lemmas.Bool.{le-leb}
 use Rattle.serde_json.specs.Data.{Data, array, no_items, item}
 use Rattle.ot_model.specs.Tree.{size, tasks_in, S, body_of}
@@ -16,11 +16,12 @@ use Rattle.ot_program.specs.Faults.{unless, no_list, list_faults, section_faults
 use Rattle.ot_program.specs.Limits.{max_statements, max_cells, cells_in, Tally, tally, plus}
 use Rattle.ot_program.specs.Meanings.{items, section, profile_of}
 use Rattle.ot_program.specs.Programs.{fault_told, told_or, expansion, program_copy, program_in, program_of}
+use Rattle.ot_program.specs.Requested.{ProgramForm, form, program_form}
 use Rattle.ot_program.specs.Returned.{Gives}
 use Rattle.ot_program.specs.walk.Reading.{◌>>=◌, both_of}
 use Rattle.ot_program.specs.walk.Counting.{no_counts, more_counts, within_limits}
 use Rattle.ot_program.specs.walk.Parts.{sections_of}
-use Rattle.ot_program.specs.walk.Statements.{list_of, body_in, shows_of, program_expanded, first_level, program_at, walk_in, walk_of}
+use Rattle.ot_program.specs.walk.Statements.{list_of, body_in, shows_of, program_expanded, first_level, program_at, walk_in}
 use Rattle.ot_program.specs.walk.Returned.{Added}
 use Rattle.ot_program.proofs.Coded.{code_counts}
 use Rattle.ot_program.proofs.Firsts.{first_of, Reads, reads_both, reads_then, reads_made, reads_test}
@@ -100,18 +101,18 @@ program_walked shape profile a b =
     (rw (counts.0, counts.1) refl)))) in
     walked ∙ ap (told_or (expansion shows ss)) (sym (ap (fault_told shape []) all ∙ told-from shape [] (p ∷ ps)))
 
-pub program_of_walked : (shape : Arrays) (d : Data) → walk_of shape d ≡ program_of shape d
+pub program_of_walked : (shape : Arrays) (d : Data) → walk_in shape (program_form d) ≡ program_of shape d
 program_of_walked shape (array (item t (item a (item b no_items)))) = by (profile_of t)
   where
-    by : (o : Option Profile) → walk_in shape o a b ≡ program_in shape o a b
+    by : (o : Option Profile) → walk_in shape (option_map (form a b) o) ≡ program_in shape o a b
     by None = refl
     by (Some profile) = program_walked shape profile a b
 program_of_walked shape _ = refl
 
 -- what is given of the walk is given of the definition
-pub given_of_walked : {X : Type 0} (see : X → Expanded) (x : Result X ProgramFault) (shape : Arrays) (d e : Data) → d ≡ e
-    → Gives see x (walk_of shape e) → Gives see x (program_of shape d)
-given_of_walked see x shape d e same h = rw (same, ← program_of_walked shape e) h
+pub given_of_walked : {X : Type 0} (see : X → Expanded) (x : Result X ProgramFault) (shape : Arrays) (o : Option ProgramForm) (d : Data) → o ≡ program_form d
+    → Gives see x (walk_in shape o) → Gives see x (program_of shape d)
+given_of_walked see x shape o d is h = rw (← program_of_walked shape d, ← is) h
 
 -- ---- the counts of a program that was read
 

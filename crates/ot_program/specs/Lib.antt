@@ -3,6 +3,7 @@ pub mod Copies
 pub mod Limits
 pub mod Faults
 pub mod Programs
+pub mod Requested
 pub mod Returned
 pub mod Accepted
 pub mod Printed

@@ -1,13 +1,6 @@
 use crate::fault::Refusal;
+use crate::limits::{MAX_CELLS, MAX_NODES, MAX_STATEMENTS, MAX_TURNS};
 use ot_model::Section;
-
-const MAX_STATEMENTS: u64 = 20_000;
-
-const MAX_TURNS: u32 = 40_000;
-
-const MAX_NODES: u64 = 200_000;
-
-const MAX_CELLS: u64 = 1_048_576;
 
 /// What was counted of a program so far: its statements, its task statements, the turns of its
 /// `for`s, the nodes of its values, and the cells of its sections.

@@ -15,6 +15,7 @@ use crate::clause::{self, read_clauses};
 use crate::counts::{Counts, cells};
 use crate::declaration::{declare, sections_cells};
 use crate::fault::{ProgramFault, Refusal};
+use crate::limits::MAX_NESTING;
 use crate::name::is_name;
 use crate::part::read_cell;
 use crate::scope::Scope;
@@ -25,8 +26,6 @@ use crate::wait::read_wait_clauses;
 use ot_model::{Cell, Decl, Expr};
 use serde_json::Value;
 use std::alloc::Global;
-
-const MAX_NESTING: u32 = 16;
 
 /// Whether a part of a statement is a list. What stands in it isn't looked at.
 pub(crate) fn read_list(value: &Value) -> Result<(), Refusal>

@@ -1,16 +1,17 @@
-ghost use Rattle.std.specs.Prelude.{IfOk};
-ghost use Rattle.serde_json.specs.Data.{array};
-ghost use Rattle.serde_json.specs.View.{view, items_view};
+ghost use Rattle.std.specs.Prelude.{IfOk, option_map};
+ghost use Rattle.serde_json.specs.View.{view};
 ghost use Rattle.ot_model.specs.Programs.{array_lengths, expanded_of, IsNamedIn};
 ghost use Rattle.ot_program.specs.Returned.{Gives};
 ghost use Rattle.ot_program.specs.Programs.{program_of};
-ghost use Rattle.ot_program.specs.walk.Statements.{walk_of, walk_in, program_at};
+ghost use Rattle.ot_program.specs.Requested.{form_by};
+ghost use Rattle.ot_program.specs.walk.Statements.{walk_in, program_at};
 
 use crate::both::join;
 use crate::counts::{Counts, cells};
 use crate::fault::{ProgramFault, Refusal};
+use crate::form::{ProgramForm, program_form};
 use crate::head::read_list;
-use crate::profile::{Profile, read_profile};
+use crate::profile::Profile;
 use crate::scope::{Scope, Variables};
 use crate::section::read_sections;
 use crate::shape::NamedShape;
@@ -29,40 +30,22 @@ pub fn read_program(alloc: Global, text: &Value, shape: &Shape) -> Result<Progra
 {
     // The shape's lengths fit 32 bits.
     let _arrays = shape.arrays();
-    match text {
-        Value::Array(items) => program_form(alloc, shape, items),
-        _ => Err(ProgramFault::Refused(Refusal::Form)),
-    }
+    program_in(alloc, shape, program_form(text))
 }
 
-#[tactic(auto, using(crate::proofs::ProgramForms::program_forms))]
-fn program_form(alloc: Global, shape: &Shape, items: &[Value]) -> Result<Program, ProgramFault>
-    ensures { Gives expanded_of result (walk_of shape.now (array (items_view items.now))) }
-{
-    if items.len() != 3 {
-        return Err(ProgramFault::Refused(Refusal::Form));
-    }
-    match items {
-        [tag, shows, body] => program_in(alloc, shape, read_profile(tag), shows, body),
-        _ => unreachable!(),
-    }
-}
-
-// No profile is that of a first word that names none.
+// What has no form is no program.
 fn program_in(
     alloc: Global,
     shape: &Shape,
-    profile: Option<Profile>,
-    shows: &Value,
-    body: &Value,
+    form: Option<ProgramForm<'_>>,
 ) -> Result<Program, ProgramFault>
-    ensures { Gives expanded_of result (walk_in shape.now profile (view shows.now)
-        (view body.now)) }
+    ensures { Gives expanded_of result (walk_in shape.now (option_map form_by form.entry)) }
 {
-    match profile {
-        Some(profile) => program_at(alloc, &NamedShape::new(alloc, shape)?, profile, shows, body),
-        None => Err(ProgramFault::Refused(Refusal::Form)),
-    }
+    let Some(form) = form else {
+        return Err(ProgramFault::Refused(Refusal::Form));
+    };
+    let shape = NamedShape::new(alloc, shape)?;
+    program_at(alloc, &shape, form.profile, form.shows, form.body)
 }
 
 fn program_at(

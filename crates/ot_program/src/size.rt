@@ -6,11 +6,10 @@ ghost use Rattle.ot_program.specs.Limits.{size_depth};
 
 use crate::both::both;
 use crate::fault::Refusal;
+use crate::limits::MAX_DEPTH;
 use crate::number::whole_number;
 use crate::scope::Variables;
 use serde_json::Value;
-
-const MAX_DEPTH: u32 = 24;
 
 /// An operation of sizes.
 #[derive(Clone, Copy, Debug, PartialEq, Eq)]

@@ -15,6 +15,7 @@ ghost use Rattle.ot_program.specs.walk.Counting.{with_expression};
 use crate::both::join;
 use crate::counts::Counts;
 use crate::fault::{ProgramFault, Refusal};
+use crate::limits::MAX_DEPTH;
 use crate::name::is_word;
 use crate::number::whole_number;
 use crate::part::{cell_at, read_section};
@@ -22,8 +23,6 @@ use crate::scope::Scope;
 use ot_model::{Expr, Op, Section};
 use serde_json::Value;
 use std::alloc::Global;
-
-const MAX_DEPTH: u32 = 24;
 
 /// A value as a part of a statement.
 pub(crate) fn read_expression(

@@ -10,15 +10,16 @@ use Rattle.serde_json.specs.declared.value.Value.{Value}
 use Rattle.ot_model.specs.Programs.{Arrays}
 use Rattle.ot_program.specs.Copies.{Text, IfText, ForText, TaskText, GroupText, GroupByText, ProgramText, Placed, Copy, At, Copies, Done, Then, in_copy, in_order}
 use Rattle.ot_program.specs.Limits.{Tally, total, plus, own_tally}
-use Rattle.ot_program.specs.Meanings.{Bindings, profile_of}
+use Rattle.ot_program.specs.Meanings.{Bindings}
 use Rattle.ot_program.specs.Programs.{program_copy}
+use Rattle.ot_program.specs.Requested.{ProgramForm, program_form}
 use Rattle.ot_program.specs.declared.profile.Profile.{Profile}
 use Rattle.ot_program.proofs.Tallies.{plus-nothing, total-append}
 use Rattle.ot_why_place.specs.Spots.{Path, Spot, first_body, is_loop, spots, in_turns, in_body, program_spots}
 use Rattle.ot_why_place.specs.Texts.{text_by}
 use Rattle.ot_why_place.specs.declared.text.Text.{Text as CodeText}
 use Rattle.ot_why_place.specs.declared.text.Text.TheVariants as t
-use Rattle.ot_why_fault.specs.Whys.{counts_of, whys_past_limits, mixed_why, mixed_whys, whys_at, whys_behind, first_behind, first_among, Why, Mixed, long, short, earlier, after, whys_nested, text_whys}
+use Rattle.ot_why_fault.specs.Whys.{counts_of, whys_past_limits, mixed_why, mixed_whys, whys_at, whys_behind, first_behind, first_among, first_in_program, Why, Mixed, long, short, earlier, after, whys_nested, text_whys}
 use Rattle.ot_why_fault.specs.Walk.{counts_with, Walked, Passed, Met, unless_told, counts_placed, walk}
 use Rattle.ot_why_mixed.specs.Mixed.{mixed_of}
 use Rattle.ot_why_fault.specs.declared.own.Tally.{Tally as CodeTally}
@@ -185,18 +186,11 @@ walk_first shape before (p ∷ ps) =
     ∙ ap (λ (m : ℕ). met_in (unless_told told n (walk shape m (counts_of (total shape (before ++ p ∷ []))) ps))) (short-one before p)
     ∙ met_by told n rest (first_behind shape (before ++ p ∷ []) ps) (walk_first shape (before ++ p ∷ []) ps)
 
-pub program_placed : (shape : Arrays) (program t a b : Data) (profile : Profile) → profile_of t ≡ Some profile
-    → first_among shape program (map placed_of (program_spots t a b)) ≡ first_behind shape [] (in_copy (program_copy profile a b))
-program_placed shape program t a b profile named =
-    let are : map placed_of (program_spots t a b) ≡ in_copy (program_copy profile a b) = rw named (copy_placed (1 ∷ []) (program_copy profile a b)) in
-    ap (first_among shape program) are
+pub program_placed : (shape : Arrays) (program : Data) (f : ProgramForm)
+    → first_among shape program (map placed_of (program_spots f)) ≡ first_behind shape [] (in_copy (program_copy f.profile f.shows f.body))
+program_placed shape program f = ap (first_among shape program) (copy_placed (1 ∷ []) (program_copy f.profile f.shows f.body))
 
-pub first_walked : (shape : Arrays) (program t a b : Data) (profile : Profile) (w : Walked) → profile_of t ≡ Some profile
-    → w ≡ walk shape 0 (counts_of (total shape [])) (in_copy (program_copy profile a b))
-    → met_in w ≡ first_among shape program (map placed_of (program_spots t a b))
-first_walked shape program t a b profile w named is =
-    ap met_in is ∙ walk_first shape [] (in_copy (program_copy profile a b)) ∙ sym (program_placed shape program t a b profile named)
-
-pub none_among : (shape : Arrays) (program t a b : Data) → profile_of t ≡ None
-    → first_among shape program (map placed_of (program_spots t a b)) ≡ first_among shape program []
-none_among shape program t a b named = rw named refl
+pub first_walked : (shape : Arrays) (program : Data) (f : ProgramForm) (w : Walked) → program_form program ≡ Some f
+    → w ≡ walk shape 0 (counts_of (total shape [])) (in_copy (program_copy f.profile f.shows f.body)) → met_in w ≡ first_in_program shape program
+first_walked shape program f w is walked =
+    rw is (ap met_in walked ∙ walk_first shape [] (in_copy (program_copy f.profile f.shows f.body)) ∙ sym (program_placed shape program f))

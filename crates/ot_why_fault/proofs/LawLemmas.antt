@@ -1,6 +1,6 @@
 -- What a program is refused for is what is told of its first fault.
 use Rattle.std.proofs.Common.{◌≡◌, ℕ, ◌^◌, ◌<◌, Bool, true, false, cond, List, [], ◌∷◌, ◌++◌, map, length, Option, Some, None, refl, sym, ap, ◌∙◌, append_assoc, arith, inl, inr}
-use Rattle.std.specs.Prelude.{nat_lt, nat_le, option_map, fold}
+use Rattle.std.specs.Prelude.{nat_lt, nat_le, option_map, unwrap_or, fold}
 use Rattle.std.specs.Option.{option_or}
 use Rattle.std.proofs.lemmas.Bool.{cases_lt, lt-leb}
 use Rattle.std.proofs.lemmas.List.{map-append}
@@ -12,6 +12,7 @@ use Rattle.ot_program.specs.Limits.{max_statements, max_turns, max_nodes, max_ce
 use Rattle.ot_program.specs.Meanings.{profile_of}
 use Rattle.ot_program.specs.Programs.{foremost, faults_behind, fault_told as refusal_told, told_or, program_copy, program_in, program_of}
 use Rattle.ot_program.specs.Faults.{rank, least}
+use Rattle.ot_program.specs.Requested.{form}
 use Rattle.ot_program.specs.declared.fault.Refusal.{Refusal}
 use Rattle.ot_program.specs.declared.profile.Profile.{Profile}
 use Rattle.ot_program.proofs.Firsts.{first_of, foremost_is, merged, first-append}
@@ -19,7 +20,7 @@ use Rattle.ot_program.proofs.StatementsRead.{first-swap}
 use Rattle.ot_why_place.specs.Spots.{program_spots}
 use Rattle.ot_why_fault.specs.Whys.{counts_of, whys_past_limits, mixed_whys, whys_behind, first_behind, first_among, first_why, Why, long, short, refusal_of, earlier, after, text_whys}
 use Rattle.ot_why_fault.specs.Laws.{refusal_of_program}
-use Rattle.ot_why_fault.proofs.FirstLemmas.{placed_of, program_placed, none_among}
+use Rattle.ot_why_fault.proofs.FirstLemmas.{placed_of, program_placed}
 use Rattle.ot_why_fault.proofs.RefusalLemmas.{Are, unless_is, text_is}
 
 -- ---- counts past their limits
@@ -98,16 +99,15 @@ refused_or : (x : Expanded) (o : Option Refusal) → refusal_of_program (told_or
 refused_or x None = refl
 refused_or x (Some c) = refl
 
-refused_by : (shape : Arrays) (program t a b : Data) → shape.tasks < 2 ^ 32 → (o : Option Profile) → profile_of t ≡ o
-    → option_map told_of (first_among shape program (map placed_of (program_spots t a b))) ≡ refusal_of_program (program_in shape o a b)
-refused_by shape program t a b small None named = ap (option_map told_of) (none_among shape program t a b named)
-refused_by shape program t a b small (Some profile) named =
-    ap (option_map told_of) (program_placed shape program t a b profile named)
+refused_by : (shape : Arrays) (program a b : Data) → shape.tasks < 2 ^ 32 → (o : Option Profile)
+    → option_map told_of (first_among shape program (map placed_of (unwrap_or (option_map program_spots (option_map (form a b) o)) []))) ≡ refusal_of_program (program_in shape o a b)
+refused_by shape program a b small None = refl
+refused_by shape program a b small (Some profile) =
+    ap (option_map told_of) (program_placed shape program (form a b profile))
     ∙ first_told shape [] (in_copy (program_copy profile a b)) small
     ∙ sym (refused_or _ (refusal_told shape [] (in_copy (program_copy profile a b))))
 
 pub first_is : (shape : Arrays) (run program : Data) → shape.tasks < 2 ^ 32
     → option_map told_of (first_why shape (array (item run (item program no_items)))) ≡ refusal_of_program (program_of shape program)
-first_is shape run (array (item t (item a (item b no_items)))) small =
-    refused_by shape (array (item t (item a (item b no_items)))) t a b small (profile_of t) refl
+first_is shape run (array (item t (item a (item b no_items)))) small = refused_by shape (array (item t (item a (item b no_items)))) a b small (profile_of t)
 first_is shape run _ small = refl

@@ -4,7 +4,6 @@ pub mod PartLemmas
 pub mod LoopLemmas
 pub mod ClauseLemmas
 pub mod RefusalLemmas
-pub mod EntryLemmas
 pub mod WalkLemmas
 pub mod FirstLemmas
 pub mod LawLemmas

@@ -1,5 +1,5 @@
 -- What is at fault in a program, with what is compared, and which of several faults is told.
-use Rattle.std.specs.Prelude.{ℕ, [], ◌+◌, ◌==◌, nat_lt, nat_le, Bool, false, not, ◌&&◌, ◌||◌, if◌then◌else◌, List, ◌∷◌, ◌++◌, flat_map, is_some, unwrap_or, codes, ◌-◌, ◌^◌, min, Option, Some, None, length, map, option_map}
+use Rattle.std.specs.Prelude.{ℕ, [], ◌+◌, ◌==◌, nat_lt, nat_le, Bool, false, not, ◌&&◌, ◌||◌, if◌then◌else◌, List, ◌∷◌, ◌++◌, flat_map, is_some, unwrap_or, codes, ◌-◌, ◌^◌, min, Option, Some, None, length, map, option_map, option_and_then}
 use Rattle.std.specs.List.{list_any}
 use Rattle.serde_json.specs.Data.{Data, number, string, array, no_items, item}
 use Rattle.ot_model.specs.Programs.{Arrays, arrays_of}
@@ -8,6 +8,7 @@ use Rattle.ot_program.specs.Copies.{Text, SetText, AddText, FoldText, IfText, Fo
 use Rattle.ot_program.specs.Faults.{is_list, rank}
 use Rattle.ot_program.specs.Limits.{max_nesting, max_depth, size_depth, depth_of, total, max_statements, max_turns, max_nodes, max_cells, Tally}
 use Rattle.ot_program.specs.Meanings.{items, letters, Bindings, number_bound, sign_of, in_range, exact, size, is_called, length_of, op_of, fold_of, value, whole_number, is_name, is_word, is_one, is_two}
+use Rattle.ot_program.specs.Requested.{requested_program}
 use Rattle.ot_program.specs.declared.profile.Profile.{Profile}
 use Rattle.ot_why_fault.specs.declared.why.Wanted.TheVariants as wanted
 use Rattle.ot_model.specs.declared.expr.Op.{Op}
@@ -312,10 +313,12 @@ module _ (shape : Arrays) where
   first_among program [] = Some (0, Form program wanted.Program)
   first_among program (p ∷ rest) = first_behind [] (p ∷ rest)
 
+  abbrev pub first_in_program : Data → Option (ℕ × Why)
+  first_in_program program = first_among program (map (λ s. s.placed) (text_spots program))
+
   -- of the program that a request runs
   abbrev pub first_why : Data → Option (ℕ × Why)
-  first_why (array (item t (item program no_items))) = first_among program (map (λ s. s.placed) (text_spots program))
-  first_why request = None
+  first_why request = option_and_then first_in_program (requested_program request)
 
 abbrev pub found_by : Found → ℕ × Why
 found_by found = (found.index, why_by found.why)

@@ -1,33 +1,25 @@
 //! The first entry of a program that has a fault.
-ghost use Rattle.std.specs.Prelude.{◌≡◌, ℕ, ◌+◌, ◌-◌, [], ◌∷◌, ◌++◌, None, IfOk, option_map, map};
-ghost use Rattle.serde_json.specs.Data.{array};
+ghost use Rattle.std.specs.Prelude.{◌≡◌, ℕ, ◌+◌, ◌-◌, [], ◌∷◌, ◌++◌, None, IfOk, option_map};
 ghost use Rattle.serde_json.specs.View.{view, items_view};
 ghost use Rattle.ot_program.specs.Copies.{copies, copies_of, copy, turns as each_turn, at, Done, Turn as OneTurn, in_order, in_copy};
 ghost use Rattle.ot_program.specs.Limits.{total};
 ghost use Rattle.ot_program.specs.Programs.{program_copy};
-ghost use Rattle.ot_why_place.specs.Spots.{trail_bindings, text_spots};
+ghost use Rattle.ot_why_place.specs.Spots.{trail_bindings};
 ghost use Rattle.ot_why_place.specs.Texts.{text_by};
-ghost use Rattle.ot_why_fault.specs.Whys.{Form, short, after, text_whys, why_by, shape_of, counts_of, more_than, whys_past_limits, mixed_whys, first_among, first_why, found_by};
+ghost use Rattle.ot_why_fault.specs.Whys.{short, after, text_whys, why_by, shape_of, counts_of, more_than, whys_past_limits, mixed_whys, first_in_program, first_why, found_by};
 ghost use Rattle.ot_why_fault.specs.Walk.{told_by, walk, walk_step, walk_on, in_bodies};
-ghost use Rattle.ot_why_fault.specs.declared.why.Wanted.TheVariants.{Program};
 
 use crate::look::Look;
 use crate::own::Tally;
 use crate::why::{Count, First, Wanted, Why};
 use ot_model::ArrayShape;
-use ot_program::{Profile, read_profile};
+use ot_program::{
+    MAX_CELLS, MAX_NODES, MAX_STATEMENTS, MAX_TURNS, Profile, program_form, requested_program,
+};
 use ot_why_mixed::mixed_in;
 use ot_why_place::{Text, Trail, Turn, letters, size_of, text_of};
 use serde_json::Value;
 use std::alloc::{AllocError, Global};
-
-const MAX_STATEMENTS: u64 = 20_000;
-
-const MAX_TURNS: u64 = 40_000;
-
-const MAX_NODES: u64 = 200_000;
-
-const MAX_CELLS: u64 = 1_048_576;
 
 /// What is at fault, and how many stand before what has the fault, in the order of `entry_of`.
 #[derive(Clone, Copy, Debug)]
@@ -46,27 +38,9 @@ pub fn first_fault<'a>(
 ) -> Result<Option<Found<'a>>, AllocError>
     ensures { IfOk result (λ found. option_map found_by found ≡ first_why (shape_of arrays.now tasks) (view request.now)) }
 {
-    match request {
-        Value::Array(items) => in_request(alloc, items, arrays, tasks),
-        _ => Ok(None),
-    }
-}
-
-#[tactic(auto, using(crate::proofs::EntryLemmas::requests))]
-fn in_request<'a>(
-    alloc: Global,
-    items: &'a [Value],
-    arrays: &[ArrayShape],
-    tasks: u32,
-) -> Result<Option<Found<'a>>, AllocError>
-    ensures { IfOk result (λ found. option_map found_by found ≡ first_why (shape_of arrays.now tasks) (array (items_view items.now))) }
-{
-    if items.len() != 2 {
-        return Ok(None);
-    }
-    match items {
-        [_, program] => in_program(alloc, program, arrays, tasks),
-        _ => unreachable!(),
+    match requested_program(request) {
+        Some(program) => in_program(alloc, program, arrays, tasks),
+        None => Ok(None),
     }
 }
 
@@ -76,55 +50,23 @@ fn in_program<'a>(
     arrays: &[ArrayShape],
     tasks: u32,
 ) -> Result<Option<Found<'a>>, AllocError>
-    ensures { IfOk result (λ found. option_map found_by found
-        ≡ first_among (shape_of arrays.now tasks) (view program.now) (map (λ s. s.placed) (text_spots (view program.now)))) }
+    ensures { IfOk result (λ found. option_map found_by found ≡ first_in_program (shape_of arrays.now tasks) (view program.now)) }
 {
-    match program {
-        Value::Array(parts) => in_parts(alloc, program, parts, arrays, tasks),
-        _ => Ok(Some(no_program(program))),
-    }
-}
-
-fn in_parts<'a>(
-    alloc: Global,
-    program: &'a Value,
-    parts: &'a [Value],
-    arrays: &[ArrayShape],
-    tasks: u32,
-) -> Result<Option<Found<'a>>, AllocError>
-    ensures { IfOk result (λ found. option_map found_by found
-        ≡ first_among (shape_of arrays.now tasks) (view program.now) (map (λ s. s.placed) (text_spots (array (items_view parts.now))))) }
-{
-    if parts.len() != 3 {
-        return Ok(Some(no_program(program)));
-    }
-    match parts {
-        [tag, shows, body] => match read_profile(tag) {
-            Some(profile) => {
-                let finder = Finder {
-                    alloc,
-                    arrays,
-                    tasks,
-                    profile,
-                };
-                match finder.program(shows, body)? {
-                    Step::Passed(_) => Ok(None),
-                    Step::Met(found) => Ok(Some(found)),
-                }
-            }
-            None => Ok(Some(no_program(program))),
-        },
-        _ => unreachable!(),
-    }
-}
-
-/// That a program is of no form.
-fn no_program(program: &Value) -> Found<'_>
-    ensures { found_by result ≡ (0, Form (view program.now) Program) }
-{
-    Found {
-        index: 0,
-        why: Why::Form(program, Wanted::Program),
+    let Some(form) = program_form(program) else {
+        return Ok(Some(Found {
+            index: 0,
+            why: Why::Form(program, Wanted::Program),
+        }));
+    };
+    let finder = Finder {
+        alloc,
+        arrays,
+        tasks,
+        profile: form.profile,
+    };
+    match finder.program(form.shows, form.body)? {
+        Step::Passed(_) => Ok(None),
+        Step::Met(found) => Ok(Some(found)),
     }
 }
 
@@ -398,7 +340,7 @@ impl First<'_> {
         ensures { told_by self.new ≡ after (told_by self.old) (whys_past_limits tasks counts) }
     {
         self.more_than(Count::Statements, counts.statements, MAX_STATEMENTS);
-        self.more_than(Count::Turns, counts.turns, MAX_TURNS);
+        self.more_than(Count::Turns, counts.turns, u64::from(MAX_TURNS));
         self.more_than(Count::Nodes, counts.nodes, MAX_NODES);
         self.more_than(Count::Cells, counts.cells, MAX_CELLS);
         self.unless(

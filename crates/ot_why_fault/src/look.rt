@@ -10,11 +10,9 @@ ghost use Rattle.ot_why_fault.specs.Walk.{told_by, shape_by, variables_by, measu
 
 use crate::why::{First, Wanted, Why};
 use ot_model::{ArrayShape, Op};
-use ot_program::{is_name, is_word};
+use ot_program::{MAX_DEPTH, is_name, is_word};
 use ot_why_place::{Trail, exact, letters, sign_of};
 use serde_json::Value;
-
-const MAX_DEPTH: u64 = 24;
 
 /// What a value counts.
 #[derive(Clone, Copy, Debug)]
@@ -57,7 +55,7 @@ impl<'a> First<'a> {
     fn deep(&mut self, part: &'a Value, depth: u64)
         ensures { (is : ℕ) → depth ≡ long is → told_by self.new ≡ after (told_by self.old) (whys_deep (view part.now) is) }
     {
-        self.unless(depth <= MAX_DEPTH, Why::Deep(part, depth));
+        self.unless(depth <= u64::from(MAX_DEPTH), Why::Deep(part, depth));
     }
 
     /// That a size is of no greater depth than it may be.

@@ -12,11 +12,9 @@ ghost use Rattle.ot_why_fault.specs.Walk.{told_by, shape_by, variables_by, count
 use crate::look::{Look, Measure};
 use crate::why::{First, Wanted, Why};
 use ot_model::Fold;
-use ot_program::{Profile, is_word};
+use ot_program::{MAX_NESTING, Profile, is_word};
 use ot_why_place::{Text, size_of};
 use serde_json::Value;
-
-const MAX_NESTING: u32 = 16;
 
 /// What a statement counts by itself.
 #[derive(Clone, Copy, Debug)]

@@ -1,36 +1,13 @@
--- Requests and programs by their length, and which spot is sought.
-use Rattle.std.proofs.Common.{◌≡◌, ◌≢◌, ◌<◌, ◌≤◌, ℕ, zero, suc, Bool, true, false, cond, List, [], ◌∷◌, length, get_or, refl, sym, arith}
+-- An item by its index, and which spot is sought.
+use Rattle.std.proofs.Common.{◌≡◌, ◌<◌, ◌≤◌, ℕ, zero, suc, Bool, true, false, cond, List, [], ◌∷◌, length, get_or, refl, arith}
 use Rattle.std.specs.Prelude.{filter, slice_get, Some, None, option_map}
 use Rattle.ot_program.specs.Meanings.{items}
 use Rattle.serde_json.specs.Data.{array}
 use Rattle.serde_json.specs.View.{view, items_view}
 use Rattle.serde_json.specs.declared.value.Value.{Value}
-use Rattle.ot_why_place.specs.Spots.{Spot, is_statement, place_at, program_spots, text_spots, spots_of}
+use Rattle.ot_why_place.specs.Spots.{Spot, is_statement, place_at}
 use Rattle.ot_why_place.specs.Seeking.{Sought, meet, seek, met_in, counts_by}
 use Rattle.ot_why_place.specs.declared.walk.Which.TheVariants as w
-
-pub no_request : (vs : List Value) → length vs ≢ 2 → spots_of (array (items_view vs)) ≡ []
-no_request (a ∷ b ∷ []) other = absurd (other refl)
-no_request _ other = refl
-
-pub a_request : (vs : List Value) (t d : Value) → length vs ≡ 2 → t ≡ get_or vs 0 t → d ≡ get_or vs 1 d → spots_of (array (items_view vs)) ≡ text_spots (view d)
-a_request (x ∷ y ∷ []) t d two p q = rw (sym q) refl
-a_request _ t d two p q = absurd (omega arith)
-
-pub ruleset requests = (no_request, a_request)
-
-pub no_program : (vs : List Value) → length vs ≢ 3 → text_spots (array (items_view vs)) ≡ []
-no_program (a ∷ b ∷ c ∷ []) other = absurd (other refl)
-no_program _ other = refl
-
-pub a_program : (vs : List Value) (t a b : Value) → length vs ≡ 3 → t ≡ get_or vs 0 t → a ≡ get_or vs 1 a → b ≡ get_or vs 2 b
-    → text_spots (array (items_view vs)) ≡ program_spots (view t) (view a) (view b)
-a_program (x ∷ y ∷ z ∷ []) t a b three p q r = rw (sym p, sym q, sym r) refl
-a_program _ t a b three p q r = absurd (omega arith)
-
-pub ruleset programs = (no_program, a_program)
-
--- ---- an item by its index
 
 pub item_there : (vs : List Value) (i : ℕ) (v : Value) → i < length vs → v ≡ get_or vs i v → slice_get (items (array (items_view vs))) i ≡ Some (view v)
 item_there [] i v within is = absurd (omega (arith, within))

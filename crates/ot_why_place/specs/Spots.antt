@@ -1,9 +1,10 @@
 -- Where each statement of a program stands in the request's line, and in which turns of the loops around it.
 use Rattle.std.specs.Prelude.{ℕ, [], zero, suc, ◌+◌, Bool, true, false, if◌then◌else◌, List, ◌∷◌, ◌++◌, filter, slice_get, Option, Some, None, option_map, option_and_then, unwrap_or, map}
-use Rattle.serde_json.specs.Data.{Data, array, no_items, item}
+use Rattle.serde_json.specs.Data.{Data}
 use Rattle.ot_program.specs.Copies.{Text, ForText, Turn, GroupByText, ProgramText, NoForm, Placed, Copy, At, Copies, Done, Then}
-use Rattle.ot_program.specs.Meanings.{items, Bindings, profile_of}
+use Rattle.ot_program.specs.Meanings.{items, Bindings}
 use Rattle.ot_program.specs.Programs.{program_copy}
+use Rattle.ot_program.specs.Requested.{ProgramForm, program_form, requested_program}
 use Rattle.ot_why_place.specs.declared.trail.Trail.{Trail}
 use Rattle.ot_why_place.specs.declared.trail.Trail.TheVariants as t
 use Rattle.ot_why_place.specs.declared.trail.Turn as turns
@@ -47,17 +48,15 @@ abbrev mutual
   in_body path index Done = []
   in_body path index (Then c rest) = spots (path ++ index ∷ []) c ++ in_body path (index + 1) rest
 
--- a program, of the profile that its first word names, as the second item of a request
-abbrev pub program_spots : Data → Data → Data → List Spot
-program_spots word shows body = unwrap_or (option_map (λ profile. spots (1 ∷ []) (program_copy profile shows body)) (profile_of word)) []
+-- a program as the second item of a request
+abbrev pub program_spots : ProgramForm → List Spot
+program_spots f = spots (1 ∷ []) (program_copy f.profile f.shows f.body)
 
 abbrev pub text_spots : Data → List Spot
-text_spots (array (item t (item a (item b no_items)))) = program_spots t a b
-text_spots _ = []
+text_spots program = unwrap_or (option_map program_spots (program_form program)) []
 
 abbrev pub spots_of : Data → List Spot
-spots_of (array (item t (item program no_items))) = text_spots program
-spots_of _ = []
+spots_of request = unwrap_or (option_map text_spots (requested_program request)) []
 
 -- what stands at a path
 abbrev pub value_at : Data → Path → Option Data

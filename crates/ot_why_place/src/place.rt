@@ -3,12 +3,12 @@ ghost use Rattle.std.specs.Prelude.{◌≡◌, IfOk, option_map, slice_get};
 ghost use Rattle.serde_json.specs.Data.{array};
 ghost use Rattle.serde_json.specs.View.{view, items_view};
 ghost use Rattle.ot_program.specs.Meanings.{items};
-ghost use Rattle.ot_why_place.specs.Spots.{spots_of, statements_of, item_numbered, place_at, value_at, text_spots, program_spots, place_by};
+ghost use Rattle.ot_why_place.specs.Spots.{spots_of, statements_of, item_numbered, place_at, value_at, place_by};
 ghost use Rattle.ot_why_place.specs.Seeking.{seek, met_in, counts_by};
 
 use crate::trail::{Place, Trail};
 use crate::walk::{Step, Walk, Which};
-use ot_program::read_profile;
+use ot_program::{program_form, requested_program};
 use serde_json::Value;
 use std::alloc::{AllocError, Global};
 
@@ -77,81 +77,18 @@ fn sought<'a>(
 ) -> Result<Option<Place<'a>>, AllocError>
     ensures { IfOk result (λ found. option_map place_by found ≡ met_in (seek (counts_by which) left (spots_of (view request.now)))) }
 {
-    match request {
-        Value::Array(items) => in_request(alloc, items, which, left),
-        _ => Ok(None),
-    }
-}
-
-#[tactic(auto, using(crate::proofs::PlaceLemmas::requests))]
-fn in_request<'a>(
-    alloc: Global,
-    items: &'a [Value],
-    which: Which,
-    left: u32,
-) -> Result<Option<Place<'a>>, AllocError>
-    ensures { IfOk result (λ found. option_map place_by found ≡ met_in (seek (counts_by which) left (spots_of (array (items_view items.now))))) }
-{
-    if items.len() != 2 {
+    let Some(program) = requested_program(request) else {
         return Ok(None);
-    }
-    match items {
-        [_, program] => in_program(alloc, program, which, left),
-        _ => unreachable!(),
-    }
-}
-
-fn in_program<'a>(
-    alloc: Global,
-    program: &'a Value,
-    which: Which,
-    left: u32,
-) -> Result<Option<Place<'a>>, AllocError>
-    ensures { IfOk result (λ found. option_map place_by found ≡ met_in (seek (counts_by which) left (text_spots (view program.now)))) }
-{
-    match program {
-        Value::Array(items) => in_items(alloc, items, which, left),
-        _ => Ok(None),
-    }
-}
-
-#[tactic(auto, using(crate::proofs::PlaceLemmas::programs))]
-fn in_items<'a>(
-    alloc: Global,
-    items: &'a [Value],
-    which: Which,
-    left: u32,
-) -> Result<Option<Place<'a>>, AllocError>
-    ensures { IfOk result (λ found. option_map place_by found ≡ met_in (seek (counts_by which) left (text_spots (array (items_view items.now))))) }
-{
-    if items.len() != 3 {
-        return Ok(None);
-    }
-    match items {
-        [tag, shows, body] => in_body(alloc, tag, shows, body, which, left),
-        _ => unreachable!(),
-    }
-}
-
-fn in_body<'a>(
-    alloc: Global,
-    tag: &Value,
-    shows: &'a Value,
-    body: &'a Value,
-    which: Which,
-    left: u32,
-) -> Result<Option<Place<'a>>, AllocError>
-    ensures { IfOk result (λ found. option_map place_by found ≡ met_in (seek (counts_by which) left (program_spots (view tag.now) (view shows.now) (view body.now)))) }
-{
-    let Some(profile) = read_profile(tag) else {
+    };
+    let Some(form) = program_form(program) else {
         return Ok(None);
     };
     let walk = Walk {
         alloc,
-        profile,
+        profile: form.profile,
         which,
     };
-    match walk.program(shows, body, left)? {
+    match walk.program(form.shows, form.body, left)? {
         Step::Skipped(_) => Ok(None),
         Step::Met(place) => Ok(Some(place)),
     }

@@ -6,7 +6,8 @@ use Rattle.ot_model.specs.declared.fold.Fold.{Fold as Operation}
 use Rattle.ot_model.specs.declared.fold.Fold.TheVariants.{Plus}
 use Rattle.ot_model.specs.declared.stmt.Use.{Use}
 use Rattle.ot_program.specs.Limits.{cells_in}
-use Rattle.ot_program.specs.Meanings.{Bindings, fold_of, is_name, is_word, is_one, is_two, profile_of}
+use Rattle.ot_program.specs.Meanings.{Bindings, fold_of, is_name, is_word, is_one, is_two}
+use Rattle.ot_program.specs.Requested.{ProgramForm}
 use Rattle.ot_program.specs.walk.Parts.{cell_of, sections_of, expression_of, clauses_of, wait_clauses_of, declaration}
 use Rattle.ot_program.specs.walk.Reading.{◌>>=◌, both_of}
 use Rattle.ot_program.specs.walk.Sizes.{size_of, shallow}
@@ -233,12 +234,7 @@ program_at shape profile shows body = do
   read ← body_in shape profile first_level body [] p.1
   Ok (program_expanded p.0 read)
 
-abbrev pub walk_in : Arrays → Option Profile → Data → Data → Result Expanded Refusal
-walk_in shape None shows body = Err Form
-walk_in shape (Some profile) shows body = program_at shape profile shows body
-
--- What a text is as a program over a shape: its expansion, or why it is refused. It has the form
--- `["program", [section, ..], body]` or `["program2", [section, ..], body]`.
-abbrev pub walk_of : Arrays → Data → Result Expanded Refusal
-walk_of shape (array (item t (item a (item b no_items)))) = walk_in shape (profile_of t) a b
-walk_of shape _ = Err Form
+-- What a text of this form is as a program over a shape: its expansion, or why it is refused.
+abbrev pub walk_in : Arrays → Option ProgramForm → Result Expanded Refusal
+walk_in shape None = Err Form
+walk_in shape (Some f) = program_at shape f.profile f.shows f.body
