@@ -3,6 +3,7 @@ use Rattle.std.proofs.Common.{◌≡◌, ℕ, zero, suc, ◌+◌, ◌-◌, ◌�
 use Rattle.std.specs.Prelude.{max, nat_lt, nat_le, is_some, if◌then◌else◌}
 use Rattle.std.proofs.Math.Nat.{le-max_left, le-max_right}
 use Rattle.std.proofs.lemmas.Bool.Decides.{nat_tests}
+use Rattle.ot_c_words.specs.Reading.{◌>>=◌, behind_mark}
 use Rattle.ot_c_words.specs.declared.known.Known.TheVariants as k
 use Rattle.ot_c_words.specs.declared.mark.Mark.{Mark}
 use Rattle.ot_c_words.specs.declared.mark.Mark.TheVariants as m
@@ -21,7 +22,7 @@ use Rattle.ot_c_expressions.specs.declared.tree.Call.{Call}
 use Rattle.ot_c_expressions.specs.declared.tree.Call.TheVariants as c
 use Rattle.ot_c_expressions.specs.Signs.{binds, sign_of, begin_of, sign_read, any_sign, if_tight, front_sign}
 use Rattle.ot_c_expressions.specs.Tree.{E, Literal, Variable, CellAt, Unsigned, Signed, Called, Apply, Choose}
-use Rattle.ot_c_expressions.specs.Reading.{◌>>=◌, Read, open_at, close_at, close_index_at, comma_at, colon_at, call_of, is_unsigned, cast_end, indexed_at, named_at, called_at, bracket_at, prefixed_at, operand_at, go_on, too_long, more_at, question_at, choice_read, choice_at, value_at}
+use Rattle.ot_c_expressions.specs.Reading.{Read, call_of, is_unsigned, cast_end, indexed_at, named_at, called_at, bracket_at, prefixed_at, operand_at, go_on, too_long, more_at, question_at, choice_read, choice_at, value_at}
 use Rattle.ot_c_expressions.specs.Spelling.{sorts, sort_of, sign_mark, unary_mark, call_name, in_brackets, words_wanted, words_of_value, behind_side, value_with_places, row, depth_in_brackets, depth, IsName, IsPlain, goes_on}
 
 -- ---- numbers
@@ -185,7 +186,7 @@ sign_step inner sign t n a b ws rest fits read =
 
 bracket_back : (d : ℕ) (e : E) (ws rest : List Word) → cast_end (ws ++ (w.Mark m.Close ∷ rest)) ≡ None → value_at d 1 (ws ++ (w.Mark m.Close ∷ rest)) ≡ Ok (e, w.Mark m.Close ∷ rest)
     → operand_at (value_at d) (in_brackets ws ++ rest) ≡ Ok (e, rest)
-unfolding operand_at begin_of bracket_at close_at
+unfolding operand_at begin_of bracket_at behind_mark
 bracket_back d e ws rest none read = rw (append_assoc ws (w.Mark m.Close ∷ []) rest, none, read) refl
 
 cast_back : (d : ℕ) (e : E) (ws rest : List Word) → value_at d 12 ws ≡ Ok (e, rest) → operand_at (value_at d) (w.Mark m.Open ∷ w.Name (n.Known k.Word64) ∷ w.Mark m.Close ∷ ws) ≡ Ok (Unsigned e, rest)
@@ -218,7 +219,7 @@ variable_back d x rest is alone = rw is (named_alone (value_at d) x rest alone)
 
 cell_back : (d : ℕ) (a : Name) (i : E) (ws rest : List Word) → call_of a ≡ None → value_at d 1 (ws ++ (w.Mark m.CloseIndex ∷ rest)) ≡ Ok (i, w.Mark m.CloseIndex ∷ rest)
     → operand_at (value_at d) (w.Name a ∷ w.Mark m.OpenIndex ∷ ((ws ++ (w.Mark m.CloseIndex ∷ [])) ++ rest)) ≡ Ok (CellAt (length (w.Mark m.OpenIndex ∷ (ws ++ (w.Mark m.CloseIndex ∷ rest))) + 1) a i, rest)
-unfolding operand_at named_at indexed_at close_index_at
+unfolding operand_at named_at indexed_at behind_mark
 cell_back d a i ws rest is read = rw (is, append_assoc ws (w.Mark m.CloseIndex ∷ []) rest, read) refl
 
 call_is : (call : Call) → call_of (call_name call) ≡ Some call
@@ -228,7 +229,7 @@ call_is c.Max = refl
 
 call_back : (d : ℕ) (call : Call) (a : List Word → E) (b : E) (xs ys rest : List Word) → ((r : List Word) → value_at d 1 (xs ++ (w.Mark m.Comma ∷ r)) ≡ Ok (a (w.Mark m.Comma ∷ r), w.Mark m.Comma ∷ r)) → value_at d 1 (ys ++ (w.Mark m.Close ∷ rest)) ≡ Ok (b, w.Mark m.Close ∷ rest)
     → operand_at (value_at d) (w.Name (call_name call) ∷ w.Mark m.Open ∷ ((xs ++ (w.Mark m.Comma ∷ (ys ++ (w.Mark m.Close ∷ [])))) ++ rest)) ≡ Ok (Called (length (w.Mark m.Open ∷ (xs ++ (w.Mark m.Comma ∷ (ys ++ (w.Mark m.Close ∷ rest))))) + 1) call (a (w.Mark m.Comma ∷ (ys ++ (w.Mark m.Close ∷ rest)))) b, rest)
-unfolding operand_at called_at open_at comma_at close_at
+unfolding operand_at called_at behind_mark
 call_back d call a b xs ys rest one two =
     rw (call_is call, append_assoc xs (w.Mark m.Comma ∷ (ys ++ (w.Mark m.Close ∷ []))) rest, one ((ys ++ (w.Mark m.Close ∷ [])) ++ rest), append_assoc ys (w.Mark m.Close ∷ []) rest, two) refl
 
@@ -353,7 +354,7 @@ module _ (l : ℕ) (sign : Sign) (a b : E) (one : Back a) (two : Back b) where
 
 choice_step : (inner : ℕ → List Word → Read) (n : ℕ) (e a b : E) (ws vs rest : List Word) → n ≤ 1 → inner 1 ws ≡ Ok (a, w.Mark m.Colon ∷ vs) → inner 1 vs ≡ Ok (b, rest)
     → choice_at inner n e (w.Mark m.Question ∷ ws) ≡ Ok (Choose (length (w.Mark m.Question ∷ ws)) e a b, rest)
-unfolding choice_at question_at colon_at
+unfolding choice_at question_at behind_mark
 choice_step inner n e a b ws vs rest l one two = rw (up_to_one n l, one, two) refl
 
 module _ (l : ℕ) (e a b : E) (test : Back e) (one : Back a) (other : Back b) where

@@ -1,5 +1,6 @@
 -- The clauses of a directive, from left to right.
-use Rattle.std.specs.Prelude.{ℕ, zero, suc, Bool, true, false, List, [], ◌∷◌, ◌++◌, length, Option, Some, None, Result, Ok, Err, if◌then◌else◌}
+use Rattle.std.specs.Prelude.{ℕ, Bool, true, false, List, [], ◌∷◌, ◌++◌, length, Option, Some, None, Result, Ok, Err, if◌then◌else◌}
+use Rattle.ot_c_words.specs.Reading.{◌>>=◌, steps, behind_mark, name_at}
 use Rattle.ot_c_words.specs.declared.known.Known.TheVariants as k
 use Rattle.ot_c_words.specs.declared.mark.Mark.{Mark}
 use Rattle.ot_c_words.specs.declared.mark.Mark.TheVariants as m
@@ -11,25 +12,20 @@ use Rattle.ot_c_words.specs.declared.word.Word.TheVariants as w
 use Rattle.ot_c_expressions.specs.declared.clause.Kind.{Kind}
 use Rattle.ot_c_expressions.specs.declared.clause.Kind.TheVariants as kind
 use Rattle.ot_c_expressions.specs.declared.fault.Fault.{Fault}
-use Rattle.ot_c_expressions.specs.declared.fault.Fault.TheVariants.{NoMark, NoClause, TooLong}
+use Rattle.ot_c_expressions.specs.declared.fault.Fault.TheVariants.{NoMark, NoName, NoClause, TooLong}
 use Rattle.ot_c_expressions.specs.declared.tree.Operation.{Operation}
 use Rattle.ot_c_expressions.specs.declared.tree.Operation.TheVariants as o
 use Rattle.ot_c_expressions.specs.declared.tree.Role.{Role}
 use Rattle.ot_c_expressions.specs.declared.tree.Role.TheVariants as r
 use Rattle.ot_c_expressions.specs.Tree.{Literal, Part, Whole, Cells, Entry, Span, Claim}
-use Rattle.ot_c_expressions.specs.Reading.{◌>>=◌, Read, open_at, close_at, close_index_at, comma_at, colon_at, assign_at, name_at, value_at}
-
--- step by step, until one says that it was the last
-unfoldable pub steps : {A : Type 0} → (A → List Word → Result (A × Bool × List Word) Fault) → ℕ → A → List Word → Result (A × List Word) Fault
-steps step zero a ws = Err (TooLong (length ws))
-steps step (suc t) a ws = step a ws >>= λ x. if x.1 then steps step t x.0 x.2 else Ok (x.0, x.2)
+use Rattle.ot_c_expressions.specs.Reading.{Read, value_at}
 
 -- ---- items
 
 -- `:3]`, or `]` alone, which is one cell
 unfoldable pub length_at : List Word → Read
-length_at (w.Mark m.Colon ∷ ws) = value_at 72 1 ws >>= λ x. close_index_at x.1 >>= λ rest. Ok (x.0, rest)
-length_at ws = close_index_at ws >>= λ rest. Ok (Literal (length ws) 1 t.Int, rest)
+length_at (w.Mark m.Colon ∷ ws) = value_at 72 1 ws >>= λ x. behind_mark NoMark m.CloseIndex x.1 >>= λ rest. Ok (x.0, rest)
+length_at ws = behind_mark NoMark m.CloseIndex ws >>= λ rest. Ok (Literal (length ws) 1 t.Int, rest)
 
 -- `[2:3]`, or nothing, which is all of it
 unfoldable pub part_at : List Word → Result (Part × List Word) Fault
@@ -41,7 +37,7 @@ abbrev pub part_if : Bool → List Word → Result (Part × List Word) Fault
 part_if parts ws = if parts then part_at ws else Ok (Whole, ws)
 
 unfoldable pub item_at : Bool → List Word → Result (Entry × List Word) Fault
-item_at parts ws = name_at ws >>= λ a. part_if parts a.1 >>= λ p. Ok (record { left = length ws; array = a.0; part = p.0 }, p.1)
+item_at parts ws = name_at NoName ws >>= λ a. part_if parts a.1 >>= λ p. Ok (record { left = length ws; array = a.0; part = p.0 }, p.1)
 
 -- behind an item: whether another follows, or the clause ends
 unfoldable pub item_end : List Word → Result (Bool × List Word) Fault
@@ -53,7 +49,7 @@ unfoldable pub item_step : Bool → List Entry → List Word → Result (List En
 item_step parts front ws = item_at parts ws >>= λ x. item_end x.1 >>= λ y. Ok (front ++ x.0 ∷ [], y.0, y.1)
 
 abbrev pub items_at : Bool → List Word → Result (List Entry × List Word) Fault
-items_at parts ws = steps (item_step parts) (length ws) [] ws
+items_at parts ws = steps TooLong (item_step parts) (length ws) [] ws
 
 -- ---- what a clause says
 
@@ -86,7 +82,7 @@ name_operation (n.Known k.Max) = Some o.Max
 name_operation _ = None
 
 abbrev pub as_operation : List Word → List Word → Option Operation → Result (Operation × List Word) Fault
-as_operation ws rest (Some op) = colon_at rest >>= λ behind. Ok (op, behind)
+as_operation ws rest (Some op) = behind_mark NoMark m.Colon rest >>= λ behind. Ok (op, behind)
 as_operation ws rest None = Err (NoClause (length ws))
 
 -- `+:`
@@ -109,14 +105,14 @@ iterator_end _ = None
 -- `(i = 2:5),`
 unfoldable pub range_at : List Word → Result (Span × List Word) Fault
 range_at ws = do
-  a ← open_at ws
-  variable ← name_at a
-  b ← assign_at variable.1
+  a ← behind_mark NoMark m.Open ws
+  variable ← name_at NoName a
+  b ← behind_mark NoMark m.Assign variable.1
   start ← value_at 72 1 b
-  c ← colon_at start.1
+  c ← behind_mark NoMark m.Colon start.1
   end ← value_at 72 1 c
-  d ← close_at end.1
-  rest ← comma_at d
+  d ← behind_mark NoMark m.Close end.1
+  rest ← behind_mark NoMark m.Comma d
   Ok (record { variable = variable.0; start = start.0; end = end.0 }, rest)
 
 abbrev pub over : List Word → Option (List Word) → Result (Option Span × List Word) Fault
@@ -192,7 +188,7 @@ clause_in left (kind.Stands role) ws = Ok (bare left role, ws)
 
 unfoldable pub bracket_by : Kind → List Word → Result (List Word) Fault
 bracket_by (kind.Stands role) ws = Ok ws
-bracket_by _ ws = open_at ws
+bracket_by _ ws = behind_mark NoMark m.Open ws
 
 -- behind its name
 abbrev pub clause_of_kind : ℕ → Kind → List Word → Result (Claim × List Word) Fault
@@ -230,4 +226,4 @@ clause_step front ws = clause_or_end front ws (directive_end ws)
 
 -- the clauses up to the end of the directive
 abbrev pub clauses_at : List Word → Result (List Claim × List Word) Fault
-clauses_at ws = steps clause_step (length ws) [] ws
+clauses_at ws = steps TooLong clause_step (length ws) [] ws

@@ -1,5 +1,6 @@
 -- Reading values from left to right, with the first fault that is met.
-use Rattle.std.specs.Prelude.{◌≡◌, ℕ, zero, suc, ◌+◌, nat_le, Bool, true, false, List, ◌∷◌, length, Option, Some, None, Result, Ok, Err, if◌then◌else◌}
+use Rattle.std.specs.Prelude.{ℕ, zero, suc, ◌+◌, nat_le, Bool, true, false, List, ◌∷◌, length, Option, Some, None, Result, Ok, Err, if◌then◌else◌}
+use Rattle.ot_c_words.specs.Reading.{◌>>=◌, behind_mark}
 use Rattle.ot_c_words.specs.declared.known.Known.TheVariants as k
 use Rattle.ot_c_words.specs.declared.mark.Mark.TheVariants as m
 use Rattle.ot_c_words.specs.declared.word.Name.{Name}
@@ -7,9 +8,7 @@ use Rattle.ot_c_words.specs.declared.word.Name.TheVariants as n
 use Rattle.ot_c_words.specs.declared.word.Word.{Word}
 use Rattle.ot_c_words.specs.declared.word.Word.TheVariants as w
 use Rattle.ot_c_expressions.specs.declared.fault.Fault.{Fault}
-use Rattle.ot_c_expressions.specs.declared.fault.Fault.TheVariants.{NoValue, NoMark, NoName, TooDeep}
-use Rattle.ot_c_expressions.specs.declared.fault.ReadError.{ReadError}
-use Rattle.ot_c_expressions.specs.declared.fault.ReadError.TheVariants as errors
+use Rattle.ot_c_expressions.specs.declared.fault.Fault.TheVariants.{NoValue, NoMark, TooDeep}
 use Rattle.ot_c_expressions.specs.declared.sign.Begin.{Begin}
 use Rattle.ot_c_expressions.specs.declared.sign.Begin.TheVariants as begins
 use Rattle.ot_c_expressions.specs.declared.sign.Sign.{Sign}
@@ -18,53 +17,6 @@ use Rattle.ot_c_expressions.specs.declared.tree.Call.{Call}
 use Rattle.ot_c_expressions.specs.declared.tree.Call.TheVariants as c
 use Rattle.ot_c_expressions.specs.Signs.{binds, begin_of, front_sign}
 use Rattle.ot_c_expressions.specs.Tree.{E, Literal, Variable, CellAt, Unsigned, Signed, Called, Apply, Choose}
-
-infixl 10 ◌>>=◌
-abbrev pub ◌>>=◌ : {A B : Type 0} → Result A Fault → (A → Result B Fault) → Result B Fault
-(Ok x) >>= f = f x
-(Err e) >>= f = Err e
-
--- what a function returned, seen by view, is what reading gives, unless memory ran out
-abbrev pub Fails : {Y : Type 0} → ReadError → Result Y Fault → Type 0
-Fails errors.Memory read = Unit {0}
-Fails (errors.Fault f) read = read ≡ Err f
-
-abbrev pub Gives : {X Y : Type 0} → (X → Y) → Result X ReadError → Result Y Fault → Type 0
-Gives view (Ok x) read = read ≡ Ok (view x)
-Gives view (Err e) read = Fails e read
-
--- ---- marks that have to stand at the front, and a name
-
-abbrev pub Behind : Type 0
-Behind = Result (List Word) Fault
-
-unfoldable pub open_at : List Word → Behind
-open_at (w.Mark m.Open ∷ ws) = Ok ws
-open_at ws = Err (NoMark (length ws))
-
-unfoldable pub close_at : List Word → Behind
-close_at (w.Mark m.Close ∷ ws) = Ok ws
-close_at ws = Err (NoMark (length ws))
-
-unfoldable pub close_index_at : List Word → Behind
-close_index_at (w.Mark m.CloseIndex ∷ ws) = Ok ws
-close_index_at ws = Err (NoMark (length ws))
-
-unfoldable pub comma_at : List Word → Behind
-comma_at (w.Mark m.Comma ∷ ws) = Ok ws
-comma_at ws = Err (NoMark (length ws))
-
-unfoldable pub colon_at : List Word → Behind
-colon_at (w.Mark m.Colon ∷ ws) = Ok ws
-colon_at ws = Err (NoMark (length ws))
-
-unfoldable pub assign_at : List Word → Behind
-assign_at (w.Mark m.Assign ∷ ws) = Ok ws
-assign_at ws = Err (NoMark (length ws))
-
-unfoldable pub name_at : List Word → Result (Name × List Word) Fault
-name_at (w.Name n ∷ ws) = Ok (n, ws)
-name_at ws = Err (NoName (length ws))
 
 -- ---- operands
 
@@ -87,7 +39,7 @@ cast_end (w.Name n ∷ w.Mark m.Close ∷ ws) = if is_unsigned n then Some ws el
 cast_end _ = None
 
 unfoldable pub indexed_at : (ℕ → List Word → Read) → Name → List Word → Read
-indexed_at inner a ws = inner 1 ws >>= λ x. close_index_at x.1 >>= λ rest. Ok (CellAt (length (w.Mark m.OpenIndex ∷ ws) + 1) a x.0, rest)
+indexed_at inner a ws = inner 1 ws >>= λ x. behind_mark NoMark m.CloseIndex x.1 >>= λ rest. Ok (CellAt (length (w.Mark m.OpenIndex ∷ ws) + 1) a x.0, rest)
 
 unfoldable pub named_at : (ℕ → List Word → Read) → Name → List Word → Read
 named_at inner a (w.Mark m.OpenIndex ∷ ws) = indexed_at inner a ws
@@ -95,11 +47,11 @@ named_at inner a ws = Ok (Variable (length ws + 1) a, ws)
 
 unfoldable pub called_at : (ℕ → List Word → Read) → Call → List Word → Read
 called_at inner call ws = do
-  a ← open_at ws
+  a ← behind_mark NoMark m.Open ws
   one ← inner 1 a
-  b ← comma_at one.1
+  b ← behind_mark NoMark m.Comma one.1
   two ← inner 1 b
-  rest ← close_at two.1
+  rest ← behind_mark NoMark m.Close two.1
   Ok (Called (length ws + 1) call one.0 two.0, rest)
 
 abbrev pub name_or_call : (ℕ → List Word → Read) → Option Call → Name → List Word → Read
@@ -112,7 +64,7 @@ tightest = 12
 
 abbrev pub cast_or_closed : (ℕ → List Word → Read) → List Word → Option (List Word) → Read
 cast_or_closed inner ws (Some rest) = inner tightest rest >>= λ x. Ok (Unsigned x.0, x.1)
-cast_or_closed inner ws None = inner 1 ws >>= λ x. close_at x.1 >>= λ rest. Ok (x.0, rest)
+cast_or_closed inner ws None = inner 1 ws >>= λ x. behind_mark NoMark m.Close x.1 >>= λ rest. Ok (x.0, rest)
 
 -- behind a bracket: a type and a value, or a value and the bracket's end
 unfoldable pub bracket_at : (ℕ → List Word → Read) → List Word → Read
@@ -157,7 +109,7 @@ abbrev pub choice_read : (ℕ → List Word → Read) → E → List Word → Op
 choice_read inner test ws None = Ok (test, ws)
 choice_read inner test ws (Some rest) = do
   one ← inner 1 rest
-  behind ← colon_at one.1
+  behind ← behind_mark NoMark m.Colon one.1
   other ← inner 1 behind
   Ok (Choose (length ws) test one.0 other.0, other.1)
 

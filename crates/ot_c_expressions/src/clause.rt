@@ -2,11 +2,11 @@
 ghost use Rattle.std.specs.Prelude.{◌≡◌};
 ghost use Rattle.ot_c_expressions.specs.Signs.{view_of_found as seen};
 ghost use Rattle.ot_c_expressions.specs.Tree.{expr_of, part_of, item_of, items_of, range_of, over_of, clause_of, clauses_of};
-ghost use Rattle.ot_c_expressions.specs.Reading.{Gives};
+ghost use Rattle.ot_c_words.specs.Reading.{Gives};
 ghost use Rattle.ot_c_expressions.specs.Clauses as read;
 
 use crate::fault::{Fault, ReadError};
-use crate::marks::{assign, close, close_index, colon, comma, name, open_bracket};
+use crate::marks::{behind_mark, name};
 use crate::tree::{Clause, Expr, Item, Operation, Place, Range, Role};
 use crate::value::read_value;
 use ot_c_words::{IntegerType, Known, Mark, Name, Word};
@@ -38,11 +38,11 @@ fn length(alloc: Global, words: &[Word]) -> Result<(Expr, &[Word]), ReadError>
     match words {
         [Word::Mark(Mark::Colon), rest @ ..] => {
             let (len, rest) = read_value(alloc, rest)?;
-            let rest = close_index(rest)?;
+            let rest = behind_mark(Mark::CloseIndex, rest)?;
             Ok((len, rest))
         }
         _ => {
-            let rest = close_index(words)?;
+            let rest = behind_mark(Mark::CloseIndex, words)?;
             Ok((Expr::Number(words.len(), 1, IntegerType::Int), rest))
         }
     }
@@ -190,7 +190,7 @@ fn as_operation<'a>(
 {
     match found {
         Some(op) => {
-            let rest = colon(rest)?;
+            let rest = behind_mark(Mark::Colon, rest)?;
             Ok((op, rest))
         }
         None => Err(ReadError::Fault(Fault::NoClause(words.len()))),
@@ -232,14 +232,14 @@ fn iterator_end(words: &[Word]) -> Option<&[Word]>
 fn range(alloc: Global, words: &[Word]) -> Result<(Range, &[Word]), ReadError>
     ensures { Gives (λ x. (range_of x.0, x.1.now)) result (read.range_at words.now) }
 {
-    let rest = open_bracket(words)?;
+    let rest = behind_mark(Mark::Open, words)?;
     let (variable, rest) = name(rest)?;
-    let rest = assign(rest)?;
+    let rest = behind_mark(Mark::Assign, rest)?;
     let (start, rest) = read_value(alloc, rest)?;
-    let rest = colon(rest)?;
+    let rest = behind_mark(Mark::Colon, rest)?;
     let (end, rest) = read_value(alloc, rest)?;
-    let rest = close(rest)?;
-    let rest = comma(rest)?;
+    let rest = behind_mark(Mark::Close, rest)?;
+    let rest = behind_mark(Mark::Comma, rest)?;
     Ok((
         Range {
             variable,
@@ -434,7 +434,7 @@ fn bracket_by(kind: Kind, words: &[Word]) -> Result<&[Word], ReadError>
 {
     match kind {
         Kind::Stands(_) => Ok(words),
-        _ => open_bracket(words),
+        _ => behind_mark(Mark::Open, words),
     }
 }
 

@@ -1,8 +1,4 @@
 //! Why words aren't read.
-ghost use Rattle.std.specs.Prelude.{◌≡◌};
-ghost use Rattle.ot_c_expressions.specs.declared.fault.ReadError.TheVariants.{Memory};
-
-use std::alloc::{AllocError, AllocFailed};
 
 /// What is wrong, with how many words are left where it is.
 #[derive(Clone, Copy, Debug, PartialEq, Eq)]
@@ -21,24 +17,5 @@ pub enum Fault {
     TooLong(usize),
 }
 
-#[derive(Debug, Drop)]
-pub enum ReadError {
-    Memory,
-    Fault(Fault),
-}
-
-impl From<AllocError> for ReadError {
-    ghost from_gives = { λ _ e. e ≡ Memory };
-
-    fn from(_e: AllocError) -> ReadError {
-        ReadError::Memory
-    }
-}
-
-impl<T: Drop> From<AllocFailed<T>> for ReadError {
-    ghost from_gives = { λ _ e. e ≡ Memory };
-
-    fn from(_e: AllocFailed<T>) -> ReadError {
-        ReadError::Memory
-    }
-}
+/// Why nothing was read: want of memory, or such a fault.
+pub type ReadError = ot_c_words::ReadError<Fault>;

@@ -1,12 +1,13 @@
 //! Values, by how tightly signs bind.
 ghost use Rattle.std.specs.Prelude.{◌≡◌, ◌≤◌};
+ghost use Rattle.ot_c_words.specs.Reading.{Gives};
 ghost use Rattle.ot_c_expressions.specs.Signs.{view_of_found};
 ghost use Rattle.ot_c_expressions.specs.Tree.{expr_of};
-ghost use Rattle.ot_c_expressions.specs.Reading.{Gives, operand_at, named_at, called_at, bracket_at, prefixed_at, more_at, choice_at, value_at};
+ghost use Rattle.ot_c_expressions.specs.Reading.{operand_at, named_at, called_at, bracket_at, prefixed_at, more_at, choice_at, value_at};
 ghost use Rattle.ot_c_expressions.specs.Reading as read;
 
 use crate::fault::{Fault, ReadError};
-use crate::marks::{close, close_index, colon, comma, open_bracket};
+use crate::marks::behind_mark;
 use crate::sign::{Begin, Unary, begin_of, binds, front_sign};
 use crate::tree::{Call, Expr};
 use ot_c_words::{Known, Mark, Name, Word};
@@ -67,7 +68,7 @@ fn named(
     match words {
         [Word::Mark(Mark::OpenIndex), rest @ ..] => {
             let (index, rest) = value(alloc, depth, 1, rest)?;
-            let rest = close_index(rest)?;
+            let rest = behind_mark(Mark::CloseIndex, rest)?;
             let left = words.len() + 1;
             Ok((Expr::Cell(left, name, Box::new(alloc, index)?), rest))
         }
@@ -87,11 +88,11 @@ fn called(
     requires { depth ≤ 72 }
     ensures { Gives (λ x. (expr_of x.0, x.1.now)) result (called_at (value_at depth) call words.now) }
 {
-    let rest = open_bracket(words)?;
+    let rest = behind_mark(Mark::Open, words)?;
     let (one, rest) = value(alloc, depth, 1, rest)?;
-    let rest = comma(rest)?;
+    let rest = behind_mark(Mark::Comma, rest)?;
     let (two, rest) = value(alloc, depth, 1, rest)?;
-    let rest = close(rest)?;
+    let rest = behind_mark(Mark::Close, rest)?;
     let left = words.len() + 1;
     let expr = Expr::Call(left, call, Box::new(alloc, one)?, Box::new(alloc, two)?);
     Ok((expr, rest))
@@ -111,7 +112,7 @@ fn bracket(alloc: Global, depth: u32, words: &[Word]) -> Result<(Expr, &[Word]),
         }
         None => {
             let (expr, rest) = value(alloc, depth, 1, words)?;
-            let rest = close(rest)?;
+            let rest = behind_mark(Mark::Close, rest)?;
             Ok((expr, rest))
         }
     }
@@ -217,7 +218,7 @@ fn choice(
         return Ok((test, words));
     };
     let (one, rest) = value(alloc, depth, 1, rest)?;
-    let rest = colon(rest)?;
+    let rest = behind_mark(Mark::Colon, rest)?;
     let (other, rest) = value(alloc, depth, 1, rest)?;
     let expr = Expr::Choice(
         words.len(),

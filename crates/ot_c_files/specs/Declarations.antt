@@ -1,5 +1,6 @@
 -- Declarations of arrays and variables, from left to right.
 use Rattle.std.specs.Prelude.{Bool, true, false, ◌||◌, is_some, List, [], ◌∷◌, ◌++◌, length, Option, Some, None, Result, Ok, if◌then◌else◌}
+use Rattle.ot_c_words.specs.Reading.{◌>>=◌, steps, behind_mark, name_at}
 use Rattle.ot_c_words.specs.declared.known.Known.TheVariants as k
 use Rattle.ot_c_words.specs.declared.mark.Mark.TheVariants as m
 use Rattle.ot_c_words.specs.declared.word.Name.{Name}
@@ -7,8 +8,9 @@ use Rattle.ot_c_words.specs.declared.word.Name.TheVariants as n
 use Rattle.ot_c_words.specs.declared.word.Word.{Word}
 use Rattle.ot_c_words.specs.declared.word.Word.TheVariants as w
 use Rattle.ot_c_statements.specs.declared.fault.Fault.{Fault}
+use Rattle.ot_c_statements.specs.declared.fault.Fault.TheVariants.{NoMark, NoName, TooLong}
 use Rattle.ot_c_files.specs.Program.{Start, Unset, One, Many, Cells, Declared}
-use Rattle.ot_c_statements.specs.Reading.{◌>>=◌, steps, close_block_at, semicolon_at, name_at, another, index_at, value, values}
+use Rattle.ot_c_statements.specs.Reading.{another, index_at, value, values}
 use Rattle.ot_c_statements.specs.Loops.{type_word, type_at}
 
 unfoldable pub is_static : Name → Bool
@@ -36,7 +38,7 @@ declares _ = false
 
 -- behind `=`: a value, or some in braces
 unfoldable pub initial_value : List Word → Result (Start × List Word) Fault
-initial_value (w.Mark m.OpenBlock ∷ ws) = values ws >>= λ x. close_block_at x.1 >>= λ rest. Ok (Many x.0, rest)
+initial_value (w.Mark m.OpenBlock ∷ ws) = values ws >>= λ x. behind_mark NoMark m.CloseBlock x.1 >>= λ rest. Ok (Many x.0, rest)
 initial_value ws = value ws >>= λ x. Ok (One x.0, x.1)
 
 -- `= 1`, `= {1, 2}` or nothing
@@ -46,7 +48,7 @@ initial_at ws = Ok (Unset, ws)
 
 unfoldable pub variable_at : List Word → Result (Cells × List Word) Fault
 variable_at ws = do
-  name ← name_at ws
+  name ← name_at NoName ws
   size ← index_at name.1
   initial ← initial_at size.1
   Ok (record { left = length ws; name = name.0; length = size.0; initial = initial.0 }, initial.1)
@@ -56,12 +58,12 @@ unfoldable pub variables_step : List Cells → List Word → Result (List Cells 
 variables_step front ws = variable_at ws >>= λ x. Ok (front ++ x.0 ∷ [], (another x.1).0, (another x.1).1)
 
 abbrev pub variables_at : List Word → Result (List Cells × List Word) Fault
-variables_at ws = steps variables_step (length ws) [] ws
+variables_at ws = steps TooLong variables_step (length ws) [] ws
 
 -- `static uint64_t a[3] = {1, 2}, b;`
 unfoldable pub declaration_at : List Word → Result (Declared × List Word) Fault
 declaration_at ws = do
   kind ← type_at (storage ws (static_end ws)).1
   variables ← variables_at kind.1
-  rest ← semicolon_at variables.1
+  rest ← behind_mark NoMark m.Semicolon variables.1
   Ok (record { stays = (storage ws (static_end ws)).0; kind = kind.0; variables = variables.0 }, rest)

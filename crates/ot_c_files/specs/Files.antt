@@ -1,5 +1,6 @@
 -- A file whole, from left to right.
 use Rattle.std.specs.Prelude.{ℕ, Bool, true, false, ◌&&◌, List, [], ◌∷◌, ◌++◌, length, Option, Some, None, Result, Ok, Err, if◌then◌else◌}
+use Rattle.ot_c_words.specs.Reading.{◌>>=◌, steps, behind_mark, name_at}
 use Rattle.ot_c_words.specs.declared.known.Known.TheVariants as k
 use Rattle.ot_c_words.specs.declared.mark.Mark.TheVariants as m
 use Rattle.ot_c_words.specs.declared.word.Name.{Name}
@@ -8,10 +9,10 @@ use Rattle.ot_c_words.specs.declared.word.Word.{Word}
 use Rattle.ot_c_words.specs.declared.word.Word.TheVariants as w
 use Rattle.ot_c_expressions.specs.Tree.{E, Literal, Variable}
 use Rattle.ot_c_statements.specs.declared.fault.Fault.{Fault}
-use Rattle.ot_c_statements.specs.declared.fault.Fault.TheVariants.{NoConstant, NoRegion, More}
+use Rattle.ot_c_statements.specs.declared.fault.Fault.TheVariants.{NoMark, NoName, NoConstant, NoRegion, More, TooLong}
 use Rattle.ot_c_statements.specs.Tree.{body_of}
 use Rattle.ot_c_files.specs.Program.{Entry, Constant, Global, Function as FunctionAt, Whole}
-use Rattle.ot_c_statements.specs.Reading.{◌>>=◌, steps, Behind, open_at, close_at, open_block_at, end_at, name_at, value}
+use Rattle.ot_c_statements.specs.Reading.{Behind, end_at, value}
 use Rattle.ot_c_statements.specs.Statements.{statement_at, stmts_at}
 use Rattle.ot_c_files.specs.Declarations.{static_end, declaration_at}
 use Rattle.ot_c_files.specs.declared.known.Function.{Function}
@@ -27,7 +28,7 @@ OneTop = Result (Entry × List Word) Fault
 unfoldable pub constant_value : List Word → Result (E × List Word) Fault
 constant_value (w.Number n t ∷ w.End ∷ ws) = Ok (Literal (length (w.Number n t ∷ w.End ∷ ws)) n t, ws)
 constant_value (w.Name n ∷ w.End ∷ ws) = Ok (Variable (length (w.Name n ∷ w.End ∷ ws)) n, ws)
-constant_value (w.Mark m.Open ∷ ws) = value ws >>= λ x. close_at x.1 >>= λ a. end_at a >>= λ rest. Ok (x.0, rest)
+constant_value (w.Mark m.Open ∷ ws) = value ws >>= λ x. behind_mark NoMark m.Close x.1 >>= λ a. end_at a >>= λ rest. Ok (x.0, rest)
 constant_value ws = Err (NoConstant (length ws))
 
 -- behind `#define`: a name that means nothing by itself
@@ -59,19 +60,19 @@ unfoldable pub function_end : List Word → Option (List Word)
 function_end ws = void_behind ws (static_end ws)
 
 abbrev pub close_behind : List Word → Option (List Word) → Behind
-close_behind ws (Some rest) = close_at rest
-close_behind ws None = close_at ws
+close_behind ws (Some rest) = behind_mark NoMark m.Close rest
+close_behind ws None = behind_mark NoMark m.Close ws
 
 -- `(void)` or `()`
 unfoldable pub parameters_at : List Word → Behind
-parameters_at ws = open_at ws >>= λ rest. close_behind rest (void_end rest)
+parameters_at ws = behind_mark NoMark m.Open ws >>= λ rest. close_behind rest (void_end rest)
 
 -- behind `void`
 unfoldable pub function_at : List Word → OneTop
 function_at ws = do
-  name ← name_at ws
+  name ← name_at NoName ws
   a ← parameters_at name.1
-  b ← open_block_at a
+  b ← behind_mark NoMark m.OpenBlock a
   body ← stmts_at (statement_at 48) b
   Ok (FunctionAt (length ws) name.0 (body_of body.0), body.1)
 
@@ -127,7 +128,7 @@ tops_step front ws = main_or_top front ws (main_begin ws)
 
 -- what stands before `main`, up to its brackets
 abbrev pub tops_at : List Word → Result (List Entry × List Word) Fault
-tops_at ws = steps tops_step (length ws) [] ws
+tops_at ws = steps TooLong tops_step (length ws) [] ws
 
 -- ---- the whole
 
@@ -141,7 +142,7 @@ unfoldable pub file_at : List Word → Result Whole Fault
 file_at ws = do
   tops ← tops_at ws
   a ← parameters_at tops.1
-  b ← open_block_at a
+  b ← behind_mark NoMark m.OpenBlock a
   main ← main_at b
   rest ← none_left main.1
   if has_region main.0 then Ok (record { tops = tops.0; main = main.0 }) else Err (NoRegion (length rest))

@@ -1,7 +1,6 @@
 -- Words that have to stand at the front of what is read of a known function.
 use Rattle.std.specs.Prelude.{ℕ, ◌==◌, List, ◌∷◌, length, Result, Ok, Err, if◌then◌else◌}
 use Rattle.ot_c_words.specs.declared.known.Known.TheVariants as k
-use Rattle.ot_c_words.specs.declared.mark.Mark.TheVariants as m
 use Rattle.ot_c_words.specs.declared.word.Name.TheVariants as n
 use Rattle.ot_c_words.specs.declared.word.Word.{Word}
 use Rattle.ot_c_words.specs.declared.word.Word.TheVariants as w
@@ -24,30 +23,6 @@ for_at ws = Err (NoMark (length ws))
 unfoldable pub printf_at : List Word → Behind
 printf_at (w.Name (n.Known k.Printf) ∷ ws) = Ok ws
 printf_at ws = Err (NoMark (length ws))
-
-unfoldable pub star_at : List Word → Behind
-star_at (w.Mark m.Times ∷ ws) = Ok ws
-star_at ws = Err (NoMark (length ws))
-
-unfoldable pub less_at : List Word → Behind
-less_at (w.Mark m.Less ∷ ws) = Ok ws
-less_at ws = Err (NoMark (length ws))
-
-unfoldable pub equal_at : List Word → Behind
-equal_at (w.Mark m.Equal ∷ ws) = Ok ws
-equal_at ws = Err (NoMark (length ws))
-
-unfoldable pub question_at : List Word → Behind
-question_at (w.Mark m.Question ∷ ws) = Ok ws
-question_at ws = Err (NoMark (length ws))
-
-unfoldable pub colon_at : List Word → Behind
-colon_at (w.Mark m.Colon ∷ ws) = Ok ws
-colon_at ws = Err (NoMark (length ws))
-
-unfoldable pub increment_at : List Word → Behind
-increment_at (w.Mark m.Increment ∷ ws) = Ok ws
-increment_at ws = Err (NoMark (length ws))
 
 unfoldable pub zero_at : List Word → Behind
 zero_at (w.Number i t ∷ ws) = if i == 0 then Ok ws else Err (NoMark (length (w.Number i t ∷ ws)))

@@ -1,5 +1,6 @@
 -- What `main` does, from left to right.
 use Rattle.std.specs.Prelude.{Bool, true, false, ◌==◌, ◌&&◌, ◌||◌, List, [], ◌∷◌, ◌++◌, length, Option, Some, None, Result, Ok, if◌then◌else◌}
+use Rattle.ot_c_words.specs.Reading.{◌>>=◌, steps}
 use Rattle.ot_c_words.specs.declared.known.Known.TheVariants as k
 use Rattle.ot_c_words.specs.declared.mark.Mark.TheVariants as m
 use Rattle.ot_c_words.specs.declared.word.Name.{Name}
@@ -7,8 +8,8 @@ use Rattle.ot_c_words.specs.declared.word.Name.TheVariants as n
 use Rattle.ot_c_words.specs.declared.word.Word.{Word}
 use Rattle.ot_c_words.specs.declared.word.Word.TheVariants as w
 use Rattle.ot_c_statements.specs.declared.fault.Fault.{Fault}
+use Rattle.ot_c_statements.specs.declared.fault.Fault.TheVariants.{TooLong}
 use Rattle.ot_c_files.specs.Program.{Act, Local, Region, Does}
-use Rattle.ot_c_statements.specs.Reading.{◌>>=◌, steps}
 use Rattle.ot_c_statements.specs.Statements.{statement_at}
 use Rattle.ot_c_files.specs.Declarations.{declares, declaration_at}
 use Rattle.ot_c_files.specs.Regions.{parallel_end, region_at}
@@ -53,4 +54,4 @@ main_step front ws = act_or_end front ws (main_end ws)
 
 -- what `main` does, up to its end
 abbrev pub main_at : List Word → Result (List Act × List Word) Fault
-main_at ws = steps main_step (length ws) [] ws
+main_at ws = steps TooLong main_step (length ws) [] ws

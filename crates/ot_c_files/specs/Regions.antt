@@ -1,5 +1,6 @@
 -- A parallel region around what one thread does (OpenMP API 5.2, sections 10.1, 10.5 and 11.1).
-use Rattle.std.specs.Prelude.{ℕ, Bool, true, false, List, ◌∷◌, length, Option, Some, None, Result, Ok, Err, if◌then◌else◌}
+use Rattle.std.specs.Prelude.{Bool, true, false, List, ◌∷◌, length, Option, Some, None, Result, Ok, Err, if◌then◌else◌}
+use Rattle.ot_c_words.specs.Reading.{◌>>=◌, behind_mark}
 use Rattle.ot_c_words.specs.declared.known.Known.TheVariants as k
 use Rattle.ot_c_words.specs.declared.mark.Mark.TheVariants as m
 use Rattle.ot_c_words.specs.declared.word.Name.{Name}
@@ -8,10 +9,10 @@ use Rattle.ot_c_words.specs.declared.word.Word.{Word}
 use Rattle.ot_c_words.specs.declared.word.Word.TheVariants as w
 use Rattle.ot_c_expressions.specs.Tree.{Claim}
 use Rattle.ot_c_statements.specs.declared.fault.Fault.{Fault}
-use Rattle.ot_c_statements.specs.declared.fault.Fault.TheVariants.{NoSingle}
+use Rattle.ot_c_statements.specs.declared.fault.Fault.TheVariants.{NoMark, NoSingle}
 use Rattle.ot_c_statements.specs.declared.directive.Directive.TheVariants as d
 use Rattle.ot_c_statements.specs.Tree.{Body}
-use Rattle.ot_c_statements.specs.Reading.{◌>>=◌, Behind, close_block_at}
+use Rattle.ot_c_statements.specs.Reading.{Behind}
 use Rattle.ot_c_statements.specs.Directives.{own_clauses}
 use Rattle.ot_c_statements.specs.Statements.{Bodied, body_at, statement_at}
 
@@ -41,7 +42,7 @@ alone_at ws = single_at ws >>= λ rest. body_at (statement_at 48) rest
 
 -- what one thread does, and no more, in a block or not
 unfoldable pub within_at : List Word → Bodied
-within_at (w.Mark m.OpenBlock ∷ ws) = alone_at ws >>= λ x. close_block_at x.1 >>= λ rest. Ok (x.0, rest)
+within_at (w.Mark m.OpenBlock ∷ ws) = alone_at ws >>= λ x. behind_mark NoMark m.CloseBlock x.1 >>= λ rest. Ok (x.0, rest)
 within_at ws = alone_at ws
 
 -- behind `#pragma omp parallel`

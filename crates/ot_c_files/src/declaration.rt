@@ -1,13 +1,13 @@
 //! Declarations of arrays and variables.
 ghost use Rattle.std.specs.Prelude.{◌≡◌};
+ghost use Rattle.ot_c_words.specs.Reading.{Gives};
 ghost use Rattle.ot_c_expressions.specs.Signs.{view_of_found as seen};
-ghost use Rattle.ot_c_statements.specs.Reading.{Gives};
 ghost use Rattle.ot_c_statements.specs.Tree.{index_of};
 ghost use Rattle.ot_c_files.specs.Program.{initial_of, variable_of, variables_of, declaration_of};
 ghost use Rattle.ot_c_files.specs.Declarations as read;
 
 use crate::program::{Declaration, Initial, Variable};
-use ot_c_statements::marks::{another, close_block, name, semicolon};
+use ot_c_statements::marks::{another, behind_mark, name};
 use ot_c_statements::{Fault, ReadError, integer_type, read_index, type_word, value, values};
 use ot_c_words::{Known, Mark, Name, Word};
 use std::alloc::Global;
@@ -67,7 +67,7 @@ fn initial_value(alloc: Global, words: &[Word]) -> Result<(Initial, &[Word]), Re
     match words {
         [Word::Mark(Mark::OpenBlock), rest @ ..] => {
             let (values, rest) = values(alloc, rest)?;
-            let rest = close_block(rest)?;
+            let rest = behind_mark(Mark::CloseBlock, rest)?;
             Ok((Initial::Values(values), rest))
         }
         _ => {
@@ -148,7 +148,7 @@ pub(crate) fn declaration(
     let (stays, rest) = storage(words);
     let (kind, rest) = integer_type(rest)?;
     let (variables, rest) = variables(alloc, rest)?;
-    let rest = semicolon(rest)?;
+    let rest = behind_mark(Mark::Semicolon, rest)?;
     let declaration = Declaration {
         stays,
         kind,

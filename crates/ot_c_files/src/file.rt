@@ -1,8 +1,8 @@
 //! A file whole.
 ghost use Rattle.std.specs.Prelude.{◌≡◌};
+ghost use Rattle.ot_c_words.specs.Reading.{Gives};
 ghost use Rattle.ot_c_expressions.specs.Tree.{expr_of};
 ghost use Rattle.ot_c_expressions.specs.Signs.{view_of_found as seen};
-ghost use Rattle.ot_c_statements.specs.Reading.{Gives};
 ghost use Rattle.ot_c_files.specs.Program.{top_of, tops_of, file_of};
 ghost use Rattle.ot_c_files.specs.Files as read;
 
@@ -11,7 +11,7 @@ use crate::known::{known_begin, known_end};
 use crate::main_body::{has_region, main_body};
 use crate::program::{File, Top};
 use ot_c_expressions::Expr;
-use ot_c_statements::marks::{close, directive_end, name, open_block, open_bracket};
+use ot_c_statements::marks::{behind_mark, directive_end, name};
 use ot_c_statements::{Fault, ReadError, read_block, value};
 use ot_c_words::{Known, Mark, Name, Word};
 use std::alloc::Global;
@@ -28,7 +28,7 @@ fn constant_value(alloc: Global, words: &[Word]) -> Result<(Expr, &[Word]), Read
         [Word::Name(name), Word::End, rest @ ..] => Ok((Expr::Variable(words.len(), *name), rest)),
         [Word::Mark(Mark::Open), rest @ ..] => {
             let (value, rest) = value(alloc, rest)?;
-            let rest = close(rest)?;
+            let rest = behind_mark(Mark::Close, rest)?;
             let rest = directive_end(rest)?;
             Ok((value, rest))
         }
@@ -91,10 +91,10 @@ fn function_end(words: &[Word]) -> Option<&[Word]>
 fn parameters(words: &[Word]) -> Result<&[Word], ReadError>
     ensures { Gives (λ x. x.now) result (read.parameters_at words.now) }
 {
-    let rest = open_bracket(words)?;
+    let rest = behind_mark(Mark::Open, words)?;
     match void_end(rest) {
-        Some(behind) => close(behind),
-        None => close(rest),
+        Some(behind) => behind_mark(Mark::Close, behind),
+        None => behind_mark(Mark::Close, rest),
     }
 }
 
@@ -105,7 +105,7 @@ fn function(alloc: Global, words: &[Word]) -> Result<(Top, &[Word]), ReadError>
 {
     let (name, rest) = name(words)?;
     let rest = parameters(rest)?;
-    let rest = open_block(rest)?;
+    let rest = behind_mark(Mark::OpenBlock, rest)?;
     let (body, rest) = read_block(alloc, rest)?;
     Ok((Top::Function(words.len(), name, body), rest))
 }
@@ -247,7 +247,7 @@ pub fn read_file(alloc: Global, words: &[Word]) -> Result<File, ReadError>
 {
     let (tops, rest) = tops(alloc, words)?;
     let rest = parameters(rest)?;
-    let rest = open_block(rest)?;
+    let rest = behind_mark(Mark::OpenBlock, rest)?;
     let (main, rest) = main_body(alloc, rest)?;
     let rest = none_left(rest)?;
     if has_region(&main) {

@@ -1,10 +1,10 @@
 //! Words that have to stand at the front of what is read of a known function.
 ghost use Rattle.std.specs.Prelude.{◌≡◌};
-ghost use Rattle.ot_c_statements.specs.Reading.{Gives};
+ghost use Rattle.ot_c_words.specs.Reading.{Gives};
 ghost use Rattle.ot_c_files.specs.Fixed as read;
 
 use ot_c_statements::{Fault, ReadError};
-use ot_c_words::{Known, Mark, Name, Word};
+use ot_c_words::{Known, Name, Word};
 
 #[tactic(auto, unfolding(crate::specs::Fixed::return_at))]
 pub(crate) fn return_word(words: &[Word]) -> Result<&[Word], ReadError>
@@ -42,66 +42,6 @@ pub(crate) fn printf_word(words: &[Word]) -> Result<&[Word], ReadError>
 {
     match words {
         [Word::Name(Name::Known(Known::Printf)), rest @ ..] => Ok(rest),
-        _ => Err(ReadError::Fault(Fault::NoMark(words.len()))),
-    }
-}
-
-#[tactic(auto, unfolding(crate::specs::Fixed::star_at))]
-pub(crate) fn star(words: &[Word]) -> Result<&[Word], ReadError>
-    ensures { Gives (λ x. x.now) result (read.star_at words.now) }
-{
-    match words {
-        [Word::Mark(Mark::Times), rest @ ..] => Ok(rest),
-        _ => Err(ReadError::Fault(Fault::NoMark(words.len()))),
-    }
-}
-
-#[tactic(auto, unfolding(crate::specs::Fixed::less_at))]
-pub(crate) fn less(words: &[Word]) -> Result<&[Word], ReadError>
-    ensures { Gives (λ x. x.now) result (read.less_at words.now) }
-{
-    match words {
-        [Word::Mark(Mark::Less), rest @ ..] => Ok(rest),
-        _ => Err(ReadError::Fault(Fault::NoMark(words.len()))),
-    }
-}
-
-#[tactic(auto, unfolding(crate::specs::Fixed::equal_at))]
-pub(crate) fn equal(words: &[Word]) -> Result<&[Word], ReadError>
-    ensures { Gives (λ x. x.now) result (read.equal_at words.now) }
-{
-    match words {
-        [Word::Mark(Mark::Equal), rest @ ..] => Ok(rest),
-        _ => Err(ReadError::Fault(Fault::NoMark(words.len()))),
-    }
-}
-
-#[tactic(auto, unfolding(crate::specs::Fixed::question_at))]
-pub(crate) fn question(words: &[Word]) -> Result<&[Word], ReadError>
-    ensures { Gives (λ x. x.now) result (read.question_at words.now) }
-{
-    match words {
-        [Word::Mark(Mark::Question), rest @ ..] => Ok(rest),
-        _ => Err(ReadError::Fault(Fault::NoMark(words.len()))),
-    }
-}
-
-#[tactic(auto, unfolding(crate::specs::Fixed::colon_at))]
-pub(crate) fn colon(words: &[Word]) -> Result<&[Word], ReadError>
-    ensures { Gives (λ x. x.now) result (read.colon_at words.now) }
-{
-    match words {
-        [Word::Mark(Mark::Colon), rest @ ..] => Ok(rest),
-        _ => Err(ReadError::Fault(Fault::NoMark(words.len()))),
-    }
-}
-
-#[tactic(auto, unfolding(crate::specs::Fixed::increment_at))]
-pub(crate) fn increment(words: &[Word]) -> Result<&[Word], ReadError>
-    ensures { Gives (λ x. x.now) result (read.increment_at words.now) }
-{
-    match words {
-        [Word::Mark(Mark::Increment), rest @ ..] => Ok(rest),
         _ => Err(ReadError::Fault(Fault::NoMark(words.len()))),
     }
 }

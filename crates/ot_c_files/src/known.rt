@@ -1,21 +1,17 @@
 //! Functions that are known by their bodies: what `min` and `max` give, and what `show` prints. They read so but for
 //! their parameters' names.
 ghost use Rattle.std.specs.Prelude.{◌≡◌};
+ghost use Rattle.ot_c_words.specs.Reading.{Gives};
 ghost use Rattle.ot_c_expressions.specs.Signs.{view_of_found as seen};
-ghost use Rattle.ot_c_statements.specs.Reading.{Gives};
 ghost use Rattle.ot_c_files.specs.Known as read;
 
 use crate::declaration::static_end;
 use crate::fixed::{
-    colon, const_word, equal, for_word, increment, less, letter, own_name, printf_word, question,
-    return_word, star, this_name, zero,
+    const_word, for_word, letter, own_name, printf_word, return_word, this_name, zero,
 };
-use ot_c_statements::marks::{
-    assign, close, close_block, close_index, comma, open_block, open_bracket, open_index,
-    semicolon, text,
-};
+use ot_c_statements::marks::{behind_mark, text};
 use ot_c_statements::{Fault, ReadError, integer_type};
-use ot_c_words::{IntegerType, Known, Name, Word};
+use ot_c_words::{IntegerType, Known, Mark, Name, Word};
 
 /// A function that is known.
 #[derive(Clone, Copy)]
@@ -44,12 +40,12 @@ fn word(words: &[Word]) -> Result<(usize, &[Word]), ReadError>
 fn sides(words: &[Word]) -> Result<(usize, usize, &[Word]), ReadError>
     ensures { Gives (λ x. (x.0, x.1, x.2.now)) result (read.sides_at words.now) }
 {
-    let rest = open_bracket(words)?;
+    let rest = behind_mark(Mark::Open, words)?;
     let (one, rest) = word(rest)?;
-    let rest = comma(rest)?;
+    let rest = behind_mark(Mark::Comma, rest)?;
     let (two, rest) = word(rest)?;
-    let rest = close(rest)?;
-    let rest = open_block(rest)?;
+    let rest = behind_mark(Mark::Close, rest)?;
+    let rest = behind_mark(Mark::OpenBlock, rest)?;
     if one == two {
         Err(ReadError::Fault(Fault::NoName(rest.len())))
     } else {
@@ -70,14 +66,14 @@ fn chosen(
 {
     let rest = return_word(words)?;
     let rest = this_name(one, rest)?;
-    let rest = less(rest)?;
+    let rest = behind_mark(Mark::Less, rest)?;
     let rest = this_name(two, rest)?;
-    let rest = question(rest)?;
+    let rest = behind_mark(Mark::Question, rest)?;
     let rest = this_name(first, rest)?;
-    let rest = colon(rest)?;
+    let rest = behind_mark(Mark::Colon, rest)?;
     let rest = this_name(second, rest)?;
-    let rest = semicolon(rest)?;
-    close_block(rest)
+    let rest = behind_mark(Mark::Semicolon, rest)?;
+    behind_mark(Mark::CloseBlock, rest)
 }
 
 /// Behind `min`.
@@ -103,15 +99,15 @@ fn max(words: &[Word]) -> Result<&[Word], ReadError>
 fn shown(words: &[Word]) -> Result<(usize, usize, &[Word]), ReadError>
     ensures { Gives (λ x. (x.0, x.1, x.2.now)) result (read.shown_at words.now) }
 {
-    let rest = open_bracket(words)?;
+    let rest = behind_mark(Mark::Open, words)?;
     let rest = const_word(rest)?;
     let (_, rest) = integer_type(rest)?;
-    let rest = star(rest)?;
+    let rest = behind_mark(Mark::Times, rest)?;
     let (cells, rest) = own_name(rest)?;
-    let rest = comma(rest)?;
+    let rest = behind_mark(Mark::Comma, rest)?;
     let (count, rest) = word(rest)?;
-    let rest = close(rest)?;
-    let rest = open_block(rest)?;
+    let rest = behind_mark(Mark::Close, rest)?;
+    let rest = behind_mark(Mark::OpenBlock, rest)?;
     Ok((cells, count, rest))
 }
 
@@ -121,18 +117,18 @@ fn each(count: usize, words: &[Word]) -> Result<(usize, &[Word]), ReadError>
     ensures { Gives (λ x. (x.0, x.1.now)) result (read.each_at count words.now) }
 {
     let rest = for_word(words)?;
-    let rest = open_bracket(rest)?;
+    let rest = behind_mark(Mark::Open, rest)?;
     let (place, rest) = word(rest)?;
-    let rest = assign(rest)?;
+    let rest = behind_mark(Mark::Assign, rest)?;
     let rest = zero(rest)?;
-    let rest = semicolon(rest)?;
+    let rest = behind_mark(Mark::Semicolon, rest)?;
     let rest = this_name(place, rest)?;
-    let rest = less(rest)?;
+    let rest = behind_mark(Mark::Less, rest)?;
     let rest = this_name(count, rest)?;
-    let rest = semicolon(rest)?;
+    let rest = behind_mark(Mark::Semicolon, rest)?;
     let rest = this_name(place, rest)?;
-    let rest = increment(rest)?;
-    let rest = close(rest)?;
+    let rest = behind_mark(Mark::Increment, rest)?;
+    let rest = behind_mark(Mark::Close, rest)?;
     Ok((place, rest))
 }
 
@@ -142,13 +138,13 @@ fn mark(place: usize, words: &[Word]) -> Result<&[Word], ReadError>
     ensures { Gives (λ x. x.now) result (read.mark_at place words.now) }
 {
     let rest = this_name(place, words)?;
-    let rest = equal(rest)?;
+    let rest = behind_mark(Mark::Equal, rest)?;
     let rest = zero(rest)?;
-    let rest = question(rest)?;
+    let rest = behind_mark(Mark::Question, rest)?;
     let rest = letter(b'[', rest)?;
-    let rest = colon(rest)?;
+    let rest = behind_mark(Mark::Colon, rest)?;
     let rest = letter(b',', rest)?;
-    comma(rest)
+    behind_mark(Mark::Comma, rest)
 }
 
 /// `printf("%c%" PRIu64, i == 0 ? '[' : ',', cells[i]);`
@@ -157,17 +153,17 @@ fn cell(cells: usize, place: usize, words: &[Word]) -> Result<&[Word], ReadError
     ensures { Gives (λ x. x.now) result (read.cell_at cells place words.now) }
 {
     let rest = printf_word(words)?;
-    let rest = open_bracket(rest)?;
+    let rest = behind_mark(Mark::Open, rest)?;
     let rest = text(rest)?;
     let (_, rest) = own_name(rest)?;
-    let rest = comma(rest)?;
+    let rest = behind_mark(Mark::Comma, rest)?;
     let rest = mark(place, rest)?;
     let rest = this_name(cells, rest)?;
-    let rest = open_index(rest)?;
+    let rest = behind_mark(Mark::OpenIndex, rest)?;
     let rest = this_name(place, rest)?;
-    let rest = close_index(rest)?;
-    let rest = close(rest)?;
-    semicolon(rest)
+    let rest = behind_mark(Mark::CloseIndex, rest)?;
+    let rest = behind_mark(Mark::Close, rest)?;
+    behind_mark(Mark::Semicolon, rest)
 }
 
 /// `printf("]"); }`
@@ -176,11 +172,11 @@ fn ended(words: &[Word]) -> Result<&[Word], ReadError>
     ensures { Gives (λ x. x.now) result (read.ended_at words.now) }
 {
     let rest = printf_word(words)?;
-    let rest = open_bracket(rest)?;
+    let rest = behind_mark(Mark::Open, rest)?;
     let rest = text(rest)?;
-    let rest = close(rest)?;
-    let rest = semicolon(rest)?;
-    close_block(rest)
+    let rest = behind_mark(Mark::Close, rest)?;
+    let rest = behind_mark(Mark::Semicolon, rest)?;
+    behind_mark(Mark::CloseBlock, rest)
 }
 
 /// Behind `show`.

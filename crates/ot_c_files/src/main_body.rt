@@ -1,7 +1,7 @@
 //! What `main` does.
 ghost use Rattle.std.specs.Prelude.{◌≡◌};
+ghost use Rattle.ot_c_words.specs.Reading.{Gives};
 ghost use Rattle.ot_c_expressions.specs.Signs.{view_of_found as seen};
-ghost use Rattle.ot_c_statements.specs.Reading.{Gives};
 ghost use Rattle.ot_c_files.specs.Program.{step_of, main_of};
 ghost use Rattle.ot_c_files.specs.Main as read;
 

@@ -1,13 +1,13 @@
 //! A parallel region around what one thread does (OpenMP API 5.2, sections 10.1, 10.5 and 11.1).
 ghost use Rattle.std.specs.Prelude.{◌≡◌};
+ghost use Rattle.ot_c_words.specs.Reading.{Gives};
 ghost use Rattle.ot_c_expressions.specs.Signs.{view_of_found as seen};
 ghost use Rattle.ot_c_expressions.specs.Tree.{clauses_of};
-ghost use Rattle.ot_c_statements.specs.Reading.{Gives};
 ghost use Rattle.ot_c_statements.specs.Tree.{body_of, list_of};
 ghost use Rattle.ot_c_files.specs.Regions as read;
 
 use ot_c_expressions::Clause;
-use ot_c_statements::marks::close_block;
+use ot_c_statements::marks::behind_mark;
 use ot_c_statements::{Directive, Fault, ReadError, Stmt, own_clauses, read_body};
 use ot_c_words::{Known, Mark, Name, Word};
 use std::alloc::Global;
@@ -77,7 +77,7 @@ fn within(alloc: Global, words: &[Word]) -> Result<(Vec<Stmt>, &[Word]), ReadErr
     match words {
         [Word::Mark(Mark::OpenBlock), rest @ ..] => {
             let (body, rest) = alone(alloc, rest)?;
-            let rest = close_block(rest)?;
+            let rest = behind_mark(Mark::CloseBlock, rest)?;
             Ok((body, rest))
         }
         _ => alone(alloc, words),

@@ -1,6 +1,7 @@
 -- Directives, and which clauses each has (OpenMP API 5.2, chapters 10 and 12).
 use Rattle.std.specs.Prelude.{ℕ, ◌==◌, Bool, true, false, not, ◌&&◌, ◌||◌, List, [], ◌∷◌, Option, Some, None, Result, Ok, Err, if◌then◌else◌}
 use Rattle.std.specs.List.{list_any}
+use Rattle.ot_c_words.specs.Reading.{◌>>=◌}
 use Rattle.ot_c_words.specs.declared.known.Known.TheVariants as k
 use Rattle.ot_c_words.specs.declared.word.Name.{Name}
 use Rattle.ot_c_words.specs.declared.word.Name.TheVariants as n
@@ -12,7 +13,7 @@ use Rattle.ot_c_statements.specs.declared.fault.Fault.{Fault}
 use Rattle.ot_c_statements.specs.declared.fault.Fault.TheVariants.{OtherClause}
 use Rattle.ot_c_statements.specs.declared.directive.Directive.{Directive}
 use Rattle.ot_c_statements.specs.declared.directive.Directive.TheVariants as d
-use Rattle.ot_c_statements.specs.Reading.{◌>>=◌, clauses}
+use Rattle.ot_c_statements.specs.Reading.{clauses}
 
 unfoldable pub directive_of : Name → Option Directive
 directive_of (n.Known k.Task) = Some d.Task

@@ -1,5 +1,6 @@
 -- Types, and the turns of a loop.
 use Rattle.std.specs.Prelude.{ℕ, Bool, true, false, List, ◌∷◌, length, Option, Some, None, Result, Ok, Err, ◌==◌, if◌then◌else◌}
+use Rattle.ot_c_words.specs.Reading.{◌>>=◌, behind_mark}
 use Rattle.ot_c_words.specs.declared.known.Known.TheVariants as k
 use Rattle.ot_c_words.specs.declared.mark.Mark.TheVariants as m
 use Rattle.ot_c_words.specs.declared.word.IntegerType.{IntegerType}
@@ -12,7 +13,7 @@ use Rattle.ot_c_expressions.specs.Tree.{E}
 use Rattle.ot_c_statements.specs.declared.fault.Fault.{Fault}
 use Rattle.ot_c_statements.specs.declared.fault.Fault.TheVariants.{NoMark, NoType, NoVariable, OtherVariable, OtherStep}
 use Rattle.ot_c_statements.specs.Tree.{Course}
-use Rattle.ot_c_statements.specs.Reading.{◌>>=◌, Behind, open_at, close_at, assign_at, semicolon_at, value}
+use Rattle.ot_c_statements.specs.Reading.{Behind, value}
 
 -- ---- types
 
@@ -86,12 +87,12 @@ step_at wanted ws = this_at wanted ws >>= λ rest. advance_at rest
 -- `(uint64_t i = 0;`
 unfoldable pub first_at : List Word → Result (IntegerType × ℕ × ℕ × E × List Word) Fault
 first_at ws = do
-  a ← open_at ws
+  a ← behind_mark NoMark m.Open ws
   kind ← type_at a
   variable ← variable_at kind.1
-  b ← assign_at variable.1
+  b ← behind_mark NoMark m.Assign variable.1
   start ← value b
-  rest ← semicolon_at start.1
+  rest ← behind_mark NoMark m.Semicolon start.1
   Ok (kind.0, length kind.1, variable.0, start.0, rest)
 
 -- `i < 8; i++)`
@@ -100,9 +101,9 @@ last_at variable ws = do
   a ← this_at variable ws
   through ← until_at a
   end ← value through.1
-  b ← semicolon_at end.1
+  b ← behind_mark NoMark m.Semicolon end.1
   c ← step_at variable b
-  rest ← close_at c
+  rest ← behind_mark NoMark m.Close c
   Ok (through.0, end.0, rest)
 
 -- behind `for`

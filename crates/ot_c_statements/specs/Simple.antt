@@ -1,6 +1,7 @@
 -- Statements without a body: assignments, calls, and what shows cells.
 use Rattle.std.specs.Prelude.{ℕ, ◌+◌, Bool, true, false, drop, List, [], ◌∷◌, length, Option, Some, None, Result, Ok, Err}
 use Rattle.std.specs.List.{prefix_len}
+use Rattle.ot_c_words.specs.Reading.{◌>>=◌, behind_mark, name_at}
 use Rattle.ot_c_words.specs.declared.mark.Mark.{Mark}
 use Rattle.ot_c_words.specs.declared.mark.Mark.TheVariants as m
 use Rattle.ot_c_words.specs.declared.word.IntegerType.TheVariants as t
@@ -11,11 +12,11 @@ use Rattle.ot_c_expressions.specs.declared.sign.Sign.{Sign}
 use Rattle.ot_c_expressions.specs.declared.sign.Sign.TheVariants as s
 use Rattle.ot_c_expressions.specs.Tree.{E, Literal}
 use Rattle.ot_c_statements.specs.declared.fault.Fault.{Fault}
-use Rattle.ot_c_statements.specs.declared.fault.Fault.TheVariants.{NoMark, Declared}
+use Rattle.ot_c_statements.specs.declared.fault.Fault.TheVariants.{NoMark, NoName, Declared}
 use Rattle.ot_c_statements.specs.declared.simple.Change.{Change}
 use Rattle.ot_c_statements.specs.declared.simple.Change.TheVariants as c
 use Rattle.ot_c_statements.specs.Tree.{Aim, Site, S, Assign, Call, Print, Show, Point}
-use Rattle.ot_c_statements.specs.Reading.{◌>>=◌, open_at, close_at, open_index_at, close_index_at, semicolon_at, comma_at, assign_at, address_at, text_at, name_at, index_at, value, values}
+use Rattle.ot_c_statements.specs.Reading.{text_at, index_at, value, values}
 
 abbrev pub One : Type 0
 One = Result (S × List Word) Fault
@@ -59,7 +60,7 @@ unfoldable pub assignment_at : ℕ → Name → List Word → One
 assignment_at left a ws = do
   target ← target_at left a ws
   change ← change_at target.1
-  rest ← semicolon_at change.2
+  rest ← behind_mark NoMark m.Semicolon change.2
   Ok (Assign left target.0 change.0 change.1, rest)
 
 -- ---- calls
@@ -67,10 +68,10 @@ assignment_at left a ws = do
 -- behind the bracket
 unfoldable pub arguments_at : List Word → Result (List E × List Word) Fault
 arguments_at (w.Mark m.Close ∷ ws) = Ok ([], ws)
-arguments_at ws = values ws >>= λ x. close_at x.1 >>= λ rest. Ok (x.0, rest)
+arguments_at ws = values ws >>= λ x. behind_mark NoMark m.Close x.1 >>= λ rest. Ok (x.0, rest)
 
 unfoldable pub call_at : ℕ → Name → List Word → One
-call_at left f ws = arguments_at ws >>= λ x. semicolon_at x.1 >>= λ rest. Ok (Call left f x.0, rest)
+call_at left f ws = arguments_at ws >>= λ x. behind_mark NoMark m.Semicolon x.1 >>= λ rest. Ok (Call left f x.0, rest)
 
 -- behind a name: a call or an assignment
 unfoldable pub named_at : ℕ → Name → List Word → One
@@ -91,46 +92,46 @@ text_len ws = prefix_len is_text ws
 
 -- behind the text of `printf`
 unfoldable pub printed_at : List Word → Result (List E × List Word) Fault
-printed_at (w.Mark m.Comma ∷ ws) = values ws >>= λ x. close_at x.1 >>= λ rest. Ok (x.0, rest)
-printed_at ws = close_at ws >>= λ rest. Ok ([], rest)
+printed_at (w.Mark m.Comma ∷ ws) = values ws >>= λ x. behind_mark NoMark m.Close x.1 >>= λ rest. Ok (x.0, rest)
+printed_at ws = behind_mark NoMark m.Close ws >>= λ rest. Ok ([], rest)
 
 -- behind `printf`
 unfoldable pub print_at : ℕ → List Word → One
 print_at left ws = do
-  a ← open_at ws
+  a ← behind_mark NoMark m.Open ws
   b ← text_at a
   shown ← printed_at (drop (text_len b) b)
-  rest ← semicolon_at shown.1
+  rest ← behind_mark NoMark m.Semicolon shown.1
   Ok (Print left shown.0, rest)
 
 -- `&a[0]`
 unfoldable pub cell_at : List Word → Result (Site × List Word) Fault
 cell_at ws = do
-  a ← address_at ws
-  array ← name_at a
-  b ← open_index_at array.1
+  a ← behind_mark NoMark m.And ws
+  array ← name_at NoName a
+  b ← behind_mark NoMark m.OpenIndex array.1
   index ← value b
-  rest ← close_index_at index.1
+  rest ← behind_mark NoMark m.CloseIndex index.1
   Ok (record { left = length a; array = array.0; index = index.0 }, rest)
 
 -- behind `show`
 unfoldable pub show_at : ℕ → List Word → One
 show_at left ws = do
-  a ← open_at ws
+  a ← behind_mark NoMark m.Open ws
   cell ← cell_at a
-  b ← comma_at cell.1
+  b ← behind_mark NoMark m.Comma cell.1
   count ← value b
-  c ← close_at count.1
-  rest ← semicolon_at c
+  c ← behind_mark NoMark m.Close count.1
+  rest ← behind_mark NoMark m.Semicolon c
   Ok (Show left cell.0 count.0, rest)
 
 -- behind `uint64_t *`
 unfoldable pub pointer_at : List Word → One
 pointer_at ws = do
-  pointer ← name_at ws
-  a ← assign_at pointer.1
+  pointer ← name_at NoName ws
+  a ← behind_mark NoMark m.Assign pointer.1
   cell ← cell_at a
-  rest ← semicolon_at cell.1
+  rest ← behind_mark NoMark m.Semicolon cell.1
   Ok (Point (length ws) pointer.0 cell.0, rest)
 
 -- behind `uint64_t` or `size_t` in a block: a pointer to a cell, and nothing else

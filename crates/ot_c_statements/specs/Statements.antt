@@ -1,5 +1,6 @@
 -- Statements, from left to right.
 use Rattle.std.specs.Prelude.{ℕ, zero, suc, ◌+◌, ◌-◌, Bool, true, false, List, [], ◌∷◌, ◌++◌, length, Option, Some, None, Result, Ok, Err, if◌then◌else◌}
+use Rattle.ot_c_words.specs.Reading.{◌>>=◌, steps, behind_mark}
 use Rattle.ot_c_words.specs.declared.known.Known.TheVariants as k
 use Rattle.ot_c_words.specs.declared.mark.Mark.TheVariants as m
 use Rattle.ot_c_words.specs.declared.word.Name.{Name}
@@ -7,13 +8,13 @@ use Rattle.ot_c_words.specs.declared.word.Name.TheVariants as n
 use Rattle.ot_c_words.specs.declared.word.Word.{Word}
 use Rattle.ot_c_words.specs.declared.word.Word.TheVariants as w
 use Rattle.ot_c_statements.specs.declared.fault.Fault.{Fault}
-use Rattle.ot_c_statements.specs.declared.fault.Fault.TheVariants.{NoStatement, NoDirective, TooDeep, Declared}
+use Rattle.ot_c_statements.specs.declared.fault.Fault.TheVariants.{NoMark, NoStatement, NoDirective, TooDeep, TooLong, Declared}
 use Rattle.ot_c_statements.specs.declared.directive.Directive.{Directive}
 use Rattle.ot_c_statements.specs.declared.directive.Directive.TheVariants as d
 use Rattle.ot_c_statements.specs.declared.statement.Opening.{Opening}
 use Rattle.ot_c_statements.specs.declared.statement.Opening.TheVariants as o
 use Rattle.ot_c_statements.specs.Tree.{S, Block, If, For, Task, Wait, Group, Yield, Body, End, body_of}
-use Rattle.ot_c_statements.specs.Reading.{◌>>=◌, steps, open_at, close_at, end_at, value}
+use Rattle.ot_c_statements.specs.Reading.{end_at, value}
 use Rattle.ot_c_statements.specs.Loops.{course_at}
 use Rattle.ot_c_statements.specs.Directives.{directive_of, own_clauses}
 use Rattle.ot_c_statements.specs.Simple.{One, named_at, print_at, show_at, local_at}
@@ -80,7 +81,7 @@ module _ (one : List Word → One) where
 
   -- the statements of a block up to its end
   abbrev pub stmts_at : List Word → Many
-  stmts_at ws = steps stmts_step (length ws) [] ws
+  stmts_at ws = steps TooLong stmts_step (length ws) [] ws
 
   -- the statements of a block, or the one statement
   unfoldable pub body_at : List Word → Bodied
@@ -100,9 +101,9 @@ module _ (one : List Word → One) where
   -- behind `if`
   unfoldable pub branch_at : ℕ → List Word → One
   branch_at left ws = do
-    a ← open_at ws
+    a ← behind_mark NoMark m.Open ws
     test ← value a
-    b ← close_at test.1
+    b ← behind_mark NoMark m.Close test.1
     one ← body_at b
     two ← otherwise_at one.1
     Ok (If left test.0 one.0 two.0, two.1)

@@ -1,7 +1,7 @@
 //! Directives, and which clauses each has (OpenMP API 5.2, chapters 10 and 12).
 ghost use Rattle.std.specs.Prelude.{◌≡◌};
+ghost use Rattle.ot_c_words.specs.Reading.{Gives};
 ghost use Rattle.ot_c_expressions.specs.Tree.{clauses_of};
-ghost use Rattle.ot_c_statements.specs.Reading.{Gives};
 ghost use Rattle.ot_c_statements.specs.Directives as read;
 
 use crate::fault::{Fault, ReadError};

@@ -1,12 +1,12 @@
 //! Values and clauses, which `ot_c_expressions` reads.
 ghost use Rattle.std.specs.Prelude.{◌≡◌};
+ghost use Rattle.ot_c_words.specs.Reading.{Gives};
 ghost use Rattle.ot_c_expressions.specs.Tree.{expr_of, clauses_of};
-ghost use Rattle.ot_c_statements.specs.Reading.{Gives};
 ghost use Rattle.ot_c_statements.specs.Tree.{exprs_of, index_of};
 ghost use Rattle.ot_c_statements.specs.Reading as read;
 
 use crate::fault::{Fault, ReadError};
-use crate::marks::{another, close_index};
+use crate::marks::{another, behind_mark};
 use ot_c_expressions::{Clause, Expr, read_clauses, read_value};
 use ot_c_words::{Mark, Word};
 use std::alloc::Global;
@@ -30,7 +30,7 @@ pub fn read_index(alloc: Global, words: &[Word]) -> Result<(Option<Expr>, &[Word
     match words {
         [Word::Mark(Mark::OpenIndex), rest @ ..] => {
             let (index, rest) = value(alloc, rest)?;
-            let rest = close_index(rest)?;
+            let rest = behind_mark(Mark::CloseIndex, rest)?;
             Ok((Some(index), rest))
         }
         _ => Ok((None, words)),

@@ -1,14 +1,12 @@
 //! Statements without a body: assignments, calls, and what shows cells.
 ghost use Rattle.std.specs.Prelude.{◌≡◌, ◌≤◌, length};
+ghost use Rattle.ot_c_words.specs.Reading.{Gives};
 ghost use Rattle.ot_c_expressions.specs.Tree.{expr_of};
-ghost use Rattle.ot_c_statements.specs.Reading.{Gives};
 ghost use Rattle.ot_c_statements.specs.Tree.{aim_of, exprs_of, site_of, stmt_of};
 ghost use Rattle.ot_c_statements.specs.Simple as read;
 
 use crate::fault::{Fault, ReadError};
-use crate::marks::{
-    address, assign, close, close_index, comma, name, open_bracket, open_index, semicolon, text,
-};
+use crate::marks::{behind_mark, name, text};
 use crate::part::{read_index, value, values};
 use crate::tree::{Spot, Stmt, Target};
 use ot_c_expressions::{Expr, Sign};
@@ -108,7 +106,7 @@ fn assignment(
 {
     let (target, rest) = target(alloc, left, array, words)?;
     let (sign, value, rest) = changing(alloc, rest)?;
-    let rest = semicolon(rest)?;
+    let rest = behind_mark(Mark::Semicolon, rest)?;
     Ok((Stmt::Assign(left, target, sign, value), rest))
 }
 
@@ -121,7 +119,7 @@ fn arguments(alloc: Global, words: &[Word]) -> Result<(Vec<Expr>, &[Word]), Read
         [Word::Mark(Mark::Close), rest @ ..] => Ok((Vec::new(alloc), rest)),
         _ => {
             let (values, rest) = values(alloc, words)?;
-            let rest = close(rest)?;
+            let rest = behind_mark(Mark::Close, rest)?;
             Ok((values, rest))
         }
     }
@@ -138,7 +136,7 @@ fn call(
     ensures { Gives (λ x. (stmt_of x.0, x.1.now)) result (read.call_at left function words.now) }
 {
     let (values, rest) = arguments(alloc, words)?;
-    let rest = semicolon(rest)?;
+    let rest = behind_mark(Mark::Semicolon, rest)?;
     Ok((Stmt::Call(left, function, values), rest))
 }
 
@@ -187,11 +185,11 @@ fn printed(alloc: Global, words: &[Word]) -> Result<(Vec<Expr>, &[Word]), ReadEr
     match words {
         [Word::Mark(Mark::Comma), rest @ ..] => {
             let (values, rest) = values(alloc, rest)?;
-            let rest = close(rest)?;
+            let rest = behind_mark(Mark::Close, rest)?;
             Ok((values, rest))
         }
         _ => {
-            let rest = close(words)?;
+            let rest = behind_mark(Mark::Close, words)?;
             Ok((Vec::new(alloc), rest))
         }
     }
@@ -206,10 +204,10 @@ pub(crate) fn print(
 ) -> Result<(Stmt, &[Word]), ReadError>
     ensures { Gives (λ x. (stmt_of x.0, x.1.now)) result (read.print_at left words.now) }
 {
-    let rest = open_bracket(words)?;
+    let rest = behind_mark(Mark::Open, words)?;
     let rest = text(rest)?;
     let (values, rest) = printed(alloc, &rest[text_len(rest)..])?;
-    let rest = semicolon(rest)?;
+    let rest = behind_mark(Mark::Semicolon, rest)?;
     Ok((Stmt::Print(left, values), rest))
 }
 
@@ -218,12 +216,12 @@ pub(crate) fn print(
 fn cell(alloc: Global, words: &[Word]) -> Result<(Spot, &[Word]), ReadError>
     ensures { Gives (λ x. (site_of x.0, x.1.now)) result (read.cell_at words.now) }
 {
-    let rest = address(words)?;
+    let rest = behind_mark(Mark::And, words)?;
     let left = rest.len();
     let (array, rest) = name(rest)?;
-    let rest = open_index(rest)?;
+    let rest = behind_mark(Mark::OpenIndex, rest)?;
     let (index, rest) = value(alloc, rest)?;
-    let rest = close_index(rest)?;
+    let rest = behind_mark(Mark::CloseIndex, rest)?;
     let cell = Spot { left, array, index };
     Ok((cell, rest))
 }
@@ -233,12 +231,12 @@ fn cell(alloc: Global, words: &[Word]) -> Result<(Spot, &[Word]), ReadError>
 pub(crate) fn show(alloc: Global, left: usize, words: &[Word]) -> Result<(Stmt, &[Word]), ReadError>
     ensures { Gives (λ x. (stmt_of x.0, x.1.now)) result (read.show_at left words.now) }
 {
-    let rest = open_bracket(words)?;
+    let rest = behind_mark(Mark::Open, words)?;
     let (cell, rest) = cell(alloc, rest)?;
-    let rest = comma(rest)?;
+    let rest = behind_mark(Mark::Comma, rest)?;
     let (count, rest) = value(alloc, rest)?;
-    let rest = close(rest)?;
-    let rest = semicolon(rest)?;
+    let rest = behind_mark(Mark::Close, rest)?;
+    let rest = behind_mark(Mark::Semicolon, rest)?;
     Ok((Stmt::Show(left, cell, count), rest))
 }
 
@@ -249,9 +247,9 @@ fn pointer(alloc: Global, words: &[Word]) -> Result<(Stmt, &[Word]), ReadError>
 {
     let left = words.len();
     let (pointer, rest) = name(words)?;
-    let rest = assign(rest)?;
+    let rest = behind_mark(Mark::Assign, rest)?;
     let (cell, rest) = cell(alloc, rest)?;
-    let rest = semicolon(rest)?;
+    let rest = behind_mark(Mark::Semicolon, rest)?;
     Ok((Stmt::Point(left, pointer, cell), rest))
 }
 

@@ -1,14 +1,14 @@
 //! Statements.
 ghost use Rattle.std.specs.Prelude.{◌≡◌, ◌≤◌};
+ghost use Rattle.ot_c_words.specs.Reading.{Gives};
 ghost use Rattle.ot_c_expressions.specs.Signs.{view_of_found as seen};
-ghost use Rattle.ot_c_statements.specs.Reading.{Gives};
 ghost use Rattle.ot_c_statements.specs.Tree.{stmt_of, list_of, body_of};
 ghost use Rattle.ot_c_statements.specs.Statements.{statement_at, stmts_at, stmts_step};
 ghost use Rattle.ot_c_statements.specs.Statements as read;
 
 use crate::directive::{Directive, directive_of, own_clauses};
 use crate::fault::{Fault, ReadError};
-use crate::marks::{close, directive_end, open_bracket};
+use crate::marks::{behind_mark, directive_end};
 use crate::part::value;
 use crate::simple::{local, named, print, show};
 use crate::tree::Stmt;
@@ -113,9 +113,9 @@ fn branch(
     requires { depth ≤ 48 }
     ensures { Gives (λ x. (stmt_of x.0, x.1.now)) result (read.branch_at (statement_at depth) left words.now) }
 {
-    let rest = open_bracket(words)?;
+    let rest = behind_mark(Mark::Open, words)?;
     let (test, rest) = value(alloc, rest)?;
-    let rest = close(rest)?;
+    let rest = behind_mark(Mark::Close, rest)?;
     let (one, rest) = body(alloc, depth, rest)?;
     let (two, rest) = otherwise(alloc, depth, rest)?;
     Ok((Stmt::If(left, test, one, two), rest))

@@ -1,12 +1,12 @@
 //! The turns of a loop: `(uint64_t i = 0; i < 8; i++)`.
 ghost use Rattle.std.specs.Prelude.{◌≡◌};
+ghost use Rattle.ot_c_words.specs.Reading.{Gives};
 ghost use Rattle.ot_c_expressions.specs.Tree.{expr_of};
-ghost use Rattle.ot_c_statements.specs.Reading.{Gives};
 ghost use Rattle.ot_c_statements.specs.Tree.{course_of};
 ghost use Rattle.ot_c_statements.specs.Loops as read;
 
 use crate::fault::{Fault, ReadError};
-use crate::marks::{assign, close, open_bracket, semicolon};
+use crate::marks::behind_mark;
 use crate::part::value;
 use crate::tree::Turns;
 use ot_c_expressions::Expr;
@@ -159,13 +159,13 @@ fn first(
 ) -> Result<(IntegerType, usize, usize, Expr, &[Word]), ReadError>
     ensures { Gives (λ x. (x.0, x.1, x.2, expr_of x.3, x.4.now)) result (read.first_at words.now) }
 {
-    let rest = open_bracket(words)?;
+    let rest = behind_mark(Mark::Open, words)?;
     let (kind, rest) = integer_type(rest)?;
     let left = rest.len();
     let (variable, rest) = variable(rest)?;
-    let rest = assign(rest)?;
+    let rest = behind_mark(Mark::Assign, rest)?;
     let (start, rest) = value(alloc, rest)?;
-    let rest = semicolon(rest)?;
+    let rest = behind_mark(Mark::Semicolon, rest)?;
     Ok((kind, left, variable, start, rest))
 }
 
@@ -177,9 +177,9 @@ fn last(alloc: Global, variable: usize, words: &[Word]) -> Result<(bool, Expr, &
     let rest = this_variable(variable, words)?;
     let (through, rest) = until(rest)?;
     let (end, rest) = value(alloc, rest)?;
-    let rest = semicolon(rest)?;
+    let rest = behind_mark(Mark::Semicolon, rest)?;
     let rest = step(variable, rest)?;
-    let rest = close(rest)?;
+    let rest = behind_mark(Mark::Close, rest)?;
     Ok((through, end, rest))
 }
 

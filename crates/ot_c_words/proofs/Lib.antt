@@ -3,3 +3,4 @@ pub mod ValueLemmas
 pub mod MarkLemmas
 pub mod WordLemmas
 pub mod ReadLemmas
+pub mod StepLemmas

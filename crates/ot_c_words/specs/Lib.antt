@@ -1,4 +1,5 @@
 pub mod Tables
+pub mod Reading
 pub mod Names
 pub mod Marks
 pub mod Numbers

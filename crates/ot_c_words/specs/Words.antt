@@ -6,8 +6,6 @@ use Rattle.ot_c_words.specs.Tables.{Text}
 use Rattle.ot_c_words.specs.Names.{known_of}
 use Rattle.ot_c_words.specs.Pieces.{Found, front}
 use Rattle.ot_c_words.specs.declared.fault.Fault.{Fault}
-use Rattle.ot_c_words.specs.declared.fault.ReadError.{ReadError}
-use Rattle.ot_c_words.specs.declared.fault.ReadError.TheVariants as errors
 use Rattle.ot_c_words.specs.declared.known.Known.{Known}
 use Rattle.ot_c_words.specs.declared.mark.Mark.{Mark}
 use Rattle.ot_c_words.specs.declared.piece.Line.{Line}
@@ -153,8 +151,3 @@ pub record AreNames {Z : Type 0} (names : List (String Z)) : Type 0 where
 -- the names are those before, with others behind them
 abbrev pub Continues : {X : Type 0} → List X → List X → Type 0
 Continues {X} old new = (more : List X) × (new ≡ old ++ more)
-
--- what was returned is what is read, unless memory ran out
-abbrev pub Fails : ReadError → Read → Type 0
-Fails errors.Memory read = Unit {0}
-Fails (errors.Fault f) read = read ≡ Err f

@@ -32,24 +32,25 @@ pub struct Fault {
     pub start: usize,
 }
 
+/// Why nothing was read: want of memory, or a fault in what is read.
 #[derive(Debug, Drop)]
-pub enum ReadError {
+pub enum ReadError<F> {
     Memory,
-    Fault(Fault),
+    Fault(F),
 }
 
-impl From<AllocError> for ReadError {
+impl<F> From<AllocError> for ReadError<F> {
     ghost from_gives = { λ _ e. e ≡ Memory };
 
-    fn from(_e: AllocError) -> ReadError {
+    fn from(_e: AllocError) -> ReadError<F> {
         ReadError::Memory
     }
 }
 
-impl<T: Drop> From<AllocFailed<T>> for ReadError {
+impl<F, T: Drop> From<AllocFailed<T>> for ReadError<F> {
     ghost from_gives = { λ _ e. e ≡ Memory };
 
-    fn from(_e: AllocFailed<T>) -> ReadError {
+    fn from(_e: AllocFailed<T>) -> ReadError<F> {
         ReadError::Memory
     }
 }

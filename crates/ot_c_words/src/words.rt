@@ -3,7 +3,8 @@ ghost use Rattle.std.specs.Prelude.{◌≡◌, ◌≤◌, ◌<◌, [], ◌∷◌
 ghost use Rattle.std.specs.Str.{IsAscii};
 ghost use Rattle.ot_c_words.specs.Names.{known_of};
 ghost use Rattle.ot_c_words.specs.Pieces.{AsciiIfName};
-ghost use Rattle.ot_c_words.specs.Words.{word_of_name, words_spoken, end_of, words_in, name_spoken, texts, all_spoken, IsBelow, AreBelow, AreNames, Continues, Fails};
+ghost use Rattle.ot_c_words.specs.Reading.{Fails};
+ghost use Rattle.ot_c_words.specs.Words.{word_of_name, words_spoken, end_of, words_in, name_spoken, texts, all_spoken, IsBelow, AreBelow, AreNames, Continues};
 ghost use Rattle.ot_c_words.specs.Words as meant;
 
 use crate::fault::{Fault, ReadError};
@@ -174,7 +175,7 @@ impl Words {
 }
 
 /// The words of a text, or its first fault.
-pub fn words_of(alloc: Global, text: &[u8]) -> Result<Words, ReadError>
+pub fn words_of(alloc: Global, text: &[u8]) -> Result<Words, ReadError<Fault>>
     ensures words { MatchResult result (λ r. words_in text.now ≡ Ok (r.starts.items, all_spoken r.names.keys r.words.items)) (λ e. Fails e (words_in text.now)) }
     ensures below { IfOk result (λ r. AreBelow (length r.names.keys) r.words.items) }
     ensures names { IfOk result (λ r. AreNames r.names.keys) }

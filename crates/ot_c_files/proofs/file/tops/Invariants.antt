@@ -1,9 +1,10 @@
 use Rattle.std.proofs.Common.{◌≡◌, ◌-◌, [], length}
 use Rattle.ot_c_files.specs.Program.{tops_of}
-use Rattle.ot_c_statements.specs.Reading.{steps}
+use Rattle.ot_c_words.specs.Reading.{steps}
+use Rattle.ot_c_statements.specs.declared.fault.Fault.TheVariants.{TooLong}
 use Rattle.ot_c_files.specs.Files.{tops_step}
 use Rattle.ot_c_files.proofs.file.tops.Given as goal
 
 -- what is left to read completes what was read
 abbrev pub invariant-loop-turn : goal.invariant-loop-turn
-invariant-loop-turn l = steps tops_step (length l.words - l._turn) (tops_of l.found.items) l.rest ≡ steps tops_step (length l.words) [] l.words
+invariant-loop-turn l = steps TooLong tops_step (length l.words - l._turn) (tops_of l.found.items) l.rest ≡ steps TooLong tops_step (length l.words) [] l.words

@@ -1,12 +1,13 @@
-use Rattle.std.proofs.Common.{◌≡◌, ℕ, ◌+◌, ◌*◌, ◌-◌, [], length}
+use Rattle.std.proofs.Common.{◌≡◌, ◌+◌, ◌*◌, ◌-◌, [], length}
 use Rattle.ot_c_statements.specs.Tree.{list_of}
-use Rattle.ot_c_statements.specs.Reading.{steps}
+use Rattle.ot_c_words.specs.Reading.{steps}
+use Rattle.ot_c_statements.specs.declared.fault.Fault.TheVariants.{TooLong}
 use Rattle.ot_c_statements.specs.Statements.{statement_at, stmts_step}
 use Rattle.ot_c_statements.proofs.statement.+statement.Given as goal
 
 -- what is left to read completes what was read
 abbrev pub invariant-statements-loop-turn : goal.invariant-statements-loop-turn
-invariant-statements-loop-turn l = steps (stmts_step (statement_at l.depth)) (length l.words - l._turn) (list_of l.found.items) l.rest ≡ steps (stmts_step (statement_at l.depth)) (length l.words) [] l.words
+invariant-statements-loop-turn l = steps TooLong (stmts_step (statement_at l.depth)) (length l.words - l._turn) (list_of l.found.items) l.rest ≡ steps TooLong (stmts_step (statement_at l.depth)) (length l.words) [] l.words
 
 abbrev pub decreases-statement : goal.decreases-statement
 decreases-statement l = 16 * l.depth
