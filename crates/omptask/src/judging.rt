@@ -36,7 +36,7 @@ pub(crate) struct Judged {
 
 /// Writes the requests of a file, one a line.
 pub(crate) fn write_lines<W: Sink>(alloc: Global, text: &[u8], to: &mut W) -> Result<Ended, Fault>
-    ensures lines { OnOk result (Appends (W.contents to.old) (W.contents to.new) (flat_map with_end (lines_of_file text.now))) }
+    ensures lines { OnOk result (Appends (W.draft to.old).held (W.draft to.new).held (flat_map with_end (lines_of_file text.now))) }
     ensures ended { IfOk result (λ ended. ended ≡ Well) }
 {
     let Ok(lines) = lines_of(alloc, text) else {
@@ -48,7 +48,7 @@ pub(crate) fn write_lines<W: Sink>(alloc: Global, text: &[u8], to: &mut W) -> Re
 
 /// Writes the session that runs a text in C, where there is one.
 pub(crate) fn write_session<W: Sink>(session: &Session, to: &mut W) -> Result<Ended, Fault>
-    ensures lines { OnOk result (Appends (W.contents to.old) (W.contents to.new) (meant.session_lines session.now)) }
+    ensures lines { OnOk result (Appends (W.draft to.old).held (W.draft to.new).held (meant.session_lines session.now)) }
     ensures ended { IfOk result (λ ended. ended ≡ meant.ended_with session.now) }
 {
     let (lines, ended): (&[u8], Ended) = match session {
@@ -224,7 +224,7 @@ pub(crate) fn tell<W: Sink>(
     judged: &Judged,
     to: &mut W,
 ) -> Result<(), Fault>
-    ensures { OnOk result (meant.TellsJudged format source.entry.name.now source.entry.text.now judged.now (W.contents to.old) (W.contents to.new)) }
+    ensures { OnOk result (meant.TellsJudged format source.entry.name.now source.entry.text.now judged.now (W.draft to.old).held (W.draft to.new).held) }
 {
     let mut out = Vec::new(alloc);
     match put_found(alloc, format, source, judged.found.as_slice(), &mut out) {
@@ -242,7 +242,7 @@ pub(crate) fn tell_end<W: Sink>(
     results: Vec<Value>,
     to: &mut W,
 ) -> Result<(), Fault>
-    ensures { OnOk result (meant.TellsEnd format quiet outcomes.now (map (λ r. view r) results.items) (W.contents to.old) (W.contents to.new)) }
+    ensures { OnOk result (meant.TellsEnd format quiet outcomes.now (map (λ r. view r) results.items) (W.draft to.old).held (W.draft to.new).held) }
 {
     match end_text(alloc, format, quiet, outcomes, results) {
         Ok(out) => write(to, out.as_slice()),
@@ -292,7 +292,7 @@ fn put_sarif(alloc: Global, results: Vec<Value>, out: &mut Vec<u8>) -> Result<()
 
 /// Writes a text.
 fn write<W: Sink>(to: &mut W, text: &[u8]) -> Result<(), Fault>
-    ensures { OnOk result (Appends (W.contents to.old) (W.contents to.new) text.now) }
+    ensures { OnOk result (Appends (W.draft to.old).held (W.draft to.new).held text.now) }
 {
     match write_whole(to, text) {
         Ok(()) => Ok(()),

@@ -8,7 +8,8 @@ use Rattle.std.proofs.lemmas.List.Folds.{concat-append, list_any-append}
 use Rattle.std.proofs.lemmas.List.Elements.{All-nil, All-push, All-take, AllZip-push}
 use Rattle.ot_client_ask.specs.Asking.{BreaksBy, Counts, EndsAfter, GoesOn, IsCutShort, IsPrintedReply, LeavesServer, SaysBye, Talk, Talks, Ways, tally_of}
 use Rattle.ot_client_ask.specs.Exchanges.{IsAnswered, TakesOneLine, asked_after, asked_of, with_reply}
-use Rattle.ot_client_ask.specs.Streams.{IsWhole, is_last, is_refusal, sent_for, GivesLineOrRest, Incoming, Link, Outgoing, Writes}
+use Rattle.ot_session.specs.Serving.{Draft, Writes}
+use Rattle.ot_client_ask.specs.Streams.{IsWhole, is_last, is_refusal, sent_for, GivesLineOrRest, Incoming, Link}
 use Rattle.ot_client_ask.specs.declared.asked.Tally.{Tally}
 use Rattle.ot_client_ask.specs.declared.asked.Asked.TheVariants.{AllTaken, SomeRefused, CutShort}
 use Rattle.ot_client_ask.specs.declared.asked.AskFault.TheVariants.{Busy, UnknownTenant, StrangeGreeting, Closed, ReadFailed, WriteFailed, Memory, TooManyLines}
@@ -34,9 +35,9 @@ pub gives-worked : (old new : Incoming) (line : List ℕ) → GivesLineOrRest ol
 gives-worked old new line (inl gives) = gives.worked
 gives-worked old new line (inr gives) = gives.ended.worked
 
-pub writes-more : (a b c : Outgoing) (xs ys : List ℕ) → Writes a b xs → Writes b c ys → Writes a c (xs ++ ys)
+pub writes-more : (a b c : Draft) (xs ys : List ℕ) → Writes a b xs → Writes b c ys → Writes a c (xs ++ ys)
 writes-more a b c xs ys first second = record {
-  bytes_out = Appends-trans a.contents b.contents c.contents _ _ first.bytes_out second.bytes_out;
+  bytes_out = Appends-trans a.held b.held c.held _ _ first.bytes_out second.bytes_out;
   worked = second.worked ∙ first.worked;
 }
 
@@ -47,11 +48,11 @@ talk_none Says w = record {
   replies = [];
   each = refl;
   reads = Consumes-nil w.typed.ahead;
-  sends = record { bytes_out = Appends-nil w.link.sent.contents; worked = refl };
+  sends = record { bytes_out = Appends-nil w.link.sent.held; worked = refl };
   hears = Consumes-nil w.link.heard.ahead;
   texts = [];
   shows = tt;
-  prints = record { bytes_out = Appends-nil w.printed.contents; worked = refl };
+  prints = record { bytes_out = Appends-nil w.printed.held; worked = refl };
   whole = All-nil IsWhole;
   goes_on = All-nil (λ reply. is_last reply ≡ false);
   told = refl;

@@ -2,7 +2,8 @@
 use Rattle.std.specs.Prelude.{◌≡◌, [], ◌⊎◌, ◌-◌, ◌^◌, ◌&&◌, ℕ, Bool, true, false, List, ◌∷◌, ◌++◌, length, map, take, Result, Ok, Err, ◌||◌, ◌+◌, Option, None, ◌≢◌, ⊤}
 use Rattle.std.specs.List.{All, AllZip, concat, list_any, filter, position_from}
 use Rattle.std.specs.Io.KnownBytes.{Consumes}
-use Rattle.ot_client_ask.specs.Streams.{IsWhole, goodbye, is_last, is_refusal, says_bye, sent_for, BreaksOffIn, GivesLineOrRest, GivesLine, HasFailed, Incoming, IsLost, IsStreamOver, Link, Outgoing, Writes, link, busy_text, hello_line, is_welcome, unknown_text, IsUnanswered}
+use Rattle.ot_session.specs.Serving.{Draft, Writes, BreaksOffIn}
+use Rattle.ot_client_ask.specs.Streams.{IsWhole, goodbye, is_last, is_refusal, says_bye, sent_for, GivesLineOrRest, GivesLine, HasFailed, Incoming, IsLost, IsStreamOver, Link, link, busy_text, hello_line, is_welcome, unknown_text, IsUnanswered}
 use Rattle.ot_client_ask.specs.declared.asked.Tally.{Tally}
 use Rattle.ot_client_ask.specs.declared.asked.Asked.{Asked}
 use Rattle.ot_client_ask.specs.declared.asked.Asked.TheVariants.{AllTaken, SomeRefused, CutShort}
@@ -55,9 +56,9 @@ none_counted = asked_tally 0 0 None
 pub record Ways : Type 0 where
   pub typed : Incoming
   pub link : Link
-  pub printed : Outgoing
+  pub printed : Draft
 
-abbrev pub ways : Incoming → Incoming → Outgoing → Outgoing → Ways
+abbrev pub ways : Incoming → Incoming → Draft → Draft → Ways
 ways typed heard sent printed = record { typed = typed; link = link heard sent; printed = printed }
 
 -- ---- what is said behind replies

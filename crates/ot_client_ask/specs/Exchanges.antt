@@ -1,6 +1,7 @@
 -- A line of a client and its reply.
 use Rattle.std.specs.Prelude.{◌≡◌, ℕ, Bool, true, false, if◌then◌else◌, List, Result, Ok, Err, ◌+◌, Option, Some, None, ⊤}
-use Rattle.ot_client_ask.specs.Streams.{sent_for, GivesLineOrRest, GivesLine, HasFailed, Incoming, Writes, is_last, is_refusal}
+use Rattle.ot_session.specs.Serving.{Writes}
+use Rattle.ot_client_ask.specs.Streams.{sent_for, GivesLineOrRest, GivesLine, HasFailed, Incoming, is_last, is_refusal}
 use Rattle.ot_client_ask.specs.declared.asked.Tally.{Tally}
 use Rattle.ot_client_ask.specs.declared.asked.Asked.{Asked}
 use Rattle.ot_client_ask.specs.declared.asked.Asked.TheVariants.{AllTaken, SomeRefused}

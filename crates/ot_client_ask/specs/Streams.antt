@@ -1,7 +1,7 @@
 -- The lines between a client and a server.
 use Rattle.std.specs.Prelude.{◌≡◌, ◌⊎◌, ℕ, false, List, Option, IfSome, Result, Ok, Err, ◌==◌, ◌&&◌, ◌||◌, ◌-◌, nat_le, Bool, true, if◌then◌else◌, [], ◌∷◌, ◌++◌, length, take, slice_get, unwrap_or, codes, bytes_eq}
-use Rattle.std.specs.Io.KnownBytes.{Appends, Consumes, IsAtEnd}
-use Rattle.ot_session.specs.Serving.{AppendsFront, next_count}
+use Rattle.std.specs.Io.KnownBytes.{Consumes, IsAtEnd}
+use Rattle.ot_session.specs.Serving.{Draft, Writes, BreaksOffIn, next_count}
 use Rattle.ot_client_ask.specs.declared.stream.LineEnd.{LineEnd}
 use Rattle.ot_client_ask.specs.declared.stream.LineEnd.TheVariants.{Whole, Cut}
 use Rattle.ot_client_ask.specs.declared.stream.ReadFault.{ReadFault}
@@ -61,7 +61,7 @@ busy_text = codes "[\"err\",0,409]\n"
 abbrev pub unknown_text : List ℕ
 unknown_text = codes "[\"err\",0,404]\n"
 
--- What lines come from, and where lines go, as contracts see it.
+-- What lines come from, as contracts see it.
 
 abbrev pub Known : Type 0
 Known = Option (List ℕ)
@@ -74,14 +74,6 @@ pub record Incoming : Type 0 where
 
 abbrev pub incoming : Known → ℕ → ℕ → Incoming
 incoming ahead ends failures = record { ahead = ahead; ends = ends; failures = failures }
-
--- the bytes that went out, where they are known, and how often a write failed
-pub record Outgoing : Type 0 where
-  pub contents : Known
-  pub failures : ℕ
-
-abbrev pub outgoing : Known → ℕ → Outgoing
-outgoing contents failures = record { contents = contents; failures = failures }
 
 -- ---- what comes in
 
@@ -128,26 +120,14 @@ GivesLineOrRest old new line = GivesLine old new line ⊎ GivesRest old new line
 abbrev pub IsLost : Incoming → Incoming → Type 0
 IsLost old new = ((rest : List ℕ) × GivesRest old new rest) ⊎ HasFailed old new
 
--- ---- what goes out
-
--- all of the bytes go out
-pub record Writes (old new : Outgoing) (bytes : List ℕ) : Type 0 where
-  pub bytes_out : Appends old.contents new.contents bytes
-  pub worked : new.failures ≡ old.failures
-
--- a front of the bytes goes out, and then a write fails
-pub record BreaksOffIn (old new : Outgoing) (bytes : List ℕ) : Type 0 where
-  pub front : AppendsFront old.contents new.contents bytes
-  pub failed : new.failures ≡ next_count old.failures
-
 -- ---- to and from a server
 
 -- what is still to be heard, and what was sent
 pub record Link : Type 0 where
   pub heard : Incoming
-  pub sent : Outgoing
+  pub sent : Draft
 
-abbrev pub link : Incoming → Outgoing → Link
+abbrev pub link : Incoming → Draft → Link
 link heard sent = record { heard = heard; sent = sent }
 
 -- the line can't be sent whole, and nothing is heard, or the stream is over before a whole reply

@@ -2,7 +2,6 @@
 ghost use Rattle.std.specs.Prelude.{◌≡◌};
 ghost use Rattle.ot_client_ask.specs.Asking.{Asks, Talks, is_silent, ways};
 ghost use Rattle.ot_client_ask.specs.Exchanges.{asked_after};
-ghost use Rattle.ot_client_ask.specs.Streams.{outgoing};
 
 use crate::asked::{AskFault, Asked, Tally};
 use crate::exchange::{Step, exchange, leave};
@@ -26,10 +25,8 @@ pub fn ask<T: LineSource, H: LineSource, W: Sink, P: Sink>(
     printed: &mut P,
 ) -> (Result<Asked, AskFault>, Tally)
     ensures { Asks is_silent name.now stop
-        (ways (T.coming typed.old) (H.coming heard.old) (outgoing (W.contents wire.old) (W.failures wire.old))
-        (outgoing (P.contents printed.old) (P.failures printed.old)))
-        (ways (T.coming typed.new) (H.coming heard.new) (outgoing (W.contents wire.new) (W.failures wire.new))
-        (outgoing (P.contents printed.new) (P.failures printed.new))) result.0 result.1 }
+        (ways (T.coming typed.old) (H.coming heard.old) (W.draft wire.old) (P.draft printed.old))
+        (ways (T.coming typed.new) (H.coming heard.new) (W.draft wire.new) (P.draft printed.new)) result.0 result.1 }
 {
     if let Err(fault) = greet(alloc, name, heard, wire) {
         return (Err(fault), Tally::new());
@@ -48,10 +45,8 @@ pub fn converse<M: Remarker, T: LineSource, H: LineSource, W: Sink, P: Sink>(
     printed: &mut P,
 ) -> (Result<Asked, AskFault>, Tally)
     ensures { Talks M.says stop
-        (ways (T.coming typed.old) (H.coming heard.old) (outgoing (W.contents wire.old) (W.failures wire.old))
-        (outgoing (P.contents printed.old) (P.failures printed.old)))
-        (ways (T.coming typed.new) (H.coming heard.new) (outgoing (W.contents wire.new) (W.failures wire.new))
-        (outgoing (P.contents printed.new) (P.failures printed.new))) result.0 result.1 }
+        (ways (T.coming typed.old) (H.coming heard.old) (W.draft wire.old) (P.draft printed.old))
+        (ways (T.coming typed.new) (H.coming heard.new) (W.draft wire.new) (P.draft printed.new)) result.0 result.1 }
 {
     let mut asked = Asked::AllTaken;
     let mut tally = Tally::new();

@@ -3,7 +3,7 @@ ghost use Rattle.std.specs.Prelude.{◌≡◌, OnOk, IfErr};
 ghost use Rattle.ot_client_ask.specs.declared.asked.AskFault.TheVariants.{Memory};
 ghost use Rattle.ot_client_ask.specs.Asking.{IsPrintedReply, LeavesServer, ways};
 ghost use Rattle.ot_client_ask.specs.Exchanges.{TakesOneLine};
-ghost use Rattle.ot_client_ask.specs.Streams.{link, outgoing};
+ghost use Rattle.ot_client_ask.specs.Streams.{link};
 
 use crate::asked::{AskFault, Asked};
 use crate::hearing::{hear, read_line};
@@ -35,10 +35,8 @@ pub(crate) fn exchange<M: Remarker, T: LineSource, H: LineSource, W: Sink, P: Si
     printed: &mut P,
 ) -> Result<Step, AskFault>
     ensures { TakesOneLine M.says
-        (ways (T.coming typed.old) (H.coming heard.old) (outgoing (W.contents wire.old) (W.failures wire.old))
-        (outgoing (P.contents printed.old) (P.failures printed.old)))
-        (ways (T.coming typed.new) (H.coming heard.new) (outgoing (W.contents wire.new) (W.failures wire.new))
-        (outgoing (P.contents printed.new) (P.failures printed.new))) result }
+        (ways (T.coming typed.old) (H.coming heard.old) (W.draft wire.old) (P.draft printed.old))
+        (ways (T.coming typed.new) (H.coming heard.new) (W.draft wire.new) (P.draft printed.new)) result }
 {
     let mut line = Vec::new(alloc);
     if let Err(fault) = read_line(typed, &mut line) {
@@ -102,9 +100,7 @@ fn without_end(line: &[u8]) -> &[u8] {
 
 /// Says goodbye behind a line that was refused, and waits until the server has ended the session.
 pub(crate) fn leave<H: LineSource, W: Sink>(heard: &mut H, wire: &mut W) -> Result<Asked, AskFault>
-    ensures { LeavesServer
-        (link (H.coming heard.old) (outgoing (W.contents wire.old) (W.failures wire.old)))
-        (link (H.coming heard.new) (outgoing (W.contents wire.new) (W.failures wire.new))) result }
+    ensures { LeavesServer (link (H.coming heard.old) (W.draft wire.old)) (link (H.coming heard.new) (W.draft wire.new)) result }
 {
     if write_whole(wire, b"[\"bye\"]\n".as_slice()).is_err() {
         return Err(AskFault::Closed);

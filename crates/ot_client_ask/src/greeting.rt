@@ -1,6 +1,6 @@
 //! The greeting.
 ghost use Rattle.ot_client_ask.specs.Asking.{GreetsServer};
-ghost use Rattle.ot_client_ask.specs.Streams.{link, outgoing};
+ghost use Rattle.ot_client_ask.specs.Streams.{link};
 
 use crate::asked::AskFault;
 use crate::hearing::hear;
@@ -18,8 +18,7 @@ pub fn greet<H: LineSource, W: Sink>(
     wire: &mut W,
 ) -> Result<(), AskFault>
     ensures { GreetsServer name.now
-        (link (H.coming heard.old) (outgoing (W.contents wire.old) (W.failures wire.old)))
-        (link (H.coming heard.new) (outgoing (W.contents wire.new) (W.failures wire.new))) result }
+        (link (H.coming heard.old) (W.draft wire.old)) (link (H.coming heard.new) (W.draft wire.new)) result }
 {
     if !is_name(name) {
         return Err(AskFault::UnknownTenant);

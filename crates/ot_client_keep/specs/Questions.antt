@@ -1,6 +1,7 @@
 -- What is asked of a server, and what it answers.
 use Rattle.std.specs.Prelude.{◌≡◌, ◌==◌, ℕ, Bool, true, false, if◌then◌else◌, List, [], ◌∷◌, ◌++◌, length, codes, decimal, Option, Some, None, option_and_then, ⊤, ◌⊎◌, map}
-use Rattle.ot_client_ask.specs.Streams.{GivesLine, IsUnanswered, Link, Writes, BreaksOffIn, IsStreamOver}
+use Rattle.ot_session.specs.Serving.{Writes, BreaksOffIn}
+use Rattle.ot_client_ask.specs.Streams.{GivesLine, IsUnanswered, Link, IsStreamOver}
 use Rattle.ot_client_ask.specs.declared.asked.AskFault.TheVariants as ask
 use Rattle.ot_client_keep.specs.Files.{Reply, Taken, Used, Listed, Cells, reply_in, bye_line}
 use Rattle.ot_client_keep.specs.declared.fault.KeepFault.{KeepFault}

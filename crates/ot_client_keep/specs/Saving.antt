@@ -2,7 +2,8 @@
 use Rattle.std.specs.Prelude.{◌≡◌, ◌⊎◌, ◌+◌, ℕ, List, [], ◌∷◌, ◌++◌, Result, Ok, Err, ◌≢◌, All, length, map, ⊤, Bool, true, false, MatchResult}
 use Rattle.ot_store.specs.Arrays.{Named}
 use Rattle.ot_client_ask.specs.Asking.{GreetsServer}
-use Rattle.ot_client_ask.specs.Streams.{BreaksOffIn, Link, Outgoing, Writes, IsWhole}
+use Rattle.ot_session.specs.Serving.{Draft, Writes, BreaksOffIn}
+use Rattle.ot_client_ask.specs.Streams.{Link, IsWhole}
 use Rattle.ot_client_ask.specs.declared.asked.AskFault.{AskFault}
 use Rattle.ot_client_keep.specs.Files.{Makes, file_text, AreLines, IsNoFile, Reply, Taken, Used, Listed}
 use Rattle.ot_client_keep.specs.Questions.{Question, Checkpoint, Units, StopsAsking, AsksInTurn, Arrays, Free, Line, TurnFails, Turn, SendsBye, arrays_turns}
@@ -41,12 +42,12 @@ IsUnheld name old new fault =
     ⊎ ((greeted : Link) × GreetsServer name old greeted (Ok tt) × StopsAsking greeted new fault)
 
 -- a save, by what it came to
-abbrev pub Saves : List ℕ → Link → Link → Outgoing → Outgoing → Result Saved KeepFault → Type 0
-Saves name old new start held (Ok saved) =
-    (told : Link) × (text : List ℕ) × IsText name old told saved.next saved.used text × Writes start held text × SendsBye told new
-Saves name old new start held (Err WriteFailed) =
-    (next : ℕ) × (used : ℕ) × (text : List ℕ) × IsText name old new next used text × BreaksOffIn start held text
-Saves name old new start held (Err fault) = IsUnheld name old new fault × (held ≡ start)
+abbrev pub Saves : List ℕ → Link → Link → Draft → Draft → Result Saved KeepFault → Type 0
+Saves name old new earlier later (Ok saved) =
+    (told : Link) × (text : List ℕ) × IsText name old told saved.next saved.used text × Writes earlier later text × SendsBye told new
+Saves name old new earlier later (Err WriteFailed) =
+    (next : ℕ) × (used : ℕ) × (text : List ℕ) × IsText name old new next used text × BreaksOffIn earlier later text
+Saves name old new earlier later (Err fault) = IsUnheld name old new fault × (later ≡ earlier)
 
 -- How a tenant is restored.
 

@@ -1,6 +1,6 @@
 //! A tenant has no array before a file's lines are sent.
 ghost use Rattle.std.specs.Prelude.{MatchResult};
-ghost use Rattle.ot_client_ask.specs.Streams.{link, outgoing};
+ghost use Rattle.ot_client_ask.specs.Streams.{link};
 ghost use Rattle.ot_client_keep.specs.Questions.{StopsAsking};
 ghost use Rattle.ot_client_keep.specs.Saving.{AreFreed, Clears, FreesAll, SeesNone};
 ghost use Rattle.ot_model.specs.Programs.{arrays_of};
@@ -19,9 +19,7 @@ pub(crate) fn clear<H: LineSource, W: Sink>(
     heard: &mut H,
     wire: &mut W,
 ) -> Result<(), KeepFault>
-    ensures { Clears replace
-        (link (H.coming heard.old) (outgoing (W.contents wire.old) (W.failures wire.old)))
-        (link (H.coming heard.new) (outgoing (W.contents wire.new) (W.failures wire.new))) result }
+    ensures { Clears replace (link (H.coming heard.old) (W.draft wire.old)) (link (H.coming heard.new) (W.draft wire.new)) result }
 {
     if replace {
         return free_all(alloc, heard, wire);
@@ -35,9 +33,7 @@ fn see_none<H: LineSource, W: Sink>(
     heard: &mut H,
     wire: &mut W,
 ) -> Result<(), KeepFault>
-    ensures { SeesNone
-        (link (H.coming heard.old) (outgoing (W.contents wire.old) (W.failures wire.old)))
-        (link (H.coming heard.new) (outgoing (W.contents wire.new) (W.failures wire.new))) result }
+    ensures { SeesNone (link (H.coming heard.old) (W.draft wire.old)) (link (H.coming heard.new) (W.draft wire.new)) result }
 {
     let found = match ask_arrays(alloc, heard, wire) {
         Ok(found) => found,
@@ -58,9 +54,7 @@ fn free_all<H: LineSource, W: Sink>(
     heard: &mut H,
     wire: &mut W,
 ) -> Result<(), KeepFault>
-    ensures { FreesAll
-        (link (H.coming heard.old) (outgoing (W.contents wire.old) (W.failures wire.old)))
-        (link (H.coming heard.new) (outgoing (W.contents wire.new) (W.failures wire.new))) result }
+    ensures { FreesAll (link (H.coming heard.old) (W.draft wire.old)) (link (H.coming heard.new) (W.draft wire.new)) result }
 {
     match ask_checkpoint(alloc, heard, wire) {
         Ok(_) => {}
@@ -82,11 +76,8 @@ fn free_each<H: LineSource, W: Sink>(
 ) -> Result<(), KeepFault>
     ensures { MatchResult result
         (λ done. AreFreed (arrays_of shapes.now)
-        (link (H.coming heard.old) (outgoing (W.contents wire.old) (W.failures wire.old)))
-        (link (H.coming heard.new) (outgoing (W.contents wire.new) (W.failures wire.new))))
-        (λ fault. StopsAsking
-        (link (H.coming heard.old) (outgoing (W.contents wire.old) (W.failures wire.old)))
-        (link (H.coming heard.new) (outgoing (W.contents wire.new) (W.failures wire.new))) fault) }
+        (link (H.coming heard.old) (W.draft wire.old)) (link (H.coming heard.new) (W.draft wire.new)))
+        (λ fault. StopsAsking (link (H.coming heard.old) (W.draft wire.old)) (link (H.coming heard.new) (W.draft wire.new)) fault) }
 {
     for shape in shapes {
         match ask_free(alloc, shape.name.as_str(), heard, wire) {

@@ -1,6 +1,6 @@
 //! What is asked of a server, and its answer.
 ghost use Rattle.std.specs.Prelude.{◌≡◌, IfOk, MatchResult, string_bytes, true};
-ghost use Rattle.ot_client_ask.specs.Streams.{link, outgoing};
+ghost use Rattle.ot_client_ask.specs.Streams.{link};
 ghost use Rattle.ot_client_keep.specs.Answers.{reply_by};
 ghost use Rattle.ot_client_keep.specs.Files.{Cells, Listed, Taken, Used};
 ghost use Rattle.ot_client_keep.specs.Asked.{question_by};
@@ -38,10 +38,8 @@ pub(crate) fn ask_checkpoint<H: LineSource, W: Sink>(
     wire: &mut W,
 ) -> Result<u32, KeepFault>
     ensures { MatchResult result
-        (λ told. Turn Checkpoint (link (H.coming heard.old) (outgoing (W.contents wire.old) (W.failures wire.old)))
-        (link (H.coming heard.new) (outgoing (W.contents wire.new) (W.failures wire.new))) (Taken told))
-        (λ fault. TurnFails Checkpoint (link (H.coming heard.old) (outgoing (W.contents wire.old) (W.failures wire.old)))
-        (link (H.coming heard.new) (outgoing (W.contents wire.new) (W.failures wire.new))) fault) }
+        (λ told. Turn Checkpoint (link (H.coming heard.old) (W.draft wire.old)) (link (H.coming heard.new) (W.draft wire.new)) (Taken told))
+        (λ fault. TurnFails Checkpoint (link (H.coming heard.old) (W.draft wire.old)) (link (H.coming heard.new) (W.draft wire.new)) fault) }
 {
     match ask(alloc, &Question::Checkpoint, heard, wire) {
         Ok(Answer::Taken(told)) => Ok(told),
@@ -57,10 +55,8 @@ pub(crate) fn ask_units<H: LineSource, W: Sink>(
     wire: &mut W,
 ) -> Result<u64, KeepFault>
     ensures { MatchResult result
-        (λ told. Turn Units (link (H.coming heard.old) (outgoing (W.contents wire.old) (W.failures wire.old)))
-        (link (H.coming heard.new) (outgoing (W.contents wire.new) (W.failures wire.new))) (Used told))
-        (λ fault. TurnFails Units (link (H.coming heard.old) (outgoing (W.contents wire.old) (W.failures wire.old)))
-        (link (H.coming heard.new) (outgoing (W.contents wire.new) (W.failures wire.new))) fault) }
+        (λ told. Turn Units (link (H.coming heard.old) (W.draft wire.old)) (link (H.coming heard.new) (W.draft wire.new)) (Used told))
+        (λ fault. TurnFails Units (link (H.coming heard.old) (W.draft wire.old)) (link (H.coming heard.new) (W.draft wire.new)) fault) }
 {
     match ask(alloc, &Question::Units, heard, wire) {
         Ok(Answer::Used(told)) => Ok(told),
@@ -76,10 +72,9 @@ pub(crate) fn ask_arrays<H: LineSource, W: Sink>(
     wire: &mut W,
 ) -> Result<Vec<ArrayShape>, KeepFault>
     ensures { MatchResult result
-        (λ told. Turn Arrays (link (H.coming heard.old) (outgoing (W.contents wire.old) (W.failures wire.old)))
-        (link (H.coming heard.new) (outgoing (W.contents wire.new) (W.failures wire.new))) (Listed (arrays_of told.items)))
-        (λ fault. TurnFails Arrays (link (H.coming heard.old) (outgoing (W.contents wire.old) (W.failures wire.old)))
-        (link (H.coming heard.new) (outgoing (W.contents wire.new) (W.failures wire.new))) fault) }
+        (λ told. Turn Arrays (link (H.coming heard.old) (W.draft wire.old))
+        (link (H.coming heard.new) (W.draft wire.new)) (Listed (arrays_of told.items)))
+        (λ fault. TurnFails Arrays (link (H.coming heard.old) (W.draft wire.old)) (link (H.coming heard.new) (W.draft wire.new)) fault) }
 {
     match ask(alloc, &Question::Arrays, heard, wire) {
         Ok(Answer::Listed(told)) => Ok(told),
@@ -97,10 +92,10 @@ pub(crate) fn ask_cells<H: LineSource, W: Sink>(
     wire: &mut W,
 ) -> Result<Vec<u64>, KeepFault>
     ensures { MatchResult result
-        (λ told. Turn (CellsOf name.now len) (link (H.coming heard.old) (outgoing (W.contents wire.old) (W.failures wire.old)))
-        (link (H.coming heard.new) (outgoing (W.contents wire.new) (W.failures wire.new))) (Cells told.items))
-        (λ fault. TurnFails (CellsOf name.now len) (link (H.coming heard.old) (outgoing (W.contents wire.old) (W.failures wire.old)))
-        (link (H.coming heard.new) (outgoing (W.contents wire.new) (W.failures wire.new))) fault) }
+        (λ told. Turn (CellsOf name.now len) (link (H.coming heard.old) (W.draft wire.old))
+        (link (H.coming heard.new) (W.draft wire.new)) (Cells told.items))
+        (λ fault. TurnFails (CellsOf name.now len) (link (H.coming heard.old) (W.draft wire.old))
+        (link (H.coming heard.new) (W.draft wire.new)) fault) }
 {
     match ask(alloc, &Question::CellsOf(name, len), heard, wire) {
         Ok(Answer::Cells(told)) => Ok(told),
@@ -117,10 +112,8 @@ pub(crate) fn ask_free<H: LineSource, W: Sink>(
     wire: &mut W,
 ) -> Result<u32, KeepFault>
     ensures { MatchResult result
-        (λ told. Turn (Free name.now) (link (H.coming heard.old) (outgoing (W.contents wire.old) (W.failures wire.old)))
-        (link (H.coming heard.new) (outgoing (W.contents wire.new) (W.failures wire.new))) (Taken told))
-        (λ fault. TurnFails (Free name.now) (link (H.coming heard.old) (outgoing (W.contents wire.old) (W.failures wire.old)))
-        (link (H.coming heard.new) (outgoing (W.contents wire.new) (W.failures wire.new))) fault) }
+        (λ told. Turn (Free name.now) (link (H.coming heard.old) (W.draft wire.old)) (link (H.coming heard.new) (W.draft wire.new)) (Taken told))
+        (λ fault. TurnFails (Free name.now) (link (H.coming heard.old) (W.draft wire.old)) (link (H.coming heard.new) (W.draft wire.new)) fault) }
 {
     match ask(alloc, &Question::Free(name), heard, wire) {
         Ok(Answer::Taken(told)) => Ok(told),
@@ -137,10 +130,8 @@ pub(crate) fn ask_line<H: LineSource, W: Sink>(
     wire: &mut W,
 ) -> Result<u32, KeepFault>
     ensures { MatchResult result
-        (λ told. Turn (Line line.now) (link (H.coming heard.old) (outgoing (W.contents wire.old) (W.failures wire.old)))
-        (link (H.coming heard.new) (outgoing (W.contents wire.new) (W.failures wire.new))) (Taken told))
-        (λ fault. TurnFails (Line line.now) (link (H.coming heard.old) (outgoing (W.contents wire.old) (W.failures wire.old)))
-        (link (H.coming heard.new) (outgoing (W.contents wire.new) (W.failures wire.new))) fault) }
+        (λ told. Turn (Line line.now) (link (H.coming heard.old) (W.draft wire.old)) (link (H.coming heard.new) (W.draft wire.new)) (Taken told))
+        (λ fault. TurnFails (Line line.now) (link (H.coming heard.old) (W.draft wire.old)) (link (H.coming heard.new) (W.draft wire.new)) fault) }
 {
     match ask(alloc, &Question::Line(line), heard, wire) {
         Ok(Answer::Taken(told)) => Ok(told),
@@ -157,10 +148,10 @@ fn ask<H: LineSource, W: Sink>(
     wire: &mut W,
 ) -> Result<Answer, KeepFault>
     ensures turn { MatchResult result
-        (λ answer. Turn (question_by question.now) (link (H.coming heard.old) (outgoing (W.contents wire.old) (W.failures wire.old)))
-        (link (H.coming heard.new) (outgoing (W.contents wire.new) (W.failures wire.new))) (reply_by answer))
-        (λ fault. TurnFails (question_by question.now) (link (H.coming heard.old) (outgoing (W.contents wire.old) (W.failures wire.old)))
-        (link (H.coming heard.new) (outgoing (W.contents wire.new) (W.failures wire.new))) fault) }
+        (λ answer. Turn (question_by question.now) (link (H.coming heard.old) (W.draft wire.old))
+        (link (H.coming heard.new) (W.draft wire.new)) (reply_by answer))
+        (λ fault. TurnFails (question_by question.now) (link (H.coming heard.old) (W.draft wire.old))
+        (link (H.coming heard.new) (W.draft wire.new)) fault) }
     ensures fits { IfOk result (λ answer. fits_question (question_by question.now) (reply_by answer) ≡ true) }
 {
     let Ok(line) = question_line(alloc, question) else {

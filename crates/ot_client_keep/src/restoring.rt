@@ -1,5 +1,5 @@
 //! A tenant is restored.
-ghost use Rattle.ot_client_ask.specs.Streams.{link, outgoing};
+ghost use Rattle.ot_client_ask.specs.Streams.{link};
 ghost use Rattle.ot_client_keep.specs.Files.{AreLines};
 ghost use Rattle.ot_client_keep.specs.Saving.{Compares, Restores, TakesSession};
 
@@ -36,8 +36,7 @@ pub fn restore<H: LineSource, W: Sink>(
     wire: &mut W,
 ) -> Result<Restored, KeepFault>
     ensures { Restores name.now file.now replace
-        (link (H.coming heard.old) (outgoing (W.contents wire.old) (W.failures wire.old)))
-        (link (H.coming heard.new) (outgoing (W.contents wire.new) (W.failures wire.new))) result }
+        (link (H.coming heard.old) (W.draft wire.old)) (link (H.coming heard.new) (W.draft wire.new)) result }
 {
     let kept = match read_file(alloc, file) {
         Ok(Some(kept)) => kept,
@@ -72,8 +71,7 @@ fn send_lines<H: LineSource, W: Sink>(
 ) -> Result<(), KeepFault>
     requires { AreLines session.now }
     ensures { TakesSession session.now
-        (link (H.coming heard.old) (outgoing (W.contents wire.old) (W.failures wire.old)))
-        (link (H.coming heard.new) (outgoing (W.contents wire.new) (W.failures wire.new))) result }
+        (link (H.coming heard.old) (W.draft wire.old)) (link (H.coming heard.new) (W.draft wire.new)) result }
 {
     let mut rest = session;
     let mut taken = 0u64;
@@ -98,8 +96,7 @@ fn compare<H: LineSource, W: Sink>(
     wire: &mut W,
 ) -> Result<(), KeepFault>
     ensures { Compares session.now
-        (link (H.coming heard.old) (outgoing (W.contents wire.old) (W.failures wire.old)))
-        (link (H.coming heard.new) (outgoing (W.contents wire.new) (W.failures wire.new))) result }
+        (link (H.coming heard.old) (W.draft wire.old)) (link (H.coming heard.new) (W.draft wire.new)) result }
 {
     let arrays = match read_arrays(alloc, heard, wire) {
         Ok(arrays) => arrays,

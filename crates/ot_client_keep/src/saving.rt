@@ -1,6 +1,6 @@
 //! A tenant is saved.
 ghost use Rattle.std.specs.Prelude.{MatchResult, map};
-ghost use Rattle.ot_client_ask.specs.Streams.{link, outgoing};
+ghost use Rattle.ot_client_ask.specs.Streams.{link};
 ghost use Rattle.ot_client_keep.specs.Arrays.{named_by};
 ghost use Rattle.ot_client_keep.specs.Questions.{StopsAsking};
 ghost use Rattle.ot_client_keep.specs.Saving.{HasTold, Saves};
@@ -35,10 +35,8 @@ pub fn save<H: LineSource, W: Sink, O: Sink>(
     wire: &mut W,
     out: &mut O,
 ) -> Result<Saved, KeepFault>
-    ensures { Saves name.now
-        (link (H.coming heard.old) (outgoing (W.contents wire.old) (W.failures wire.old)))
-        (link (H.coming heard.new) (outgoing (W.contents wire.new) (W.failures wire.new)))
-        (outgoing (O.contents out.old) (O.failures out.old)) (outgoing (O.contents out.new) (O.failures out.new)) result }
+    ensures { Saves name.now (link (H.coming heard.old) (W.draft wire.old)) (link (H.coming heard.new) (W.draft wire.new))
+        (O.draft out.old) (O.draft out.new) result }
 {
     if let Err(fault) = greet(alloc, name, heard, wire) {
         return Err(KeepFault::Ask(fault));
@@ -79,11 +77,9 @@ fn read_tenant<H: LineSource, W: Sink>(
     wire: &mut W,
 ) -> Result<Tenant, KeepFault>
     ensures { MatchResult result
-        (λ tenant. HasTold (link (H.coming heard.old) (outgoing (W.contents wire.old) (W.failures wire.old)))
-        (link (H.coming heard.new) (outgoing (W.contents wire.new) (W.failures wire.new)))
+        (λ tenant. HasTold (link (H.coming heard.old) (W.draft wire.old)) (link (H.coming heard.new) (W.draft wire.new))
         (map named_by tenant.arrays.items) tenant.next tenant.used)
-        (λ fault. StopsAsking (link (H.coming heard.old) (outgoing (W.contents wire.old) (W.failures wire.old)))
-        (link (H.coming heard.new) (outgoing (W.contents wire.new) (W.failures wire.new))) fault) }
+        (λ fault. StopsAsking (link (H.coming heard.old) (W.draft wire.old)) (link (H.coming heard.new) (W.draft wire.new)) fault) }
 {
     if let Err(fault) = ask_checkpoint(alloc, heard, wire) {
         return Err(fault);

@@ -1,6 +1,6 @@
 //! A tenant's arrays, as a server tells them, and the end of a session.
 ghost use Rattle.std.specs.Prelude.{◌≡◌, MatchResult, map};
-ghost use Rattle.ot_client_ask.specs.Streams.{link, outgoing};
+ghost use Rattle.ot_client_ask.specs.Streams.{link};
 ghost use Rattle.ot_model.specs.Programs.{arrays_of};
 ghost use Rattle.ot_store.specs.Arrays.{arrays_listed};
 ghost use Rattle.ot_client_keep.specs.Answers.{shape_sized};
@@ -22,10 +22,9 @@ pub(crate) fn read_arrays<H: LineSource, W: Sink>(
     wire: &mut W,
 ) -> Result<Vec<Array>, KeepFault>
     ensures { MatchResult result
-        (λ arrays. AsksInTurn (link (H.coming heard.old) (outgoing (W.contents wire.old) (W.failures wire.old)))
-        (link (H.coming heard.new) (outgoing (W.contents wire.new) (W.failures wire.new))) (arrays_turns (map named_by arrays.items)))
-        (λ fault. StopsAsking (link (H.coming heard.old) (outgoing (W.contents wire.old) (W.failures wire.old)))
-        (link (H.coming heard.new) (outgoing (W.contents wire.new) (W.failures wire.new))) fault) }
+        (λ arrays. AsksInTurn (link (H.coming heard.old) (W.draft wire.old))
+        (link (H.coming heard.new) (W.draft wire.new)) (arrays_turns (map named_by arrays.items)))
+        (λ fault. StopsAsking (link (H.coming heard.old) (W.draft wire.old)) (link (H.coming heard.new) (W.draft wire.new)) fault) }
 {
     let shapes = match ask_arrays(alloc, heard, wire) {
         Ok(shapes) => shapes,
@@ -42,11 +41,10 @@ fn read_each<H: LineSource, W: Sink>(
     wire: &mut W,
 ) -> Result<Vec<Array>, KeepFault>
     ensures { MatchResult result
-        (λ arrays. AsksInTurn (link (H.coming heard.old) (outgoing (W.contents wire.old) (W.failures wire.old)))
-        (link (H.coming heard.new) (outgoing (W.contents wire.new) (W.failures wire.new))) (map cells_turn (map named_by arrays.items))
+        (λ arrays. AsksInTurn (link (H.coming heard.old) (W.draft wire.old))
+        (link (H.coming heard.new) (W.draft wire.new)) (map cells_turn (map named_by arrays.items))
         × (arrays_listed (map named_by arrays.items) ≡ arrays_of shapes.now))
-        (λ fault. StopsAsking (link (H.coming heard.old) (outgoing (W.contents wire.old) (W.failures wire.old)))
-        (link (H.coming heard.new) (outgoing (W.contents wire.new) (W.failures wire.new))) fault) }
+        (λ fault. StopsAsking (link (H.coming heard.old) (W.draft wire.old)) (link (H.coming heard.new) (W.draft wire.new)) fault) }
 {
     let mut arrays = Vec::new(alloc);
     for shape in shapes {
@@ -71,10 +69,9 @@ fn read_array<H: LineSource, W: Sink>(
 ) -> Result<Array, KeepFault>
     ensures { MatchResult result
         (λ array. (array_sized (named_by array) ≡ shape_sized shape.now)
-        × Turn (cells_turn (named_by array)).0 (link (H.coming heard.old) (outgoing (W.contents wire.old) (W.failures wire.old)))
-        (link (H.coming heard.new) (outgoing (W.contents wire.new) (W.failures wire.new))) (cells_turn (named_by array)).1)
-        (λ fault. StopsAsking (link (H.coming heard.old) (outgoing (W.contents wire.old) (W.failures wire.old)))
-        (link (H.coming heard.new) (outgoing (W.contents wire.new) (W.failures wire.new))) fault) }
+        × Turn (cells_turn (named_by array)).0 (link (H.coming heard.old) (W.draft wire.old))
+        (link (H.coming heard.new) (W.draft wire.new)) (cells_turn (named_by array)).1)
+        (λ fault. StopsAsking (link (H.coming heard.old) (W.draft wire.old)) (link (H.coming heard.new) (W.draft wire.new)) fault) }
 {
     let Ok(name) = String::from_str(alloc, shape.name.as_str()) else {
         return Err(KeepFault::Ask(AskFault::Memory));
@@ -87,8 +84,7 @@ fn read_array<H: LineSource, W: Sink>(
 
 /// Says goodbye, as far as that can be sent, and waits until the stream is over: the tenant is free then.
 pub(crate) fn say_bye<H: LineSource, W: Sink>(heard: &mut H, wire: &mut W)
-    ensures { SendsBye (link (H.coming heard.old) (outgoing (W.contents wire.old) (W.failures wire.old)))
-        (link (H.coming heard.new) (outgoing (W.contents wire.new) (W.failures wire.new))) }
+    ensures { SendsBye (link (H.coming heard.old) (W.draft wire.old)) (link (H.coming heard.new) (W.draft wire.new)) }
 {
     let _ = write_whole(wire, b"[\"bye\"]\n".as_slice());
     heard.wait_for_end();

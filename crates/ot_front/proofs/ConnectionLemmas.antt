@@ -4,7 +4,7 @@ use Rattle.std.specs.Prelude.{⊤, None, Result, Ok}
 use Rattle.ot_book.specs.Books.{Register}
 use Rattle.ot_lines.specs.Lines.{Flow, next_count, count_after}
 use Rattle.ot_front.specs.Greetings.{NeverAsks, AnswersFirstLine, Greets, TellsEnd}
-use Rattle.ot_session.specs.Serving.{IsServed}
+use Rattle.ot_session.specs.Serving.{Draft, IsServed}
 use Rattle.ot_session.specs.declared.fault.End.{End}
 use Rattle.ot_session.specs.declared.fault.FrontFault.{FrontFault}
 
@@ -27,10 +27,10 @@ greets_so names ahead left ended start held result greets = record {
 }
 
 -- what the devices tell of a session, they tell of it and of the greeting before it
-pub tells_behind : (book left : Register) (before mid after : Flow) (start held : Option (List ℕ)) (failures now later : ℕ) (result : Result End FrontFault) →
-    (k : ℕ) × (k ≤ 65) × (mid.reads ≡ count_after k before.reads) → mid.ends ≡ before.ends → mid.failures ≡ before.failures → now ≡ failures →
-    IsServed book left mid after start held now later result → TellsEnd before after failures later result
-tells_behind book left before mid after start held failures now later result reads ends read_worked write_worked served = record {
+pub tells_behind : (book left : Register) (before mid after : Flow) (earlier now later : Draft) (result : Result End FrontFault) →
+    (k : ℕ) × (k ≤ 65) × (mid.reads ≡ count_after k before.reads) → mid.ends ≡ before.ends → mid.failures ≡ before.failures → now.failures ≡ earlier.failures →
+    IsServed book left mid after now later result → TellsEnd before after earlier later result
+tells_behind book left before mid after earlier now later result reads ends read_worked write_worked served = record {
   turns = λ is. (reads.0, reads.1, served.turns is ∙ ap (count_after 1000000) reads.2);
   at_end = served.at_end;
   end_told = λ is. served.end_told is ∙ ap next_count ends;

@@ -9,7 +9,7 @@ use Rattle.ot_book.specs.Answers.{value_of, nat}
 use Rattle.ot_book.specs.Books.{Register, next_number}
 use Rattle.ot_book.specs.Requests.{name_in}
 use Rattle.ot_lines.specs.Lines.{Flow, next_count, count_after}
-use Rattle.ot_session.specs.Serving.{AppendsFront}
+use Rattle.ot_session.specs.Serving.{Draft, AppendsFront}
 use Rattle.ot_session.specs.Session.{HasNoEnd, Serves}
 use Rattle.ot_front.specs.Desks.{IsKnown}
 use Rattle.ot_session.specs.declared.fault.FrontFault.{FrontFault}
@@ -164,11 +164,11 @@ pub record Connects (names : List (List ℕ)) (ahead left start held : Option (L
 
 -- What the devices tell of how a session behind a greeting ended: what is told of reads and writes happened, and nothing else did. A
 -- greeting takes at most 65 reads, and a session 1,000,000.
-pub record TellsEnd (before after : Flow) (failures later : ℕ) (result : Result End FrontFault) : Type 0 where
+pub record TellsEnd (before after : Flow) (earlier later : Draft) (result : Result End FrontFault) : Type 0 where
   pub turns : result ≡ Err TooManyTurns → (k : ℕ) × (k ≤ 65) × (after.reads ≡ count_after 1000000 (count_after k before.reads))
   pub at_end : result ≡ Ok EndOfInput → IsAtEnd after.ahead
   pub end_told : result ≡ Ok EndOfInput → after.ends ≡ next_count before.ends
   pub read_failed : result ≡ Err ReadFailed → after.failures ≡ next_count before.failures
   pub read_worked : result ≢ Err ReadFailed → after.failures ≡ before.failures
-  pub write_failed : result ≡ Err WriteFailed → later ≡ next_count failures
-  pub write_worked : result ≢ Err WriteFailed → later ≡ failures
+  pub write_failed : result ≡ Err WriteFailed → later.failures ≡ next_count earlier.failures
+  pub write_worked : result ≢ Err WriteFailed → later.failures ≡ earlier.failures

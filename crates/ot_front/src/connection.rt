@@ -27,8 +27,8 @@ pub fn serve_connection<R: Source, W: Sink, L: Ledger, T: Wait>(
     source: &mut R,
     sink: &mut W,
 ) -> Option<Result<End, FrontFault>>
-    ensures connects { Connects desk.now (R.flow source.old).ahead (R.flow source.new).ahead (W.contents sink.old) (W.contents sink.new) result }
-    ensures tells { IfSome result (TellsEnd (R.flow source.old) (R.flow source.new) (W.failures sink.old) (W.failures sink.new)) }
+    ensures connects { Connects desk.now (R.flow source.old).ahead (R.flow source.new).ahead (W.draft sink.old).held (W.draft sink.new).held result }
+    ensures tells { IfSome result (TellsEnd (R.flow source.old) (R.flow source.new) (W.draft sink.old) (W.draft sink.new)) }
 {
     connect(rt, alloc, pool, &mut OnDesk { rt, desk }, source, sink)
 }
@@ -42,9 +42,9 @@ fn connect<B: Rack, R: Source, W: Sink, L: Ledger, T: Wait>(
     source: &mut R,
     sink: &mut W,
 ) -> Option<Result<End, FrontFault>>
-    ensures connects { ConnectsOver (B.names rack.old) (R.flow source.old).ahead (R.flow source.new).ahead (W.contents sink.old) (W.contents sink.new)
+    ensures connects { ConnectsOver (B.names rack.old) (R.flow source.old).ahead (R.flow source.new).ahead (W.draft sink.old).held (W.draft sink.new).held
         result (B.moves rack.old) (B.moves rack.new) }
-    ensures tells { IfSome result (TellsEnd (R.flow source.old) (R.flow source.new) (W.failures sink.old) (W.failures sink.new)) }
+    ensures tells { IfSome result (TellsEnd (R.flow source.old) (R.flow source.new) (W.draft sink.old) (W.draft sink.new)) }
 {
     let Ok(mut lines) = Lines::new(alloc, first_bounds()) else {
         return None;
@@ -73,8 +73,7 @@ fn hold_session<B: Rack, E: Executor, R: Source, W: Sink>(
     sink: &mut W,
 ) -> Result<End, FrontFault>
     requires { book.pending ≡ None }
-    ensures { (after : Register) × IsServed book after (R.flow source.old) (R.flow source.new)
-        (W.contents sink.old) (W.contents sink.new) (W.failures sink.old) (W.failures sink.new) result
+    ensures { (after : Register) × IsServed book after (R.flow source.old) (R.flow source.new) (W.draft sink.old) (W.draft sink.new) result
         × (B.moves rack.new ≡ with_laid after (B.moves rack.old)) }
 {
     let end = serve_behind(alloc, lines, &mut book, executor, source, sink);

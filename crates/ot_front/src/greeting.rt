@@ -36,13 +36,13 @@ pub fn greet<R: Source, W: Sink, T: Wait>(
     sink: &mut W,
 ) -> Result<Option<Book>, FrontFault>
     ensures greets { Greets desk.now (R.flow source.old).ahead (R.flow source.new).ahead ((R.flow source.new).ends ≡ next_count (R.flow source.old).ends)
-        (W.contents sink.old) (W.contents sink.new) result }
+        (W.draft sink.old).held (W.draft sink.new).held result }
     ensures closed { IfOk result (λ given. IfSome given (λ book. book.pending ≡ None)) }
     ensures reads { (k : ℕ) × (k ≤ 65) × ((R.flow source.new).reads ≡ count_after k (R.flow source.old).reads) }
     ensures read_failed { result ≡ Err ReadFailed → (R.flow source.new).failures ≡ next_count (R.flow source.old).failures }
     ensures read_worked { result ≢ Err ReadFailed → (R.flow source.new).failures ≡ (R.flow source.old).failures }
-    ensures write_failed { result ≡ Err WriteFailed → W.failures sink.new ≡ next_count (W.failures sink.old) }
-    ensures write_worked { result ≢ Err WriteFailed → W.failures sink.new ≡ W.failures sink.old }
+    ensures write_failed { result ≡ Err WriteFailed → (W.draft sink.new).failures ≡ next_count (W.draft sink.old).failures }
+    ensures write_worked { result ≢ Err WriteFailed → (W.draft sink.new).failures ≡ (W.draft sink.old).failures }
 {
     let Ok(mut lines) = Lines::new(alloc, first_bounds()) else {
         return Err(FrontFault::Memory);
@@ -60,7 +60,7 @@ pub(crate) fn greet_from<B: Rack, R: Source, W: Sink>(
 ) -> Result<Option<Book>, FrontFault>
     requires { lines.old ≡ hearing_opened first_bounds }
     ensures greets { Greets (B.names rack.old) (R.flow source.old).ahead (R.flow source.new).ahead ((R.flow source.new).ends ≡ next_count (R.flow source.old).ends)
-        (W.contents sink.old) (W.contents sink.new) result }
+        (W.draft sink.old).held (W.draft sink.new).held result }
     ensures names { B.names rack.new ≡ B.names rack.old }
     ensures hands { Hands (B.moves rack.old) (B.moves rack.new) result }
     ensures closed { IfOk result (λ given. IfSome given (λ book. book.pending ≡ None)) }
@@ -68,8 +68,8 @@ pub(crate) fn greet_from<B: Rack, R: Source, W: Sink>(
     ensures reads { (k : ℕ) × (k ≤ 65) × ((R.flow source.new).reads ≡ count_after k (R.flow source.old).reads) }
     ensures read_failed { result ≡ Err ReadFailed → (R.flow source.new).failures ≡ next_count (R.flow source.old).failures }
     ensures read_worked { result ≢ Err ReadFailed → (R.flow source.new).failures ≡ (R.flow source.old).failures }
-    ensures write_failed { result ≡ Err WriteFailed → W.failures sink.new ≡ next_count (W.failures sink.old) }
-    ensures write_worked { result ≢ Err WriteFailed → W.failures sink.new ≡ W.failures sink.old }
+    ensures write_failed { result ≡ Err WriteFailed → (W.draft sink.new).failures ≡ next_count (W.draft sink.old).failures }
+    ensures write_worked { result ≢ Err WriteFailed → (W.draft sink.new).failures ≡ (W.draft sink.old).failures }
 {
     match hear_first(lines, source) {
         Ok(Heard::Line) => answer_line(alloc, rack, lines.line(), sink),
@@ -86,12 +86,12 @@ fn answer_line<B: Rack, W: Sink>(
     line: &[u8],
     sink: &mut W,
 ) -> Result<Option<Book>, FrontFault>
-    ensures answers { Answers (B.names rack.old) (greeting_of line.now) (W.contents sink.old) (W.contents sink.new) result }
+    ensures answers { Answers (B.names rack.old) (greeting_of line.now) (W.draft sink.old).held (W.draft sink.new).held result }
     ensures names { B.names rack.new ≡ B.names rack.old }
     ensures hands { Hands (B.moves rack.old) (B.moves rack.new) result }
     ensures closed { IfOk result (λ given. IfSome given (λ book. book.pending ≡ None)) }
-    ensures write_failed { result ≡ Err WriteFailed → W.failures sink.new ≡ next_count (W.failures sink.old) }
-    ensures write_worked { result ≢ Err WriteFailed → W.failures sink.new ≡ W.failures sink.old }
+    ensures write_failed { result ≡ Err WriteFailed → (W.draft sink.new).failures ≡ next_count (W.draft sink.old).failures }
+    ensures write_worked { result ≢ Err WriteFailed → (W.draft sink.new).failures ≡ (W.draft sink.old).failures }
 {
     match find_book(alloc, rack, line) {
         Ok(book) => welcome(alloc, rack, book, sink),
@@ -174,10 +174,10 @@ fn read_hello(items: &[Value]) -> Option<&str>
 
 /// Tells why there is no book.
 fn refuse<W: Sink>(why: Refusal, sink: &mut W) -> Result<Option<Book>, FrontFault>
-    ensures writes { WritesReply (W.contents sink.old) (W.contents sink.new) (refusal_text why) result }
+    ensures writes { WritesReply (W.draft sink.old).held (W.draft sink.new).held (refusal_text why) result }
     ensures none { IfOk result (λ given. given ≡ None) }
-    ensures write_failed { result ≡ Err WriteFailed → W.failures sink.new ≡ next_count (W.failures sink.old) }
-    ensures write_worked { result ≢ Err WriteFailed → W.failures sink.new ≡ W.failures sink.old }
+    ensures write_failed { result ≡ Err WriteFailed → (W.draft sink.new).failures ≡ next_count (W.draft sink.old).failures }
+    ensures write_worked { result ≢ Err WriteFailed → (W.draft sink.new).failures ≡ (W.draft sink.old).failures }
 {
     match write_whole(sink, why.text()) {
         Ok(()) => Ok(None),
@@ -196,10 +196,10 @@ fn welcome<B: Rack, W: Sink>(
     ensures names { B.names rack.new ≡ B.names rack.old }
     ensures kept { OnOk result (B.moves rack.new ≡ B.moves rack.old) }
     ensures laid { OnErr result (B.moves rack.new ≡ with_laid book (B.moves rack.old)) }
-    ensures writes { WritesReply (W.contents sink.old) (W.contents sink.new) (hello_text book) result }
+    ensures writes { WritesReply (W.draft sink.old).held (W.draft sink.new).held (hello_text book) result }
     ensures given { IfOk result (λ given. given ≡ Some book) }
-    ensures write_failed { result ≡ Err WriteFailed → W.failures sink.new ≡ next_count (W.failures sink.old) }
-    ensures write_worked { result ≢ Err WriteFailed → W.failures sink.new ≡ W.failures sink.old }
+    ensures write_failed { result ≡ Err WriteFailed → (W.draft sink.new).failures ≡ next_count (W.draft sink.old).failures }
+    ensures write_worked { result ≢ Err WriteFailed → (W.draft sink.new).failures ≡ (W.draft sink.old).failures }
 {
     match say_hello(alloc, &book, sink) {
         Ok(()) => Ok(Some(book)),
@@ -212,9 +212,9 @@ fn welcome<B: Rack, W: Sink>(
 
 /// Writes the reply to a greeting that gets this book.
 fn say_hello<W: Sink>(alloc: Global, book: &Book, sink: &mut W) -> Result<(), FrontFault>
-    ensures writes { WritesReply (W.contents sink.old) (W.contents sink.new) (hello_text book.now) result }
-    ensures write_failed { result ≡ Err WriteFailed → W.failures sink.new ≡ next_count (W.failures sink.old) }
-    ensures write_worked { result ≢ Err WriteFailed → W.failures sink.new ≡ W.failures sink.old }
+    ensures writes { WritesReply (W.draft sink.old).held (W.draft sink.new).held (hello_text book.now) result }
+    ensures write_failed { result ≡ Err WriteFailed → (W.draft sink.new).failures ≡ next_count (W.draft sink.old).failures }
+    ensures write_worked { result ≢ Err WriteFailed → (W.draft sink.new).failures ≡ (W.draft sink.old).failures }
 {
     let Ok(text) = hello_text(alloc, book) else {
         return Err(FrontFault::Memory);

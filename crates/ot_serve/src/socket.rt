@@ -41,10 +41,10 @@ pub fn serve_socket<R: Threads + Wait + Sync + Files + Net, W: Sink>(
         ↔ (are_tenants (map string_bytes asked.now.names.items) ≡ true) × (64 < length (map string_bytes asked.now.names.items)) }
 
     // What is printed, and that nothing is where the server fails otherwise.
-    ensures prints { OnOk result (Prints (map string_bytes asked.now.names.items) (W.contents sink.old) (W.contents sink.new)) }
-    ensures silent { IfErr result (λ fault. fault ≢ Fault.WriteFailed → W.contents sink.new ≡ W.contents sink.old) }
-    ensures write_failed { result ≡ Err Fault.WriteFailed → W.failures sink.new ≡ next_count (W.failures sink.old) }
-    ensures write_worked { result ≢ Err Fault.WriteFailed → W.failures sink.new ≡ W.failures sink.old }
+    ensures prints { OnOk result (Prints (map string_bytes asked.now.names.items) (W.draft sink.old).held (W.draft sink.new).held) }
+    ensures silent { IfErr result (λ fault. fault ≢ Fault.WriteFailed → (W.draft sink.new).held ≡ (W.draft sink.old).held) }
+    ensures write_failed { result ≡ Err Fault.WriteFailed → (W.draft sink.new).failures ≡ next_count (W.draft sink.old).failures }
+    ensures write_worked { result ≢ Err Fault.WriteFailed → (W.draft sink.new).failures ≡ (W.draft sink.old).failures }
 {
     look_at_names(asked.names.as_slice())?;
     let usage = serve_desk(rt, alloc, asked)?;
@@ -83,10 +83,10 @@ fn print_usage<W: Sink>(
 ) -> Result<(), Fault>
     requires each { vec_len usage.now.by_tenant ≡ length names.now }
     requires adds_up { sum usage.now.by_tenant.items ≡ usage.now.total }
-    ensures prints { OnOk result (Prints (map string_bytes names.now) (W.contents sink.old) (W.contents sink.new)) }
-    ensures silent { IfErr result (λ fault. fault ≢ Fault.WriteFailed → W.contents sink.new ≡ W.contents sink.old) }
-    ensures write_failed { result ≡ Err Fault.WriteFailed → W.failures sink.new ≡ next_count (W.failures sink.old) }
-    ensures write_worked { result ≢ Err Fault.WriteFailed → W.failures sink.new ≡ W.failures sink.old }
+    ensures prints { OnOk result (Prints (map string_bytes names.now) (W.draft sink.old).held (W.draft sink.new).held) }
+    ensures silent { IfErr result (λ fault. fault ≢ Fault.WriteFailed → (W.draft sink.new).held ≡ (W.draft sink.old).held) }
+    ensures write_failed { result ≡ Err Fault.WriteFailed → (W.draft sink.new).failures ≡ next_count (W.draft sink.old).failures }
+    ensures write_worked { result ≢ Err Fault.WriteFailed → (W.draft sink.new).failures ≡ (W.draft sink.old).failures }
     ensures names { IfErr result (λ fault. (fault ≢ Fault.BadTenantName) × (fault ≢ Fault.TooManyTenants)) }
 {
     let Ok(text) = write_usage(alloc, names, usage) else {

@@ -87,6 +87,13 @@ pub some-taken : (book new : Register) (line : List ℕ) (took : Bool) → LogsL
 some-taken book new line true is so = omega (arith, some-logged book line is.1, ap (λ (b : Register). length b.log) is.2)
 some-taken book new line false is so = absurd (true≢false (sym so))
 
+-- the number of the next request is no less behind a line, taken or not
+pub next-taken : (book new : Register) (line : List ℕ) (took : Bool) → LogsLine book line took new → next_number book ≤ next_number new
+next-taken book new line true is =
+    let one : next_number (line_logged book line is.1) ≡ next_number book + 1 = ap (λ (r : Room). r.next) (room-logged book line is.1) in
+    omega (arith, one, ap next_number is.2)
+next-taken book new line false is = omega (arith, ap next_number is.1)
+
 pending-logged : (book : Register) (line : List ℕ) (lost : Bool) → (line_logged book line lost).pending ≡ None
 pending-logged book line lost = logged-by (λ b. b.pending ≡ None) book line lost (is_checkpoint line) refl (λ _. refl) (λ _. refl)
 

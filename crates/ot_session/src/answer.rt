@@ -56,10 +56,10 @@ pub(crate) fn answer<E: Executor>(
 /// Writes the reply to the last line of the book, ended by one LF.
 pub(crate) fn write_last<W: Sink>(alloc: Global, book: &Book, sink: &mut W) -> Result<(), Stop>
     requires { 0 < length book.now.log }
-    ensures written { OnOk result (Appends (W.contents sink.old) (W.contents sink.new) (last_reply book.now)) }
-    ensures cut { OnErr result ((n : ℕ) × Appends (W.contents sink.old) (W.contents sink.new) (take n (last_reply book.now))) }
+    ensures written { OnOk result (Appends (W.draft sink.old).held (W.draft sink.new).held (last_reply book.now)) }
+    ensures cut { OnErr result ((n : ℕ) × Appends (W.draft sink.old).held (W.draft sink.new).held (take n (last_reply book.now))) }
     ensures stops { IfErr result (λ stop. (stop ≡ WriteFailed) ⊎ (stop ≡ Memory)) }
-    ensures failures { W.failures sink.new ≡ count_after (failed_writes result) (W.failures sink.old) }
+    ensures failures { (W.draft sink.new).failures ≡ count_after (failed_writes result) (W.draft sink.old).failures }
 {
     let Ok(text) = last_text(alloc, book) else {
         return Err(Stop::Memory);

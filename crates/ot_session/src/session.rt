@@ -32,8 +32,7 @@ pub fn serve<E: Executor, R: Source, W: Sink>(
     sink: &mut W,
 ) -> Result<End, FrontFault>
     requires { book.old.pending ≡ None }
-    ensures { IsServed book.old book.new (R.flow source.old) (R.flow source.new)
-        (W.contents sink.old) (W.contents sink.new) (W.failures sink.old) (W.failures sink.new) result }
+    ensures { IsServed book.old book.new (R.flow source.old) (R.flow source.new) (W.draft sink.old) (W.draft sink.new) result }
 {
     let Ok(mut lines) = Lines::new(alloc, session_bounds()) else {
         return Err(FrontFault::Memory);
@@ -52,8 +51,7 @@ pub(crate) fn serve_lines<E: Executor, R: Source, W: Sink>(
 ) -> Result<End, FrontFault>
     requires begun { lines.old ≡ hearing_opened session_bounds }
     requires closed { book.old.pending ≡ None }
-    ensures { IsServed book.old book.new (R.flow source.old) (R.flow source.new)
-        (W.contents sink.old) (W.contents sink.new) (W.failures sink.old) (W.failures sink.new) result }
+    ensures { IsServed book.old book.new (R.flow source.old) (R.flow source.new) (W.draft sink.old) (W.draft sink.new) result }
 {
     let mut turn = Turn { alloc, executor };
     match listen(lines, source, &mut turn, book, sink) {
@@ -75,8 +73,7 @@ pub fn serve_behind<E: Executor, R: Source, W: Sink>(
     sink: &mut W,
 ) -> Result<End, FrontFault>
     requires { book.old.pending ≡ None }
-    ensures { IsServed book.old book.new (R.flow source.old) (R.flow source.new)
-        (W.contents sink.old) (W.contents sink.new) (W.failures sink.old) (W.failures sink.new) result }
+    ensures { IsServed book.old book.new (R.flow source.old) (R.flow source.new) (W.draft sink.old) (W.draft sink.new) result }
 {
     if lines.begin(session_bounds()).is_err() {
         return Err(FrontFault::Memory);

@@ -1,9 +1,6 @@
 //! One line of a session: the goodbye, or a request, its reply, and why there may be no further line.
-ghost use Rattle.std.specs.Prelude.{◌≡◌, ◌≤◌, ◌++◌, ◌∷◌, [], ℕ, List, Option, Some, None, OnOk, OnErr, IfOk, IfErr};
-ghost use Rattle.std.specs.Io.KnownBytes.{Appends};
-ghost use Rattle.ot_book.specs.Books.{Register, next_number};
-ghost use Rattle.ot_session.specs.Serving.{AppendsFront, next_count, count_after, failed_writes, Going, Goes};
-ghost use Rattle.ot_session.specs.Turns.{TakesLine};
+ghost use Rattle.std.specs.Prelude.{◌≡◌, Some, IfOk, IfErr};
+ghost use Rattle.ot_session.specs.Serving.{Writes, BreaksOffIn, TakesLine};
 ghost use Rattle.ot_session.specs.Session.{closing};
 ghost use Rattle.ot_session.specs.declared.fault.End.TheVariants as end;
 ghost use Rattle.ot_session.specs.declared.fault.FrontFault.TheVariants as fault;
@@ -25,7 +22,7 @@ pub(crate) struct Turn<'a, E: Executor> {
 }
 
 impl<'a, E: Executor, W: Sink> Listener<Book, W, Stop> for Turn<'a, E> {
-    ghost took = { λ old sink line new next result. TakesLine old (W.contents sink) (W.failures sink) line new (W.contents next) (W.failures next) result };
+    ghost took = { λ old sink line new next result. TakesLine old (W.draft sink) line new (W.draft next) result };
 
     fn take(&mut self, book: &mut Book, sink: &mut W, line: &[u8]) -> Result<(), Stop> {
         take_line(self.alloc, book, self.executor, sink, line)
@@ -41,11 +38,7 @@ pub fn take_line<E: Executor, W: Sink>(
     sink: &mut W,
     line: &[u8],
 ) -> Result<(), Stop>
-    ensures goes { (first : Register) (start : Option (List ℕ)) (bytes : List ℕ) → first.pending ≡ None →
-        Going first start bytes line.now book.old (W.contents sink.old) →
-        Goes first start (bytes ++ 10 ∷ []) [] book.new (W.contents sink.new) result }
-    ensures grows { next_number book.old ≤ next_number book.new }
-    ensures failures { W.failures sink.new ≡ count_after (failed_writes result) (W.failures sink.old) }
+    ensures { TakesLine book.old (W.draft sink.old) line.now book.new (W.draft sink.new) result }
 {
     if is_bye(line) {
         return Err(Stop::Bye);
@@ -67,10 +60,8 @@ pub fn take_line<E: Executor, W: Sink>(
 
 /// Tells that a line is longer than a line may be, which ends a session.
 pub fn tell_long<W: Sink>(sink: &mut W) -> Result<End, FrontFault>
-    ensures told { IfOk result (λ ended. (ended ≡ end.LongLine) × Appends (W.contents sink.old) (W.contents sink.new) (closing (Some end.LongLine))) }
-    ensures cut { IfErr result (λ why. (why ≡ fault.WriteFailed) × AppendsFront (W.contents sink.old) (W.contents sink.new) (closing (Some end.LongLine))) }
-    ensures worked { OnOk result (W.failures sink.new ≡ W.failures sink.old) }
-    ensures failed { OnErr result (W.failures sink.new ≡ next_count (W.failures sink.old)) }
+    ensures told { IfOk result (λ ended. (ended ≡ end.LongLine) × Writes (W.draft sink.old) (W.draft sink.new) (closing (Some end.LongLine))) }
+    ensures cut { IfErr result (λ why. (why ≡ fault.WriteFailed) × BreaksOffIn (W.draft sink.old) (W.draft sink.new) (closing (Some end.LongLine))) }
 {
     match write_whole(sink, b"[\"long\"]\n".as_slice()) {
         Ok(()) => Ok(End::LongLine),

@@ -1,7 +1,6 @@
 //! Writing all of a text, however little the sink takes at a time.
-ghost use Rattle.std.specs.Prelude.{◌≡◌, OnOk, OnErr};
-ghost use Rattle.std.specs.Io.KnownBytes.{Appends};
-ghost use Rattle.ot_session.specs.Serving.{next_count, AppendsFront};
+ghost use Rattle.std.specs.Prelude.{OnOk, OnErr};
+ghost use Rattle.ot_session.specs.Serving.{Writes, BreaksOffIn};
 
 use crate::device::Sink;
 use ot_lines::Failed;
@@ -10,11 +9,8 @@ use ot_lines::Failed;
 /// at the first failure.
 #[tactic(auto, using(crate::proofs::Appending::appends_more))]
 pub fn write_whole<W: Sink>(sink: &mut W, bytes: &[u8]) -> Result<(), Failed>
-    ensures ok { OnOk result (Appends (W.contents sink.old) (W.contents sink.new) bytes.now) }
-    ensures err { OnErr result
-        (AppendsFront (W.contents sink.old) (W.contents sink.new) bytes.now) }
-    ensures worked { OnOk result (W.failures sink.new ≡ W.failures sink.old) }
-    ensures failed { OnErr result (W.failures sink.new ≡ next_count (W.failures sink.old)) }
+    ensures ok { OnOk result (Writes (W.draft sink.old) (W.draft sink.new) bytes.now) }
+    ensures err { OnErr result (BreaksOffIn (W.draft sink.old) (W.draft sink.new) bytes.now) }
 {
     let mut at = 0;
     while at < bytes.len() {

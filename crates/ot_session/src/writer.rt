@@ -1,6 +1,7 @@
 //! A sink over a writer of std. It tells of the bytes what the writer tells: over a `Vec` each of
 //! them, over a file or a socket none.
 ghost use Rattle.std.specs.Prelude.{◌≡◌};
+ghost use Rattle.ot_session.specs.Serving.{draft};
 
 use crate::device::Sink;
 use ot_lines::Failed;
@@ -19,8 +20,7 @@ impl<W: Write> Writing<W> {
     /// A writer of std as a sink, to which nothing was written.
     pub fn new(writer: W) -> Writing<W>
         ensures writer { writer_of result ≡ writer }
-        ensures contents { ⟦<Writing<W> as Sink>⟧.contents result ≡ W.contents writer }
-        ensures failures { ⟦<Writing<W> as Sink>⟧.failures result ≡ 0 }
+        ensures draft { ⟦<Writing<W> as Sink>⟧.draft result ≡ draft (W.contents writer) 0 }
     {
         Writing {
             writer,
@@ -37,9 +37,7 @@ impl<W: Write> Writing<W> {
 }
 
 impl<W: Write> Sink for Writing<W> {
-    ghost contents = { λ s. W.contents s.writer };
-
-    ghost failures = { λ s. s.failures };
+    ghost draft = { λ s. draft (W.contents s.writer) s.failures };
 
     fn write(&mut self, bytes: &[u8]) -> Result<usize, Failed> {
         match self.writer.write(bytes) {

@@ -1,13 +1,14 @@
 -- A run of sim over the lines that were heard.
 use Rattle.std.proofs.Common.{◌≡◌, ◌≢◌, ℕ, ◌+◌, List, [], ◌∷◌, ◌++◌, append_assoc, append-nil, refl, sym, ap, ◌∙◌, subst, arith}
 use Rattle.std.specs.Prelude.{Option, Result, Ok, Err, OnOk, ⊤}
-use Rattle.std.specs.Io.KnownBytes.{Appends, IsAtEnd}
+use Rattle.std.specs.Io.KnownBytes.{IsAtEnd}
 use Rattle.std.proofs.KnownBytes.{Appends-nil, Appends-trans}
 use Rattle.ot_lines.specs.Lines.{Flow, next_count, count_after, Hearing, HasNoEnd, hearing_opened, IsIdle, lines_ended, Went, Through, Ends, Listens, Stops as StopsAt}
 use Rattle.ot_lines.specs.declared.lines.LineFault.{LineFault}
 use Rattle.ot_lines.specs.declared.lines.LineFault.TheVariants as lines
 use Rattle.ot_lines.specs.declared.listener.Ended.{Ended}
 use Rattle.ot_lines.specs.declared.listener.Ended.TheVariants as ended_as
+use Rattle.ot_session.specs.Serving.{Draft, Writes}
 use Rattle.ot_session.proofs.PrefixLemmas.{consumed}
 use Rattle.ot_sim.specs.declared.play.Play.{Play}
 use Rattle.ot_sim.specs.declared.fault.Untold.{Untold}
@@ -36,10 +37,10 @@ no_write_failed : (r : Result ⊤ SimFault) → r ≢ Err fault.WriteFailed → 
 no_write_failed (Err fault.WriteFailed) other = absurd (other refl)
 no_write_failed result other = refl
 
-run : {f h : Flow} {start held : Option (List ℕ)} {result : Result ⊤ SimFault} (before later reads left : ℕ) → TalksOver f.ahead h.ahead start held result → reads + left ≡ 1000000 →
+run : {f h : Flow} {d e : Draft} {result : Result ⊤ SimFault} (reads left : ℕ) → TalksOver f.ahead h.ahead d.held e.held result → reads + left ≡ 1000000 →
     h.reads ≡ count_after reads f.reads → (result ≡ Err fault.TooManyTurns → left ≡ 0) → OnOk result (IsAtEnd h.ahead) → OnOk result (h.ends ≡ next_count f.ends) →
-    h.failures ≡ count_after (read_failures result) f.failures → later ≡ count_after (write_failures result) before → IsSimRun f h start held before later result
-run {f = f} {h = h} {result = result} before later reads left talks sum counted turns at_end end_told failures writes = record {
+    h.failures ≡ count_after (read_failures result) f.failures → e.failures ≡ count_after (write_failures result) d.failures → IsSimRun f h d e result
+run {f = f} {h = h} {d = d} {result = result} reads left talks sum counted turns at_end end_told failures writes = record {
   talks = talks;
   reads = (reads, omega (arith, sum), counted);
   turns = λ is. counted ∙ ap (λ k. count_after k f.reads) (let all : reads ≡ 1000000 = omega (arith, sum, turns is) in all);
@@ -47,41 +48,41 @@ run {f = f} {h = h} {result = result} before later reads left talks sum counted 
   end_told = end_told;
   read_failed = λ is. failures ∙ ap (λ r. count_after (read_failures r) f.failures) is;
   read_worked = λ other. failures ∙ ap (λ n. count_after n f.failures) (no_read_failed result other);
-  write_failed = λ is. writes ∙ ap (λ r. count_after (write_failures r) before) is;
-  write_worked = λ other. writes ∙ ap (λ n. count_after n before) (no_write_failed result other);
+  write_failed = λ is. writes ∙ ap (λ r. count_after (write_failures r) d.failures) is;
+  write_worked = λ other. writes ∙ ap (λ n. count_after n d.failures) (no_write_failed result other);
 }
 
 -- ---- all lines
 
-module _ {A : Type 0} (contents : A → Option (List ℕ)) (failures : A → ℕ) where
+module _ {A : Type 0} (draft : A → Draft) where
   abbrev pub Took : Play → A → List ℕ → Play → A → Result ⊤ Untold → Type 0
-  Took old a line new b result = PlaysHeldLine old (contents a) (failures a) line new (contents b) (failures b) result
+  Took old a line new b result = PlaysHeldLine old (draft a) line new (draft b) result
 
   -- lines that were played, and what was written
   record Played (old : Play) (a : A) (lines : List (List ℕ)) (new : Play) (b : A) : Type 0 where
     pub text : List ℕ
     pub plays : PlaysAll old lines text new
-    pub writes : Appends (contents a) (contents b) text
-    pub worked : failures b ≡ failures a
+    pub writes : Writes (draft a) (draft b) text
 
   played : (lines : List (List ℕ)) (old : Play) (a : A) (new : Play) (b : A) → Went Took old a lines new b → Played old a lines new b
   played [] old a new b went = record {
     text = [];
     plays = (refl, went.0);
-    writes = subst (λ s. Appends (contents a) (contents s) []) (sym went.1) (Appends-nil (contents a));
-    worked = ap failures went.1;
+    writes = subst (λ s. Writes (draft a) (draft s) []) (sym went.1) (record { bytes_out = Appends-nil (draft a).held; worked = refl });
   }
   played (line ∷ lines) old a new b (mid, more, took, later) =
       let rest = played lines mid more new b later in
       let first = took.plays in record {
         text = first.0 ++ rest.text;
         plays = (mid, first.0, rest.text, first.1, rest.plays, refl);
-        writes = Appends-trans (contents a) (contents more) (contents b) first.0 rest.text first.2 rest.writes;
-        worked = rest.worked ∙ took.failures;
+        writes = record {
+          bytes_out = Appends-trans (draft a).held (draft more).held (draft b).held first.0 rest.text first.2 rest.writes.bytes_out;
+          worked = rest.writes.worked ∙ took.failures;
+        };
       }
 
   talks : {to : Hearing} {f h : Flow} {new : Play} {a b : A} {rest : List ℕ} {n m : ℕ} (more : List ℕ) →
-      (t : Through Took (hearing_opened sim_bounds) f empty_play a to h new b rest n m) → Talks ((lines_ended t.lines ++ rest) ++ more) (rest ++ more) (contents a) (contents b) new
+      (t : Through Took (hearing_opened sim_bounds) f empty_play a to h new b rest n m) → Talks ((lines_ended t.lines ++ rest) ++ more) (rest ++ more) (draft a).held (draft b).held new
   talks {new = new} {a = a} {b = b} {rest = rest} more t =
       let p = played t.lines empty_play a new b t.went in record {
         lines = t.lines;
@@ -89,26 +90,26 @@ module _ {A : Type 0} (contents : A → Option (List ℕ)) (failures : A → ℕ
         are = λ k line within. let is = t.are k line within in (is.clean, is.short);
         text = p.text;
         plays = p.plays;
-        writes = p.writes;
+        writes = p.writes.bytes_out;
       }
 
-  worked : {to : Hearing} {f h : Flow} {new : Play} {a b : A} {rest : List ℕ} {n m : ℕ} → (t : Through Took (hearing_opened sim_bounds) f empty_play a to h new b rest n m) → failures b ≡ failures a
-  worked {new = new} {a = a} {b = b} t = (played t.lines empty_play a new b t.went).worked
+  worked : {to : Hearing} {f h : Flow} {new : Play} {a b : A} {rest : List ℕ} {n m : ℕ} → (t : Through Took (hearing_opened sim_bounds) f empty_play a to h new b rest n m) → (draft b).failures ≡ (draft a).failures
+  worked {new = new} {a = a} {b = b} t = (played t.lines empty_play a new b t.went).writes.worked
 
   -- all that was read is lines and a rest
   talks_all : {to : Hearing} {f h : Flow} {new : Play} {a b : A} {n m : ℕ} (t : Through Took (hearing_opened sim_bounds) f empty_play a to h new b to.line n m) → HasNoEnd to.line → IsIdle to →
-      TalksAll ((lines_ended t.lines ++ to.line) ++ to.ahead) (contents a) (contents b)
+      TalksAll ((lines_ended t.lines ++ to.line) ++ to.ahead) (draft a).held (draft b).held
   talks_all {to} {new = new} {a = a} {b = b} t clean idle =
       let top : to.longest ≡ 65600 = t.passes.longest in record {
         rest = to.line;
         is_rest = (clean, omega (arith, idle.short, top));
         play = new;
-        talks = subst (λ rest. Talks ((lines_ended t.lines ++ to.line) ++ to.ahead) rest (contents a) (contents b) new)
+        talks = subst (λ rest. Talks ((lines_ended t.lines ++ to.line) ++ to.ahead) rest (draft a).held (draft b).held new)
             (ap (λ ahead. to.line ++ ahead) idle.none ∙ append-nil to.line) (talks to.ahead t);
       }
 
   over : {to : Hearing} {f h : Flow} {new : Play} {a b : A} {rest : List ℕ} {n m : ℕ} (held : Option (List ℕ)) (result : Result ⊤ SimFault) (t : Through Took (hearing_opened sim_bounds) f empty_play a to h new b rest n m) →
-      TalksBy ((lines_ended t.lines ++ rest) ++ to.ahead) (contents a) held result → TalksOver f.ahead h.ahead (contents a) held result
+      TalksBy ((lines_ended t.lines ++ rest) ++ to.ahead) (draft a).held held result → TalksOver f.ahead h.ahead (draft a).held held result
   over {to} {f} {h} {rest = rest} held result t talks = record {
     bytes = (lines_ended t.lines ++ rest) ++ to.ahead;
     reads = consumed f.ahead h.ahead to.ahead (lines_ended t.lines ++ rest) t.passes.heard;
@@ -131,32 +132,32 @@ module _ {A : Type 0} (contents : A → Option (List ℕ)) (failures : A → ℕ
 
   pub by_stop : (from to : Hearing) (f h : Flow) (first new : Play) (a b : A) (field : Ended Untold) (why : Untold) (told : SimFault) →
       field ≡ ended_as.Stopped why → told ≡ untold_fault why → from ≡ hearing_opened sim_bounds → first ≡ empty_play → Listens Took from f first a to h new b (Ok field) →
-      IsSimRun f h (contents a) (contents b) (failures a) (failures b) (Err told)
+      IsSimRun f h (draft a) (draft b) (Err told)
   by_stop from to f h first new a b field why told is fault_is begins nobody l =
       let s : StopsAt Took (hearing_opened sim_bounds) f empty_play a to h new b why = begun from to f h first new a b (Ok field) (Ok (ended_as.Stopped why)) (ap Ok is) begins nobody l in
       let t = s.through in
-      subst (λ e. IsSimRun f h (contents a) (contents b) (failures a) (failures b) (Err e)) (sym fault_is)
-      (run (failures a) (failures b) t.passes.reads to.left (over (contents b) (Err (untold_fault why)) t ((what_stops why).3 _ (contents a) (contents b))) t.passes.left t.passes.counted
+      subst (λ e. IsSimRun f h (draft a) (draft b) (Err e)) (sym fault_is)
+      (run t.passes.reads to.left (over (draft b).held (Err (untold_fault why)) t ((what_stops why).3 _ (draft a).held (draft b).held)) t.passes.left t.passes.counted
       (λ same. absurd ((what_stops why).2 (cc))) tt tt
       (t.passes.failed ∙ ap (λ n. count_after n f.failures) (sym (what_stops why).1))
-      (s.last.failures ∙ ap (λ n. count_after n (failures s.more)) (what_stops why).0 ∙ ap (count_after (write_failures (Err (untold_fault why)))) (worked t)))
+      (s.last.failures ∙ ap (λ n. count_after n (draft s.more).failures) (what_stops why).0 ∙ ap (count_after (write_failures (Err (untold_fault why)))) (worked t)))
 
   pub by_end : (from to : Hearing) (f h : Flow) (first new : Play) (a b : A) (field : Ended Untold) →
       field ≡ ended_as.End → from ≡ hearing_opened sim_bounds → first ≡ empty_play → Listens Took from f first a to h new b (Ok field) →
-      IsSimRun f h (contents a) (contents b) (failures a) (failures b) (Ok tt)
+      IsSimRun f h (draft a) (draft b) (Ok tt)
   by_end from to f h first new a b field is begins nobody l =
       let s : Ends Took (hearing_opened sim_bounds) f empty_play a to h new b (Ok ended_as.End) = begun from to f h first new a b (Ok field) (Ok ended_as.End) (ap Ok is) begins nobody l in
       let t = s.through in
-      run (failures a) (failures b) t.passes.reads to.left (over (contents b) (Ok tt) t (talks_all t s.clean s.is.0)) t.passes.left t.passes.counted (λ same. absurd (cc)) s.is.1 t.passes.ended t.passes.failed (worked t)
+      run t.passes.reads to.left (over (draft b).held (Ok tt) t (talks_all t s.clean s.is.0)) t.passes.left t.passes.counted (λ same. absurd (cc)) s.is.1 t.passes.ended t.passes.failed (worked t)
 
   pub by_long : (from to : Hearing) (f h : Flow) (first new : Play) (a b : A) (field : Ended Untold) →
       field ≡ ended_as.Long → from ≡ hearing_opened sim_bounds → first ≡ empty_play → Listens Took from f first a to h new b (Ok field) →
-      IsSimRun f h (contents a) (contents b) (failures a) (failures b) (Err fault.LongLine)
+      IsSimRun f h (draft a) (draft b) (Err fault.LongLine)
   by_long from to f h first new a b field is begins nobody l =
       let s : Ends Took (hearing_opened sim_bounds) f empty_play a to h new b (Ok ended_as.Long) = begun from to f h first new a b (Ok field) (Ok ended_as.Long) (ap Ok is) begins nobody l in
       let t = s.through in
       let top : to.longest ≡ 65600 = t.passes.longest in
-      let stops : StopsAtLong ((lines_ended t.lines ++ to.line) ++ to.ahead) (contents a) (contents b) = record {
+      let stops : StopsAtLong ((lines_ended t.lines ++ to.line) ++ to.ahead) (draft a).held (draft b).held = record {
         front = to.line;
         behind = to.ahead;
         no_end = s.clean;
@@ -164,20 +165,20 @@ module _ {A : Type 0} (contents : A → Option (List ℕ)) (failures : A → ℕ
         play = new;
         talks = talks to.ahead t;
       } in
-      run (failures a) (failures b) t.passes.reads to.left (over (contents b) (Err fault.LongLine) t stops) t.passes.left t.passes.counted (λ same. absurd (cc)) tt tt t.passes.failed (worked t)
+      run t.passes.reads to.left (over (draft b).held (Err fault.LongLine) t stops) t.passes.left t.passes.counted (λ same. absurd (cc)) tt tt t.passes.failed (worked t)
 
   pub by_read_failed : (from to : Hearing) (f h : Flow) (first new : Play) (a b : A) (field : LineFault) →
       field ≡ lines.ReadFailed → from ≡ hearing_opened sim_bounds → first ≡ empty_play → Listens Took from f first a to h new b (Err field) →
-      IsSimRun f h (contents a) (contents b) (failures a) (failures b) (Err fault.ReadFailed)
+      IsSimRun f h (draft a) (draft b) (Err fault.ReadFailed)
   by_read_failed from to f h first new a b field is begins nobody l =
       let s : Ends Took (hearing_opened sim_bounds) f empty_play a to h new b (Err lines.ReadFailed) = begun from to f h first new a b (Err field) (Err lines.ReadFailed) (ap Err is) begins nobody l in
       let t = s.through in
-      run (failures a) (failures b) t.passes.reads to.left (over (contents b) (Err fault.ReadFailed) t (talks_all t s.clean s.is)) t.passes.left t.passes.counted (λ same. absurd (cc)) tt tt t.passes.failed (worked t)
+      run t.passes.reads to.left (over (draft b).held (Err fault.ReadFailed) t (talks_all t s.clean s.is)) t.passes.left t.passes.counted (λ same. absurd (cc)) tt tt t.passes.failed (worked t)
 
   pub by_turns : (from to : Hearing) (f h : Flow) (first new : Play) (a b : A) (field : LineFault) →
       field ≡ lines.TooManyReads → from ≡ hearing_opened sim_bounds → first ≡ empty_play → Listens Took from f first a to h new b (Err field) →
-      IsSimRun f h (contents a) (contents b) (failures a) (failures b) (Err fault.TooManyTurns)
+      IsSimRun f h (draft a) (draft b) (Err fault.TooManyTurns)
   by_turns from to f h first new a b field is begins nobody l =
       let s : Ends Took (hearing_opened sim_bounds) f empty_play a to h new b (Err lines.TooManyReads) = begun from to f h first new a b (Err field) (Err lines.TooManyReads) (ap Err is) begins nobody l in
       let t = s.through in
-      run (failures a) (failures b) t.passes.reads to.left (over (contents b) (Err fault.TooManyTurns) t (talks_all t s.clean s.is.0)) t.passes.left t.passes.counted (λ same. s.is.1) tt tt t.passes.failed (worked t)
+      run t.passes.reads to.left (over (draft b).held (Err fault.TooManyTurns) t (talks_all t s.clean s.is.0)) t.passes.left t.passes.counted (λ same. s.is.1) tt tt t.passes.failed (worked t)

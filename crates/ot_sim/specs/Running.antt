@@ -2,6 +2,7 @@
 use Rattle.std.specs.Prelude.{◌≡◌, [], ◌≤◌, ℕ, List, ◌∷◌, ◌++◌, Option, Result, Err, ⊤, ◌≢◌, zero, suc, Some, OnOk}
 use Rattle.std.specs.Io.KnownBytes.{Appends, IsAtEnd}
 use Rattle.ot_lines.specs.Lines.{Flow, next_count, count_after}
+use Rattle.ot_session.specs.Serving.{Draft}
 use Rattle.ot_sim.specs.declared.play.Play.{Play}
 use Rattle.ot_sim.specs.declared.fault.SimFault.{SimFault}
 use Rattle.ot_sim.specs.Playing.{PlaysLine, count_at, world_of}
@@ -42,18 +43,18 @@ abbrev pub sim_bounds : Bounds
 sim_bounds = record { line = 65600; read = 65536; reads = 1000000 }
 
 -- a line without its LF, by what it came to
-pub record PlaysHeldLine (old : Play) (held : Option (List ℕ)) (before : ℕ) (line : List ℕ) (new : Play) (now : Option (List ℕ)) (later : ℕ) (result : Result ⊤ Untold) : Type 0 where
-  pub plays : OnOk result (WritesText held now (λ text. PlaysLine old line text new))
-  pub failures : later ≡ count_after (untold_writes result) before
+pub record PlaysHeldLine (old : Play) (earlier : Draft) (line : List ℕ) (new : Play) (later : Draft) (result : Result ⊤ Untold) : Type 0 where
+  pub plays : OnOk result (WritesText earlier.held later.held (λ text. PlaysLine old line text new))
+  pub failures : later.failures ≡ count_after (untold_writes result) earlier.failures
 
--- A run over what a source tells before it and after it, and the failures of its sink.
-pub record IsSimRun (before after : Flow) (start held : Option (List ℕ)) (failures later : ℕ) (result : Result ⊤ SimFault) : Type 0 where
-  pub talks : TalksOver before.ahead after.ahead start held result
+-- a run over what a source and a sink tell of themselves, before it and after it
+pub record IsSimRun (before after : Flow) (earlier later : Draft) (result : Result ⊤ SimFault) : Type 0 where
+  pub talks : TalksOver before.ahead after.ahead earlier.held later.held result
   pub reads : (k : ℕ) × (k ≤ 1000000) × (after.reads ≡ count_after k before.reads)
   pub turns : result ≡ Err fault.TooManyTurns → after.reads ≡ count_after 1000000 before.reads
   pub at_end : OnOk result (IsAtEnd after.ahead)
   pub end_told : OnOk result (after.ends ≡ next_count before.ends)
   pub read_failed : result ≡ Err fault.ReadFailed → after.failures ≡ next_count before.failures
   pub read_worked : result ≢ Err fault.ReadFailed → after.failures ≡ before.failures
-  pub write_failed : result ≡ Err fault.WriteFailed → later ≡ next_count failures
-  pub write_worked : result ≢ Err fault.WriteFailed → later ≡ failures
+  pub write_failed : result ≡ Err fault.WriteFailed → later.failures ≡ next_count earlier.failures
+  pub write_worked : result ≢ Err fault.WriteFailed → later.failures ≡ earlier.failures

@@ -4,8 +4,8 @@ ghost use Rattle.std.specs.Io.KnownBytes.{Appends};
 ghost use Rattle.ot_core.specs.Scenes.{Scene};
 ghost use Rattle.ot_session.specs.Serving.{count_after};
 ghost use Rattle.ot_sim.specs.declared.line.Line.TheVariants as line;
-ghost use Rattle.ot_sim.specs.Playing.{tenant_place, answer_text, event_of, answer_of, saying_of, PlaysIn, Happens, replies_at, count_at, reply_given, reply_lines, news, usage_text, Plays, PlaysLine, PlaysOn, empty_play};
-ghost use Rattle.ot_sim.specs.Running.{untold_writes, WritesText, counts_at, world_begun};
+ghost use Rattle.ot_sim.specs.Playing.{tenant_place, answer_text, event_of, answer_of, saying_of, PlaysIn, Happens, replies_at, count_at, reply_given, reply_lines, news, usage_text, Plays, PlaysOn, empty_play};
+ghost use Rattle.ot_sim.specs.Running.{untold_writes, WritesText, PlaysHeldLine, counts_at, world_begun};
 
 use crate::answer::{Answer, write_answer};
 use crate::fault::Untold;
@@ -56,8 +56,7 @@ impl Play {
         line: &[u8],
         sink: &mut W,
     ) -> Result<(), Untold>
-        ensures plays { OnOk result (WritesText (W.contents sink.old) (W.contents sink.new) (λ text. PlaysLine self.old line.now text self.new)) }
-        ensures failures { W.failures sink.new ≡ count_after (untold_writes result) (W.failures sink.old) }
+        ensures { PlaysHeldLine self.old (W.draft sink.old) line.now self.new (W.draft sink.new) result }
     {
         match read_line(line) {
             Line::Tenant(name) => self.make(alloc, name, sink),
@@ -68,8 +67,8 @@ impl Play {
 
     /// A tenant is made, before all other lines.
     fn make<W: Sink>(&mut self, alloc: Global, name: &str, sink: &mut W) -> Result<(), Untold>
-        ensures plays { OnOk result (WritesText (W.contents sink.old) (W.contents sink.new) (λ text. Plays self.old (line.Tenant name.entry) text self.new)) }
-        ensures failures { W.failures sink.new ≡ count_after (untold_writes result) (W.failures sink.old) }
+        ensures plays { OnOk result (WritesText (W.draft sink.old).held (W.draft sink.new).held (λ text. Plays self.old (line.Tenant name.entry) text self.new)) }
+        ensures failures { (W.draft sink.new).failures ≡ count_after (untold_writes result) (W.draft sink.old).failures }
     {
         if self.world.is_none() && self.names.add(alloc, name)? {
             return tell(alloc, Answer::Tenant(name), sink);
@@ -84,8 +83,8 @@ impl Play {
         line: Line<'_>,
         sink: &mut W,
     ) -> Result<(), Untold>
-        ensures plays { OnOk result (WritesText (W.contents sink.old) (W.contents sink.new) (λ text. PlaysOn self.old line.entry text self.new)) }
-        ensures failures { W.failures sink.new ≡ count_after (untold_writes result) (W.failures sink.old) }
+        ensures plays { OnOk result (WritesText (W.draft sink.old).held (W.draft sink.new).held (λ text. PlaysOn self.old line.entry text self.new)) }
+        ensures failures { (W.draft sink.new).failures ≡ count_after (untold_writes result) (W.draft sink.old).failures }
     {
         self.begin(alloc)?;
         let Play { names, world } = self;
@@ -116,8 +115,8 @@ fn play_line<W: Sink>(
     line: Line<'_>,
     sink: &mut W,
 ) -> Result<(), Untold>
-    ensures plays { OnOk result (WritesText (W.contents sink.old) (W.contents sink.new) (λ text. PlaysIn names.now line.entry world.old text world.new)) }
-    ensures failures { W.failures sink.new ≡ count_after (untold_writes result) (W.failures sink.old) }
+    ensures plays { OnOk result (WritesText (W.draft sink.old).held (W.draft sink.new).held (λ text. PlaysIn names.now line.entry world.old text world.new)) }
+    ensures failures { (W.draft sink.new).failures ≡ count_after (untold_writes result) (W.draft sink.old).failures }
 {
     match line {
         Line::Drain => drain(alloc, names, world, sink),
@@ -152,8 +151,8 @@ fn step<W: Sink>(
     event: Event<'_>,
     sink: &mut W,
 ) -> Result<(), Untold>
-    ensures happens { OnOk result (WritesText (W.contents sink.old) (W.contents sink.new) (λ text. Happens line.entry (Some event.entry) world.old text world.new)) }
-    ensures failures { W.failures sink.new ≡ count_after (untold_writes result) (W.failures sink.old) }
+    ensures happens { OnOk result (WritesText (W.draft sink.old).held (W.draft sink.new).held (λ text. Happens line.entry (Some event.entry) world.old text world.new)) }
+    ensures failures { (W.draft sink.new).failures ≡ count_after (untold_writes result) (W.draft sink.old).failures }
 {
     let stepped = world.step(alloc, event)?;
     match told(line, event, stepped) {
@@ -199,8 +198,8 @@ fn tell_last<W: Sink>(
     name: &str,
     sink: &mut W,
 ) -> Result<(), Untold>
-    ensures told { OnOk result (Appends (W.contents sink.old) (W.contents sink.new) (reply_given name.now tenant world.now)) }
-    ensures failures { W.failures sink.new ≡ count_after (untold_writes result) (W.failures sink.old) }
+    ensures told { OnOk result (Appends (W.draft sink.old).held (W.draft sink.new).held (reply_given name.now tenant world.now)) }
+    ensures failures { (W.draft sink.new).failures ≡ count_after (untold_writes result) (W.draft sink.old).failures }
 {
     let given = count_given(world, tenant);
     tell_behind(alloc, world, tenant, name, given.saturating_sub(1), sink)
@@ -213,8 +212,8 @@ fn drain<W: Sink>(
     world: &mut World,
     sink: &mut W,
 ) -> Result<(), Untold>
-    ensures plays { OnOk result (WritesText (W.contents sink.old) (W.contents sink.new) (λ text. PlaysIn names.now line.Drain world.old text world.new)) }
-    ensures failures { W.failures sink.new ≡ count_after (untold_writes result) (W.failures sink.old) }
+    ensures plays { OnOk result (WritesText (W.draft sink.old).held (W.draft sink.new).held (λ text. PlaysIn names.now line.Drain world.old text world.new)) }
+    ensures failures { (W.draft sink.new).failures ≡ count_after (untold_writes result) (W.draft sink.old).failures }
 {
     let given = counts_given(alloc, world, names.count())?;
     world.drain(alloc, &mut |_| 0)?;
@@ -243,8 +242,8 @@ fn tell_news<W: Sink>(
 ) -> Result<(), Untold>
     requires { length given.now ≡ length names.now }
     ensures told { (old : Scene) → given.now ≡ counts_at old (length names.now) →
-        OnOk result (Appends (W.contents sink.old) (W.contents sink.new) (news names.now 0 old world.now)) }
-    ensures failures { W.failures sink.new ≡ count_after (untold_writes result) (W.failures sink.old) }
+        OnOk result (Appends (W.draft sink.old).held (W.draft sink.new).held (news names.now 0 old world.now)) }
+    ensures failures { (W.draft sink.new).failures ≡ count_after (untold_writes result) (W.draft sink.old).failures }
 {
     for (tenant, name) in names.as_slice().iter().enumerate() {
         tell_behind(
@@ -278,8 +277,8 @@ fn tell_behind<W: Sink>(
     given: usize,
     sink: &mut W,
 ) -> Result<(), Untold>
-    ensures told { OnOk result (Appends (W.contents sink.old) (W.contents sink.new) (reply_lines name.now (drop given (replies_at world.now tenant)))) }
-    ensures failures { W.failures sink.new ≡ count_after (untold_writes result) (W.failures sink.old) }
+    ensures told { OnOk result (Appends (W.draft sink.old).held (W.draft sink.new).held (reply_lines name.now (drop given (replies_at world.now tenant)))) }
+    ensures failures { (W.draft sink.new).failures ≡ count_after (untold_writes result) (W.draft sink.old).failures }
 {
     let Some(mut replies) = world.replies(tenant) else {
         return Ok(());
@@ -295,8 +294,8 @@ fn tell_replies<W: Sink>(
     replies: Replies<'_>,
     sink: &mut W,
 ) -> Result<(), Untold>
-    ensures told { OnOk result (Appends (W.contents sink.old) (W.contents sink.new) (reply_lines name.now replies.entry)) }
-    ensures failures { W.failures sink.new ≡ count_after (untold_writes result) (W.failures sink.old) }
+    ensures told { OnOk result (Appends (W.draft sink.old).held (W.draft sink.new).held (reply_lines name.now replies.entry)) }
+    ensures failures { (W.draft sink.new).failures ≡ count_after (untold_writes result) (W.draft sink.old).failures }
 {
     for reply in replies {
         let text = reply_text(alloc, &reply)?;
@@ -313,8 +312,8 @@ fn usage<W: Sink>(
     name: &str,
     sink: &mut W,
 ) -> Result<(), Untold>
-    ensures told { OnOk result (Appends (W.contents sink.old) (W.contents sink.new) (usage_text (line.Usage name.entry) (tenant_place names.now name.now) world.now)) }
-    ensures failures { W.failures sink.new ≡ count_after (untold_writes result) (W.failures sink.old) }
+    ensures told { OnOk result (Appends (W.draft sink.old).held (W.draft sink.new).held (usage_text (line.Usage name.entry) (tenant_place names.now name.now) world.now)) }
+    ensures failures { (W.draft sink.new).failures ≡ count_after (untold_writes result) (W.draft sink.old).failures }
 {
     let Some(tenant) = names.place(name) else {
         return tell(alloc, Answer::BadLine, sink);
@@ -325,8 +324,8 @@ fn usage<W: Sink>(
 
 /// Writes one answer.
 fn tell<W: Sink>(alloc: Global, answer: Answer<'_>, sink: &mut W) -> Result<(), Untold>
-    ensures told { OnOk result (Appends (W.contents sink.old) (W.contents sink.new) (answer_text answer.entry)) }
-    ensures failures { W.failures sink.new ≡ count_after (untold_writes result) (W.failures sink.old) }
+    ensures told { OnOk result (Appends (W.draft sink.old).held (W.draft sink.new).held (answer_text answer.entry)) }
+    ensures failures { (W.draft sink.new).failures ≡ count_after (untold_writes result) (W.draft sink.old).failures }
 {
     let mut text = String::new(alloc);
     write_answer(answer, &mut text)?;

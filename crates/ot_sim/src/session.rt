@@ -28,9 +28,7 @@ pub fn sim_lines<R: Source, W: Sink>(
     source: &mut R,
     sink: &mut W,
 ) -> Result<(), SimFault>
-    ensures { IsSimRun (R.flow source.old)
-        (R.flow source.new)
-        (W.contents sink.old) (W.contents sink.new) (W.failures sink.old) (W.failures sink.new) result }
+    ensures { IsSimRun (R.flow source.old) (R.flow source.new) (W.draft sink.old) (W.draft sink.new) result }
 {
     let Ok(mut lines) = Lines::new(alloc, sim_bounds()) else {
         return Err(SimFault::Memory);
@@ -51,9 +49,7 @@ fn play_lines<R: Source, W: Sink>(
 ) -> Result<(), SimFault>
     requires begun { lines.old ≡ hearing_opened sim_bounds }
     requires nobody { play.old ≡ empty_play }
-    ensures { IsSimRun (R.flow source.old)
-        (R.flow source.new)
-        (W.contents sink.old) (W.contents sink.new) (W.failures sink.old) (W.failures sink.new) result }
+    ensures { IsSimRun (R.flow source.old) (R.flow source.new) (W.draft sink.old) (W.draft sink.new) result }
 {
     match listen(lines, source, &mut Player { alloc }, play, sink) {
         Ok(Ended::Stopped(untold)) => Err(untold.fault()),
@@ -71,7 +67,7 @@ struct Player {
 }
 
 impl<W: Sink> Listener<Play, W, Untold> for Player {
-    ghost took = { λ old sink line new next result. PlaysHeldLine old (W.contents sink) (W.failures sink) line new (W.contents next) (W.failures next) result };
+    ghost took = { λ old sink line new next result. PlaysHeldLine old (W.draft sink) line new (W.draft next) result };
 
     fn take(&mut self, play: &mut Play, sink: &mut W, line: &[u8]) -> Result<(), Untold> {
         play.take(self.alloc, line, sink)

@@ -6,7 +6,7 @@ use Rattle.std.proofs.KnownBytes.{Appends-trans, Appends-nil}
 use Rattle.std.proofs.lemmas.List.{get_or_append_left, get_or-append-add}
 use Rattle.std.proofs.lemmas.Bool.Decides.{leb_tells}
 use Rattle.ot_book.specs.Books.{Register}
-use Rattle.ot_session.specs.Serving.{AppendsFront, Going, Serving}
+use Rattle.ot_session.specs.Serving.{Draft, AppendsFront, Writes, BreaksOffIn, Going, Serving}
 use Rattle.ot_book.specs.Room.{room_in}
 use Rattle.ot_session.specs.Session.{Heard, HasNoEnd, max_line, closing, heard_in, session_text, logged_lines, TellsAll, BreaksOff, SessionTells, Session, Lines, marked_lines, after, session_told}
 use Rattle.ot_session.specs.declared.fault.End.{End}
@@ -277,14 +277,14 @@ explaining_in_long {first} {start} {bytes} {partial} {book} {held} piece now e c
     }
 
 -- the session ends at a line that is too long
-pub explaining_ends : {first : Register} {start : Option (List ℕ)} {bytes partial : List ℕ} {book : Register} {held : Option (List ℕ)} {said : Explained} →
-    (piece : List ℕ) (now : Option (List ℕ)) (result : Result End FrontFault) → Explaining first start bytes partial book held said → HasNoEnd piece →
-    max_line < length partial + length piece → IfOk result (λ e. (e ≡ end.LongLine) × Appends held now (closing (Some end.LongLine))) →
-    IfErr result (λ f. (f ≡ fault.WriteFailed) × AppendsFront held now (closing (Some end.LongLine))) → Stopped first book start (bytes ++ piece) now said result
-explaining_ends {first} {start} {bytes} {partial} {book} {said = said} piece now (Ok last) e clean long session_told cut =
-    subst (λ x. Stopped first book start (bytes ++ piece) now said (Ok x)) (sym session_told.0) (explaining_long piece now e clean long session_told.1)
-explaining_ends {first} {start} {bytes} {partial} {book} {said = said} piece now (Err why) e clean long session_told cut =
-    subst (λ x. Stopped first book start (bytes ++ piece) now said (Err x)) (sym cut.0) (explaining_in_long piece now e clean long cut.1)
+pub explaining_ends : {first : Register} {start : Option (List ℕ)} {bytes partial : List ℕ} {book : Register} {said : Explained} →
+    (piece : List ℕ) (earlier later : Draft) (result : Result End FrontFault) → Explaining first start bytes partial book earlier.held said → HasNoEnd piece →
+    max_line < length partial + length piece → IfOk result (λ e. (e ≡ end.LongLine) × Writes earlier later (closing (Some end.LongLine))) →
+    IfErr result (λ f. (f ≡ fault.WriteFailed) × BreaksOffIn earlier later (closing (Some end.LongLine))) → Stopped first book start (bytes ++ piece) later.held said result
+explaining_ends {first} {start} {bytes} {partial} {book} {said = said} piece earlier later (Ok last) e clean long session_told cut =
+    subst (λ x. Stopped first book start (bytes ++ piece) later.held said (Ok x)) (sym session_told.0) (explaining_long piece later.held e clean long session_told.1.bytes_out)
+explaining_ends {first} {start} {bytes} {partial} {book} {said = said} piece earlier later (Err why) e clean long session_told cut =
+    subst (λ x. Stopped first book start (bytes ++ piece) later.held said (Err x)) (sym cut.0) (explaining_in_long piece later.held e clean long cut.1.front)
 
 -- ---- the whole session
 

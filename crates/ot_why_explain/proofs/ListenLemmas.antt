@@ -8,7 +8,7 @@ use Rattle.ot_lines.specs.declared.lines.LineFault.TheVariants as lines
 use Rattle.ot_lines.specs.declared.listener.Ended.{Ended}
 use Rattle.ot_lines.specs.declared.listener.Ended.TheVariants as ended_as
 use Rattle.ot_book.specs.Books.{Register, next_number}
-use Rattle.ot_session.specs.Serving.{AppendsFront, Going, session_bounds, result_of}
+use Rattle.ot_session.specs.Serving.{Draft, Writes, BreaksOffIn, Going, session_bounds, result_of}
 use Rattle.ot_session.specs.Session.{Heard, max_line, closing, Session, session_told, texts}
 use Rattle.ot_session.specs.declared.fault.End.{End}
 use Rattle.ot_session.specs.declared.fault.End.TheVariants as end
@@ -61,27 +61,27 @@ served_stop {old} {new} {held} {now} {bytes} why result is session = subst (λ r
 
 -- ---- all lines
 
-module _ {A : Type 0} (contents : A → Option (List ℕ)) where
+module _ {A : Type 0} (draft : A → Draft) where
   abbrev pub Took : Talk → A → List ℕ → Talk → A → Result ⊤ (Result End FrontFault) → Type 0
-  Took old a line new b result = ExplainsLine old.book old.said (contents a) line new.book new.said (contents b) result
+  Took old a line new b result = ExplainsLine old.book old.said (draft a).held line new.book new.said (draft b).held result
 
   went_explaining : (first : Register) (start : Option (List ℕ)) → first.pending ≡ None → (lines : List (List ℕ)) → All (IsLine max_line) lines → (old : Talk) (a : A) (new : Talk) (b : A) →
-      Went Took old a lines new b → (bytes : List ℕ) → Explaining first start bytes [] old.book (contents a) old.said →
-      Explaining first start (bytes ++ lines_ended lines) [] new.book (contents b) new.said
+      Went Took old a lines new b → (bytes : List ℕ) → Explaining first start bytes [] old.book (draft a).held old.said →
+      Explaining first start (bytes ++ lines_ended lines) [] new.book (draft b).held new.said
   went_explaining first start closed [] are old a new b went bytes e =
-      subst (λ bs. Explaining first start bs [] new.book (contents b) new.said) (sym (append-nil bytes))
-      (subst (λ (n : Talk). Explaining first start bytes [] n.book (contents b) n.said) (sym went.0) (subst (λ s. Explaining first start bytes [] old.book (contents s) old.said) (sym went.1) e))
+      subst (λ bs. Explaining first start bs [] new.book (draft b).held new.said) (sym (append-nil bytes))
+      (subst (λ (n : Talk). Explaining first start bytes [] n.book (draft b).held n.said) (sym went.0) (subst (λ s. Explaining first start bytes [] old.book (draft s).held old.said) (sym went.1) e))
   went_explaining first start closed (line ∷ lines) are old a new b (mid, more, took, later) bytes e =
       let is : IsLine max_line line = are 0 [] (omega arith) in
       let rest : All (IsLine max_line) lines = λ k d within. are (suc k) d (omega (arith, within)) in
-      subst (λ bs. Explaining first start bs [] new.book (contents b) new.said)
+      subst (λ bs. Explaining first start bs [] new.book (draft b).held new.said)
       (append_assoc bytes (line ++ 10 ∷ []) (lines_ended lines) ∙ ap (λ bs. bytes ++ bs) (append_assoc line (10 ∷ []) (lines_ended lines)))
       (went_explaining first start closed lines rest mid more new b later (bytes ++ (line ++ 10 ∷ [])) (took.goes first start bytes closed is.clean is.short e))
 
   through : {to : Hearing} {f h : Flow} {first new : Talk} {a b : A} {rest : List ℕ} {n m : ℕ} → first.book.pending ≡ None → first.said ≡ AllTaken →
-      (t : Through Took (hearing_opened session_bounds) f first a to h new b rest n m) → Explaining first.book (contents a) (lines_ended t.lines) [] new.book (contents b) new.said
+      (t : Through Took (hearing_opened session_bounds) f first a to h new b rest n m) → Explaining first.book (draft a).held (lines_ended t.lines) [] new.book (draft b).held new.said
   through {first = first} {new = new} {a = a} {b = b} closed says t =
-      went_explaining first.book (contents a) closed t.lines t.are first a new b t.went [] (explaining_first first.book (contents a) [] first.said refl says)
+      went_explaining first.book (draft a).held closed t.lines t.are first a new b t.went [] (explaining_first first.book (draft a).held [] first.said refl says)
 
   -- what is said where it stopped
   remarks_stopped : {first new : Register} {start now : Option (List ℕ)} {bytes : List ℕ} {said : Explained} (ahead left : Option (List ℕ)) (result : Result End FrontFault) →
@@ -117,7 +117,7 @@ module _ {A : Type 0} (contents : A → Option (List ℕ)) where
 
   pub by_stop : (from to : Hearing) (f h : Flow) (first new : Talk) (a b : A) (field : Ended (Result End FrontFault)) (why : Result End FrontFault) →
       field ≡ ended_as.Stopped why → from ≡ hearing_opened session_bounds → first.book.pending ≡ None → first.said ≡ AllTaken → Listens Took from f first a to h new b (Ok field) →
-      Comes first.book new.book new.said f h (contents a) (contents b) why
+      Comes first.book new.book new.said f h (draft a).held (draft b).held why
   by_stop from to f h first new a b field why is begun closed says l =
       let s : StopsAt Took (hearing_opened session_bounds) f first a to h new b why =
       subst (λ (e : Ended (Result End FrontFault)). Listens Took (hearing_opened session_bounds) f first a to h new b (Ok e)) is (subst (λ x. Listens Took x f first a to h new b (Ok field)) begun l) in
@@ -126,14 +126,14 @@ module _ {A : Type 0} (contents : A → Option (List ℕ)) where
       let e = through closed says t in
       let line : bytes ++ (to.line ++ 10 ∷ []) ≡ (bytes ++ to.line) ++ 10 ∷ [] = sym (append_assoc bytes to.line (10 ∷ [])) in
       let going = going_piece to.line (plain_going e) s.is.clean (omega (arith, s.is.short)) in
-      let stopped = subst (λ bs. Stopped first.book new.book (contents a) bs (contents b) new.said why) line (s.last.goes first.book (contents a) bytes closed s.is.clean s.is.short e) in
+      let stopped = subst (λ bs. Stopped first.book new.book (draft a).held bs (draft b).held new.said why) line (s.last.goes first.book (draft a).held bytes closed s.is.clean s.is.short e) in
       stopped_in (Some (without_remarks e.text)) 10 f h t.passes.earlier to.since to.ahead why going stopped (sym line ∙ t.passes.since) s.amid.some (t.passes.latest (omega arith))
       (subst (λ bs. Consumes f.ahead h.ahead (bs ++ to.ahead)) line (reads_all t.passes)) s.last.grows
 
   -- all that was read was heard
   idle_explaining : {to : Hearing} {f h : Flow} {first new : Talk} {a b : A} {n m : ℕ} → first.book.pending ≡ None → first.said ≡ AllTaken →
       (t : Through Took (hearing_opened session_bounds) f first a to h new b to.line n m) → HasNoEnd to.line → IsIdle to →
-      Explaining first.book (contents a) (lines_ended t.lines ++ to.line) to.line new.book (contents b) new.said
+      Explaining first.book (draft a).held (lines_ended t.lines ++ to.line) to.line new.book (draft b).held new.said
   idle_explaining {to} closed says t clean idle =
       let e = through closed says t in
       let top : to.longest ≡ 65536 = t.passes.longest in record {
@@ -154,7 +154,7 @@ module _ {A : Type 0} (contents : A → Option (List ℕ)) where
 
   pub by_end : (from to : Hearing) (f h : Flow) (first new : Talk) (a b : A) (field : Ended (Result End FrontFault)) →
       field ≡ ended_as.End → from ≡ hearing_opened session_bounds → first.book.pending ≡ None → first.said ≡ AllTaken → Listens Took from f first a to h new b (Ok field) →
-      Comes first.book new.book new.said f h (contents a) (contents b) (Ok end.EndOfInput)
+      Comes first.book new.book new.said f h (draft a).held (draft b).held (Ok end.EndOfInput)
   by_end from to f h first new a b field is begun closed says l =
       let s : Ends Took (hearing_opened session_bounds) f first a to h new b (Ok ended_as.End) =
       subst (λ (e : Ended (Result End FrontFault)). Listens Took (hearing_opened session_bounds) f first a to h new b (Ok e)) is (subst (λ x. Listens Took x f first a to h new b (Ok field)) begun l) in
@@ -166,7 +166,7 @@ module _ {A : Type 0} (contents : A → Option (List ℕ)) where
 
   pub by_read_failed : (from to : Hearing) (f h : Flow) (first new : Talk) (a b : A) (field : LineFault) →
       field ≡ lines.ReadFailed → from ≡ hearing_opened session_bounds → first.book.pending ≡ None → first.said ≡ AllTaken → Listens Took from f first a to h new b (Err field) →
-      Comes first.book new.book new.said f h (contents a) (contents b) (Err fault.ReadFailed)
+      Comes first.book new.book new.said f h (draft a).held (draft b).held (Err fault.ReadFailed)
   by_read_failed from to f h first new a b field is begun closed says l =
       let s : Ends Took (hearing_opened session_bounds) f first a to h new b (Err lines.ReadFailed) =
       subst (λ (e : LineFault). Listens Took (hearing_opened session_bounds) f first a to h new b (Err e)) is (subst (λ x. Listens Took x f first a to h new b (Err field)) begun l) in
@@ -178,7 +178,7 @@ module _ {A : Type 0} (contents : A → Option (List ℕ)) where
 
   pub by_turns : (from to : Hearing) (f h : Flow) (first new : Talk) (a b : A) (field : LineFault) →
       field ≡ lines.TooManyReads → from ≡ hearing_opened session_bounds → first.book.pending ≡ None → first.said ≡ AllTaken → Listens Took from f first a to h new b (Err field) →
-      Comes first.book new.book new.said f h (contents a) (contents b) (Err fault.TooManyTurns)
+      Comes first.book new.book new.said f h (draft a).held (draft b).held (Err fault.TooManyTurns)
   by_turns from to f h first new a b field is begun closed says l =
       let s : Ends Took (hearing_opened session_bounds) f first a to h new b (Err lines.TooManyReads) =
       subst (λ (e : LineFault). Listens Took (hearing_opened session_bounds) f first a to h new b (Err e)) is (subst (λ x. Listens Took x f first a to h new b (Err field)) begun l) in
@@ -190,9 +190,9 @@ module _ {A : Type 0} (contents : A → Option (List ℕ)) where
 
   pub by_long : (from to : Hearing) (f h : Flow) (first new : Talk) (a b c : A) (field : Ended (Result End FrontFault)) (r : Result End FrontFault) →
       field ≡ ended_as.Long → from ≡ hearing_opened session_bounds → first.book.pending ≡ None → first.said ≡ AllTaken → Listens Took from f first a to h new b (Ok field) →
-      IfOk r (λ x. (x ≡ end.LongLine) × Appends (contents b) (contents c) (closing (Some end.LongLine))) →
-      IfErr r (λ why. (why ≡ fault.WriteFailed) × AppendsFront (contents b) (contents c) (closing (Some end.LongLine))) →
-      Comes first.book new.book new.said f h (contents a) (contents c) r
+      IfOk r (λ x. (x ≡ end.LongLine) × Writes (draft b) (draft c) (closing (Some end.LongLine))) →
+      IfErr r (λ why. (why ≡ fault.WriteFailed) × BreaksOffIn (draft b) (draft c) (closing (Some end.LongLine))) →
+      Comes first.book new.book new.said f h (draft a).held (draft c).held r
   by_long from to f h first new a b c field r is begun closed says l session_told cut =
       let s : Ends Took (hearing_opened session_bounds) f first a to h new b (Ok ended_as.Long) =
       subst (λ (e : Ended (Result End FrontFault)). Listens Took (hearing_opened session_bounds) f first a to h new b (Ok e)) is (subst (λ x. Listens Took x f first a to h new b (Ok field)) begun l) in
@@ -204,6 +204,6 @@ module _ {A : Type 0} (contents : A → Option (List ℕ)) where
       let front = take 65536 to.line in
       let going = going_piece front (plain_going e) (clean_take to.line 65536 (omega (arith, long)) s.clean) (omega (arith, long, length-take-le 65536 to.line (omega (arith, long)))) in
       let line : bytes ++ to.line ≡ (bytes ++ front) ++ last.0 ∷ [] = ap (λ xs. bytes ++ xs) last.1 ∙ sym (append_assoc bytes front (last.0 ∷ [])) in
-      let stopped = subst (λ bs. Stopped first.book new.book (contents a) bs (contents c) new.said r) line (explaining_ends to.line (contents c) r e s.clean (omega (arith, long)) session_told cut) in
+      let stopped = subst (λ bs. Stopped first.book new.book (draft a).held bs (draft c).held new.said r) line (explaining_ends to.line (draft b) (draft c) r e s.clean (omega (arith, long)) session_told cut) in
       stopped_in (Some (without_remarks e.text)) last.0 f h t.passes.earlier to.since to.ahead r going stopped (sym line ∙ t.passes.since) s.is.1.some (t.passes.latest (omega arith))
       (subst (λ bs. Consumes f.ahead h.ahead (bs ++ to.ahead)) line (reads_all t.passes)) (le_refl (next_number new.book))

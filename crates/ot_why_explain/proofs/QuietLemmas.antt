@@ -9,7 +9,7 @@ use Rattle.ot_lines.specs.declared.listener.Ended.TheVariants as ended_as
 use Rattle.ot_book.specs.Books.{Register, next_number, line_logged}
 use Rattle.ot_book.specs.Room.{room_in}
 use Rattle.ot_session.specs.Session.{Heard, max_line, heard_in, Session, Serves, Lines, after, texts}
-use Rattle.ot_session.specs.Serving.{Going, session_bounds, result_of}
+use Rattle.ot_session.specs.Serving.{Draft, Going, session_bounds, result_of}
 use Rattle.ot_session.specs.declared.fault.End.{End}
 use Rattle.ot_session.specs.declared.fault.End.TheVariants as end
 use Rattle.ot_session.specs.declared.fault.FrontFault.{FrontFault}
@@ -135,35 +135,35 @@ told_alone {first} {book} {start} {held} {bytes} {said} ahead left latest more n
       tells = ap (said_at e) (says_so ∙ h.tells) ∙ said-at e (refuses first h.lines);
     }
 
-module _ {A : Type 0} (contents : A → Option (List ℕ)) where
+module _ {A : Type 0} (draft : A → Draft) where
   abbrev pub Took : Talk → A → List ℕ → Talk → A → Result ⊤ (Result End FrontFault) → Type 0
-  Took old a line new b result = HushesLine old.book old.said (contents a) line new.book new.said (contents b) result
+  Took old a line new b result = HushesLine old.book old.said (draft a).held line new.book new.said (draft b).held result
 
   went_hushed : (first : Register) (start : Option (List ℕ)) → first.pending ≡ None → (lines : List (List ℕ)) → All (IsLine max_line) lines → (old : Talk) (a : A) (new : Talk) (b : A) →
-      Went Took old a lines new b → (bytes : List ℕ) → Hushed first start bytes old.book (contents a) old.said → Hushed first start (bytes ++ lines_ended lines) new.book (contents b) new.said
+      Went Took old a lines new b → (bytes : List ℕ) → Hushed first start bytes old.book (draft a).held old.said → Hushed first start (bytes ++ lines_ended lines) new.book (draft b).held new.said
   went_hushed first start closed [] are old a new b went bytes e =
-      subst (λ bs. Hushed first start bs new.book (contents b) new.said) (sym (append-nil bytes))
-      (subst (λ (n : Talk). Hushed first start bytes n.book (contents b) n.said) (sym went.0) (subst (λ s. Hushed first start bytes old.book (contents s) old.said) (sym went.1) e))
+      subst (λ bs. Hushed first start bs new.book (draft b).held new.said) (sym (append-nil bytes))
+      (subst (λ (n : Talk). Hushed first start bytes n.book (draft b).held n.said) (sym went.0) (subst (λ s. Hushed first start bytes old.book (draft s).held old.said) (sym went.1) e))
   went_hushed first start closed (line ∷ lines) are old a new b (mid, more, took, later) bytes e =
       let is : IsLine max_line line = are 0 [] (omega arith) in
       let rest : All (IsLine max_line) lines = λ k d within. are (suc k) d (omega (arith, within)) in
-      subst (λ bs. Hushed first start bs new.book (contents b) new.said)
+      subst (λ bs. Hushed first start bs new.book (draft b).held new.said)
       (append_assoc bytes (line ++ 10 ∷ []) (lines_ended lines) ∙ ap (λ bs. bytes ++ bs) (append_assoc line (10 ∷ []) (lines_ended lines)))
       (went_hushed first start closed lines rest mid more new b later (bytes ++ (line ++ 10 ∷ [])) (took.goes first start bytes closed is.clean is.short e))
 
   through : {to : Hearing} {f h : Flow} {first new : Talk} {a b : A} {rest : List ℕ} {n m : ℕ} → first.book.pending ≡ None → first.said ≡ AllTaken →
-      (t : Through Took (hearing_opened session_bounds) f first a to h new b rest n m) → Hushed first.book (contents a) (lines_ended t.lines) new.book (contents b) new.said
+      (t : Through Took (hearing_opened session_bounds) f first a to h new b rest n m) → Hushed first.book (draft a).held (lines_ended t.lines) new.book (draft b).held new.said
   through {first = first} {new = new} {a = a} {b = b} closed says t =
-      went_hushed first.book (contents a) closed t.lines t.are first a new b t.went [] (hushed_nothing first.book (contents a) first.said says)
+      went_hushed first.book (draft a).held closed t.lines t.are first a new b t.went [] (hushed_nothing first.book (draft a).held first.said says)
 
   reads_all : {to : Hearing} {f h : Flow} {bytes : List ℕ} {n m : ℕ} → Passes (hearing_opened session_bounds) f to h bytes n m → Consumes f.ahead h.ahead (bytes ++ to.ahead)
   reads_all {to} {f} {h} {bytes} p = consumed f.ahead h.ahead to.ahead bytes p.heard
 
   stopped_alone : (to : Hearing) (f h : Flow) (first mid new : Talk) (a b c : A) (why : Result End FrontFault) (bytes : List ℕ) →
-      HushedOn first.book (contents a) (bytes ++ (to.line ++ 10 ∷ [])) mid.book new.book (contents b) (contents c) mid.said new.said (Err why) →
-      Hushed first.book (contents a) bytes mid.book (contents b) mid.said → HasNoEnd to.line → length to.line ≤ max_line → (earlier : List ℕ) →
+      HushedOn first.book (draft a).held (bytes ++ (to.line ++ 10 ∷ [])) mid.book new.book (draft b).held (draft c).held mid.said new.said (Err why) →
+      Hushed first.book (draft a).held bytes mid.book (draft b).held mid.said → HasNoEnd to.line → length to.line ≤ max_line → (earlier : List ℕ) →
       bytes ++ (to.line ++ 10 ∷ []) ≡ earlier ++ to.since → 0 < length to.since → length to.since + length to.ahead ≤ h.latest → Consumes f.ahead h.ahead ((bytes ++ (to.line ++ 10 ∷ [])) ++ to.ahead) →
-      next_number mid.book ≤ next_number new.book → IfOk why (λ e. RemarksAlone first.book new.book f.ahead h.ahead h.latest (contents a) (contents c) e (said_at e new.said))
+      next_number mid.book ≤ next_number new.book → IfOk why (λ e. RemarksAlone first.book new.book f.ahead h.ahead h.latest (draft a).held (draft c).held e (said_at e new.said))
   stopped_alone to f h first mid new a b c (Ok e) bytes stop hushed clean short earlier since some few reads grows =
       let line : bytes ++ (to.line ++ 10 ∷ []) ≡ (bytes ++ to.line) ++ 10 ∷ [] = sym (append_assoc bytes to.line (10 ∷ [])) in
       let serves : Serves first.book new.book f.ahead h.ahead h.latest None None (Ok e) =
@@ -171,24 +171,24 @@ module _ {A : Type 0} (contents : A → Option (List ℕ)) where
       (subst (λ bs. Consumes f.ahead h.ahead (bs ++ to.ahead)) line reads)
       (subst (λ bs. Session first.book new.book bs None None (Ok e)) line stop.session) grows in
       let all = subst (Consumes f.ahead h.ahead) (append_assoc bytes (to.line ++ 10 ∷ []) to.ahead) reads in
-      told_alone f.ahead h.ahead h.latest ((to.line ++ 10 ∷ []) ++ to.ahead) new.book (contents c) new.said e hushed stop.unlogged stop.unwritten stop.unsaid serves all
+      told_alone f.ahead h.ahead h.latest ((to.line ++ 10 ∷ []) ++ to.ahead) new.book (draft c).held new.said e hushed stop.unlogged stop.unwritten stop.unsaid serves all
   stopped_alone to f h first mid new a b c (Err why) bytes stop hushed clean short earlier since some few reads grows = tt
 
   pub by_stop : (from to : Hearing) (f h : Flow) (first new : Talk) (a b : A) (field : Ended (Result End FrontFault)) (why : Result End FrontFault) →
       field ≡ ended_as.Stopped why → from ≡ hearing_opened session_bounds → first.book.pending ≡ None → first.said ≡ AllTaken → Listens Took from f first a to h new b (Ok field) →
-      IfOk why (λ e. RemarksAlone first.book new.book f.ahead h.ahead h.latest (contents a) (contents b) e (said_at e new.said))
+      IfOk why (λ e. RemarksAlone first.book new.book f.ahead h.ahead h.latest (draft a).held (draft b).held e (said_at e new.said))
   by_stop from to f h first new a b field why is begun closed calm l =
       let s : StopsAt Took (hearing_opened session_bounds) f first a to h new b why =
       subst (λ (e : Ended (Result End FrontFault)). Listens Took (hearing_opened session_bounds) f first a to h new b (Ok e)) is (subst (λ x. Listens Took x f first a to h new b (Ok field)) begun l) in
       let t = s.through in
       let hushed = through closed calm t in
-      let took = s.last.goes first.book (contents a) (lines_ended t.lines) closed s.is.clean s.is.short hushed in
+      let took = s.last.goes first.book (draft a).held (lines_ended t.lines) closed s.is.clean s.is.short hushed in
       stopped_alone to f h first s.mid new a s.more b why (lines_ended t.lines) took hushed s.is.clean s.is.short
       t.passes.earlier t.passes.since s.amid.some (t.passes.latest (omega arith)) (reads_all t.passes) s.last.grows
 
   pub by_end : (from to : Hearing) (f h : Flow) (first new : Talk) (a b : A) (field : Ended (Result End FrontFault)) →
       field ≡ ended_as.End → from ≡ hearing_opened session_bounds → first.book.pending ≡ None → first.said ≡ AllTaken → Listens Took from f first a to h new b (Ok field) →
-      RemarksAlone first.book new.book f.ahead h.ahead h.latest (contents a) (contents b) end.EndOfInput (said_at end.EndOfInput new.said)
+      RemarksAlone first.book new.book f.ahead h.ahead h.latest (draft a).held (draft b).held end.EndOfInput (said_at end.EndOfInput new.said)
   by_end from to f h first new a b field is begun closed calm l =
       let s : Ends Took (hearing_opened session_bounds) f first a to h new b (Ok ended_as.End) =
       subst (λ (e : Ended (Result End FrontFault)). Listens Took (hearing_opened session_bounds) f first a to h new b (Ok e)) is (subst (λ x. Listens Took x f first a to h new b (Ok field)) begun l) in
@@ -200,11 +200,11 @@ module _ {A : Type 0} (contents : A → Option (List ℕ)) where
       subst (Consumes f.ahead h.ahead) (append-nil bytes) (subst (λ ahead. Consumes f.ahead h.ahead (bytes ++ ahead)) s.is.0.none (reads_all t.passes)) in
       let serves : Serves first.book new.book f.ahead h.ahead h.latest None None (Ok end.EndOfInput) =
       serves_idle h.ahead h.latest (Ok end.EndOfInput) (record { bytes = bytes; reads = reads; going = going_piece to.line hushed.going s.clean (omega (arith, s.is.0.short, top)) }) reads tt in
-      told_alone f.ahead h.ahead h.latest to.line new.book (contents b) new.said end.EndOfInput hushed refl refl refl serves reads
+      told_alone f.ahead h.ahead h.latest to.line new.book (draft b).held new.said end.EndOfInput hushed refl refl refl serves reads
 
   pub by_long : (from to : Hearing) (f h : Flow) (first new : Talk) (a b : A) (field : Ended (Result End FrontFault)) →
       field ≡ ended_as.Long → from ≡ hearing_opened session_bounds → first.book.pending ≡ None → first.said ≡ AllTaken → Listens Took from f first a to h new b (Ok field) →
-      RemarksAlone first.book new.book f.ahead h.ahead h.latest (contents a) (contents b) end.LongLine (said_at end.LongLine new.said)
+      RemarksAlone first.book new.book f.ahead h.ahead h.latest (draft a).held (draft b).held end.LongLine (said_at end.LongLine new.said)
   by_long from to f h first new a b field is begun closed calm l =
       let s : Ends Took (hearing_opened session_bounds) f first a to h new b (Ok ended_as.Long) =
       subst (λ (e : Ended (Result End FrontFault)). Listens Took (hearing_opened session_bounds) f first a to h new b (Ok e)) is (subst (λ x. Listens Took x f first a to h new b (Ok field)) begun l) in
@@ -222,4 +222,4 @@ module _ {A : Type 0} (contents : A → Option (List ℕ)) where
       (subst (λ bs. Consumes f.ahead h.ahead (bs ++ to.ahead)) line (reads_all t.passes))
       (subst (λ bs. Session first.book new.book bs None None (Ok end.LongLine)) line session) (le_refl (next_number new.book)) in
       let all = subst (Consumes f.ahead h.ahead) (append_assoc bytes to.line to.ahead) (reads_all t.passes) in
-      told_alone f.ahead h.ahead h.latest (to.line ++ to.ahead) new.book (contents b) new.said end.LongLine hushed refl refl refl serves all
+      told_alone f.ahead h.ahead h.latest (to.line ++ to.ahead) new.book (draft b).held new.said end.LongLine hushed refl refl refl serves all

@@ -40,10 +40,10 @@ pub fn explain<R: Source, W: Sink>(
     sink: &mut W,
 ) -> Result<Explained, FrontFault>
     ensures ended { IfOk result (λ said. (new : Register) × (end : End) × Explains beginner new
-        (R.flow source.old).ahead (R.flow source.new).ahead (R.flow source.new).latest (W.contents sink.old) (W.contents sink.new) (Ok end)
-        × Remarks beginner new (R.flow source.old).ahead (R.flow source.new).ahead (W.contents sink.old) (W.contents sink.new) end said) }
+        (R.flow source.old).ahead (R.flow source.new).ahead (R.flow source.new).latest (W.draft sink.old).held (W.draft sink.new).held (Ok end)
+        × Remarks beginner new (R.flow source.old).ahead (R.flow source.new).ahead (W.draft sink.old).held (W.draft sink.new).held end said) }
     ensures failed { IfErr result (λ fault. (new : Register) × Explains beginner new
-        (R.flow source.old).ahead (R.flow source.new).ahead (R.flow source.new).latest (W.contents sink.old) (W.contents sink.new) (Err fault)) }
+        (R.flow source.old).ahead (R.flow source.new).ahead (R.flow source.new).latest (W.draft sink.old).held (W.draft sink.new).held (Err fault)) }
 {
     let Ok(book) = Book::new(alloc, "t1", Limits::usual(), Store::empty(alloc)) else {
         return Err(FrontFault::Memory);
@@ -83,9 +83,9 @@ fn explain_lines<R: Source, W: Sink>(
     requires closed { talk.old.book.pending ≡ None }
     requires says { talk.old.said ≡ AllTaken }
     ensures explains { Explains talk.old.book talk.new.book (R.flow source.old).ahead (R.flow source.new).ahead (R.flow source.new).latest
-        (W.contents sink.old) (W.contents sink.new) result }
+        (W.draft sink.old).held (W.draft sink.new).held result }
     ensures remarks { IfOk result (λ end. Remarks talk.old.book talk.new.book (R.flow source.old).ahead (R.flow source.new).ahead
-        (W.contents sink.old) (W.contents sink.new) end (said_at end talk.new.said)) }
+        (W.draft sink.old).held (W.draft sink.new).held end (said_at end talk.new.said)) }
 {
     match listen(lines, source, &mut Explainer { alloc }, talk, sink) {
         Ok(Ended::Stopped(ended)) => ended,
@@ -103,7 +103,7 @@ struct Explainer {
 }
 
 impl<W: Sink> Listener<Talk, W, Result<End, FrontFault>> for Explainer {
-    ghost took = { λ old sink line new next result. ExplainsLine old.book old.said (W.contents sink) line new.book new.said (W.contents next) result };
+    ghost took = { λ old sink line new next result. ExplainsLine old.book old.said (W.draft sink).held line new.book new.said (W.draft next).held result };
 
     fn take(
         &mut self,
@@ -123,8 +123,8 @@ fn explain_line<W: Sink>(
     line: &[u8],
 ) -> Result<(), Result<End, FrontFault>>
     ensures goes { (first : Register) (start : Option (List ℕ)) (bytes : List ℕ) → first.pending ≡ None → HasNoEnd line.now → length line.now ≤ max_line →
-        Explaining first start bytes [] talk.old.book (W.contents sink.old) talk.old.said →
-        GoesOn first start (bytes ++ (line.now ++ 10 ∷ [])) [] talk.new.book (W.contents sink.new) talk.new.said result }
+        Explaining first start bytes [] talk.old.book (W.draft sink.old).held talk.old.said →
+        GoesOn first start (bytes ++ (line.now ++ 10 ∷ [])) [] talk.new.book (W.draft sink.new).held talk.new.said result }
     ensures grows { next_number talk.old.book ≤ next_number talk.new.book }
 {
     if let Err(stop) = take_line(alloc, &mut talk.book, &mut Solo, sink, line) {

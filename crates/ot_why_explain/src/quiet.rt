@@ -3,7 +3,7 @@ ghost use Rattle.std.specs.Prelude.{◌≡◌, ◌≤◌, ◌++◌, ◌∷◌, [
 ghost use Rattle.ot_lines.specs.Lines.{hearing_opened};
 ghost use Rattle.ot_book.specs.Books.{Register, next_number};
 ghost use Rattle.ot_session.specs.Session.{HasNoEnd, max_line};
-ghost use Rattle.ot_session.specs.Serving.{session_bounds};
+ghost use Rattle.ot_session.specs.Serving.{draft, session_bounds};
 ghost use Rattle.ot_session.specs.declared.fault.End.{End};
 ghost use Rattle.ot_why_explain.specs.Explaining.{beginner, RemarksAlone};
 ghost use Rattle.ot_why_explain.specs.Listening.{said_at, Hushed, HushedOn, HushesLine};
@@ -25,7 +25,7 @@ pub fn explain_quietly<R: Source, W: Sink>(
     sink: &mut W,
 ) -> Result<Explained, FrontFault>
     ensures { IfOk result (λ said. (new : Register) × (end : End) × RemarksAlone beginner new
-        (R.flow source.old).ahead (R.flow source.new).ahead (R.flow source.new).latest (W.contents sink.old) (W.contents sink.new) end said) }
+        (R.flow source.old).ahead (R.flow source.new).ahead (R.flow source.new).latest (W.draft sink.old).held (W.draft sink.new).held end said) }
 {
     let Ok(book) = Book::new(alloc, "t1", Limits::usual(), Store::empty(alloc)) else {
         return Err(FrontFault::Memory);
@@ -55,7 +55,7 @@ fn remark_lines<R: Source, W: Sink>(
     requires closed { talk.old.book.pending ≡ None }
     requires says { talk.old.said ≡ AllTaken }
     ensures { IfOk result (λ end. RemarksAlone talk.old.book talk.new.book (R.flow source.old).ahead (R.flow source.new).ahead (R.flow source.new).latest
-        (W.contents sink.old) (W.contents sink.new) end (said_at end talk.new.said)) }
+        (W.draft sink.old).held (W.draft sink.new).held end (said_at end talk.new.said)) }
 {
     match listen(lines, source, &mut Remarker { alloc }, talk, sink) {
         Ok(Ended::Stopped(ended)) => ended,
@@ -74,7 +74,7 @@ struct Remarker {
 }
 
 impl<W: Sink> Listener<Talk, W, Result<End, FrontFault>> for Remarker {
-    ghost took = { λ old sink line new next result. HushesLine old.book old.said (W.contents sink) line new.book new.said (W.contents next) result };
+    ghost took = { λ old sink line new next result. HushesLine old.book old.said (W.draft sink).held line new.book new.said (W.draft next).held result };
 
     fn take(
         &mut self,
@@ -94,8 +94,8 @@ fn remark_line<W: Sink>(
     line: &[u8],
 ) -> Result<(), Result<End, FrontFault>>
     ensures goes { (first : Register) (start : Option (List ℕ)) (bytes : List ℕ) → first.pending ≡ None → HasNoEnd line.now → length line.now ≤ max_line →
-        Hushed first start bytes talk.old.book (W.contents sink.old) talk.old.said →
-        HushedOn first start (bytes ++ (line.now ++ 10 ∷ [])) talk.old.book talk.new.book (W.contents sink.old) (W.contents sink.new) talk.old.said talk.new.said result }
+        Hushed first start bytes talk.old.book (W.draft sink.old).held talk.old.said →
+        HushedOn first start (bytes ++ (line.now ++ 10 ∷ [])) talk.old.book talk.new.book (W.draft sink.old).held (W.draft sink.new).held talk.old.said talk.new.said result }
     ensures grows { next_number talk.old.book ≤ next_number talk.new.book }
 {
     if let Err(stop) = take_line(alloc, &mut talk.book, &mut Solo, &mut Unkept, line) {
@@ -117,9 +117,7 @@ fn remark_line<W: Sink>(
 struct Unkept;
 
 impl Sink for Unkept {
-    ghost contents = { λ s. None };
-
-    ghost failures = { λ s. 0 };
+    ghost draft = { λ s. draft None 0 };
 
     fn write(&mut self, bytes: &[u8]) -> Result<usize, Failed> {
         Ok(bytes.len())

@@ -18,9 +18,9 @@ pub(crate) fn tell_last<W: Sink>(
     book: &Book,
     sink: &mut W,
 ) -> Result<bool, FrontFault>
-    ensures told { OnOk result ((text : List ℕ) × AreOn (last_code book.now) text × Appends (W.contents sink.old) (W.contents sink.new) text) }
+    ensures told { OnOk result ((text : List ℕ) × AreOn (last_code book.now) text × Appends (W.draft sink.old).held (W.draft sink.new).held text) }
     ensures refused { IfOk result (λ refused. refused ≡ is_some (last_code book.now)) }
-    ensures cut { OnErr result ((text : List ℕ) × (without_remarks text ≡ []) × Appends (W.contents sink.old) (W.contents sink.new) text) }
+    ensures cut { OnErr result ((text : List ℕ) × (without_remarks text ≡ []) × Appends (W.draft sink.old).held (W.draft sink.new).held text) }
     ensures fails { IfErr result (λ why. (why ≡ fault.Memory) ⊎ (why ≡ fault.WriteFailed)) }
 {
     let Ok(remarks) = remarks_on_last(alloc, book) else {

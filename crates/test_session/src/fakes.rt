@@ -1,5 +1,6 @@
 //! Devices, and an executor, that go wrong where a test asks them to.
 ghost use Rattle.std.specs.Prelude.{Some};
+ghost use Rattle.ot_session.specs.Serving.{draft};
 
 use ot_book::{Executor, NotDone, Solo};
 use ot_check::{JobSpec, Outcome};
@@ -17,9 +18,7 @@ pub struct Narrow {
 }
 
 impl Sink for Narrow {
-    ghost contents = { λ s. Some s.taken.items };
-
-    ghost failures = { λ s. s.failures };
+    ghost draft = { λ s. draft (Some s.taken.items) s.failures };
 
     fn write(&mut self, bytes: &[u8]) -> Result<usize, Failed> {
         if self.taken.len() < self.may_take && self.taken.push(bytes[0]).is_ok() {

@@ -2,7 +2,7 @@ use Rattle.std.proofs.Common.{◌≡◌, ◌||◌, ◌&&◌, ◌∙◌, Ok, Err,
 use Rattle.std.proofs.lemmas.List.Elements.{All-nil}
 use Rattle.ot_client_ask.specs.Exchanges.{asked_after}
 use Rattle.ot_client_ask.specs.Asking.{ways, is_untaken}
-use Rattle.ot_client_ask.specs.Streams.{is_refusal, outgoing}
+use Rattle.ot_client_ask.specs.Streams.{is_refusal}
 use Rattle.ot_client_ask.specs.declared.asked.Tally.{Tally}
 use Rattle.ot_client_ask.specs.declared.asked.AskFault.TheVariants.{TooManyLines}
 use Rattle.ot_client_ask.specs.declared.exchange.Step.TheVariants.{Answered, Bye, CutShort}
@@ -59,7 +59,7 @@ loop-preserved g c =
     let on : (c.args.stop && is_refused) ≡ false = search rules in
     let new = c.exchange.new in
     let more = talk_on g.M.Remarker.says c.args.stop _ _
-    (ways (g.T.LineSource.coming new.typed) (g.H.LineSource.coming new.heard) (outgoing (g.W.Sink.contents new.wire) (g.W.Sink.failures new.wire)) (outgoing (g.P.Sink.contents new.printed) (g.P.Sink.failures new.printed)))
+    (ways (g.T.LineSource.coming new.typed) (g.H.LineSource.coming new.heard) (g.W.Sink.draft new.wire) (g.P.Sink.draft new.printed))
     so_far.0 is_refused c.exchange.result _ _ c.with-tally.result so_far.1 so_far.2 so_far.4 so_far.5 c.with-tally.ensures on c.exchange.ensures is in (
       so_far.0 || is_refused,
       more.0,

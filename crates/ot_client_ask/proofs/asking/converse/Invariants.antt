@@ -1,7 +1,6 @@
 use Rattle.std.proofs.Common.{◌≡◌, ◌≤◌, Bool, length}
 use Rattle.ot_client_ask.specs.Asking.{Talk, ways, tally_of}
 use Rattle.ot_client_ask.specs.Exchanges.{asked_of}
-use Rattle.ot_client_ask.specs.Streams.{outgoing}
 use Rattle.ot_client_ask.proofs.TallyLemmas.{Calm}
 use Rattle.ot_client_ask.proofs.asking.converse.Given as goal
 
@@ -9,8 +8,8 @@ use Rattle.ot_client_ask.proofs.asking.converse.Given as goal
 abbrev pub invariant-loop : goal.invariant-loop
 invariant-loop g l =
     (is_refused : Bool)
-    × (talk : Talk g.M.Remarker.says (ways (g.T.LineSource.coming l.initial.typed) (g.H.LineSource.coming l.initial.heard) (outgoing (g.W.Sink.contents l.initial.wire) (g.W.Sink.failures l.initial.wire)) (outgoing (g.P.Sink.contents l.initial.printed) (g.P.Sink.failures l.initial.printed)))
-    (ways (g.T.LineSource.coming l.typed) (g.H.LineSource.coming l.heard) (outgoing (g.W.Sink.contents l.wire) (g.W.Sink.failures l.wire)) (outgoing (g.P.Sink.contents l.printed) (g.P.Sink.failures l.printed))) is_refused)
+    × (talk : Talk g.M.Remarker.says (ways (g.T.LineSource.coming l.initial.typed) (g.H.LineSource.coming l.initial.heard) (g.W.Sink.draft l.initial.wire) (g.P.Sink.draft l.initial.printed))
+    (ways (g.T.LineSource.coming l.typed) (g.H.LineSource.coming l.heard) (g.W.Sink.draft l.wire) (g.P.Sink.draft l.printed)) is_refused)
     × (length talk.lines ≡ l.counter)
     × (l.asked ≡ asked_of is_refused)
     × (l.tally ≡ tally_of talk.replies)

@@ -1,7 +1,7 @@
 use Rattle.std.proofs.Common.{◌∙◌, ◌+◌, [], ◌∷◌, ◌++◌, ap, append-nil, arith, length, length-append, length-drop, refl, subst, sym}
 use Rattle.std.specs.List.{concat}
 use Rattle.std.proofs.lemmas.List.Elements.{All-nil, All-push}
-use Rattle.ot_client_ask.specs.Streams.{link, outgoing, IsWhole}
+use Rattle.ot_client_ask.specs.Streams.{link, IsWhole}
 use Rattle.ot_client_keep.specs.Questions.{TurnFails, Line}
 use Rattle.ot_client_keep.proofs.KeepLemmas.{stops_later, stops_now, takes_stop}
 use Rattle.ot_client_keep.proofs.LineLemmas.{joined_here, joined_more, line_whole, lines_after, no_rest, one_longer, taken_more}
@@ -26,7 +26,7 @@ loop-at-preserved g c =
       All-push IsWhole so_far.0 line so_far.1 (line_whole rest line at first c.split_at.ensures.front),
       joined_more so_far.0 line after rest c.args.session.now (at + 1) c.split_at.ensures.front c.split_at.ensures.back so_far.2,
       lines_after rest after (at + 1) so_far.3 c.split_at.ensures.back,
-      taken_more so_far.0 line (link (g.H.LineSource.coming c.args.heard.now) (outgoing (g.W.Sink.contents c.args.wire.now) (g.W.Sink.failures c.args.wire.now))) (link (g.H.LineSource.coming c.loop-at.heard) (outgoing (g.W.Sink.contents c.loop-at.wire) (g.W.Sink.failures c.loop-at.wire))) (link (g.H.LineSource.coming c.ask_line.new.heard) (outgoing (g.W.Sink.contents c.ask_line.new.wire) (g.W.Sink.failures c.ask_line.new.wire))) c.in-Ok.field-0 so_far.4 c.in-Ok.ensures,
+      taken_more so_far.0 line (link (g.H.LineSource.coming c.args.heard.now) (g.W.Sink.draft c.args.wire.now)) (link (g.H.LineSource.coming c.loop-at.heard) (g.W.Sink.draft c.loop-at.wire)) (link (g.H.LineSource.coming c.ask_line.new.heard) (g.W.Sink.draft c.ask_line.new.wire)) c.in-Ok.field-0 so_far.4 c.in-Ok.ensures,
       one_longer so_far.0 line c.loop-at.taken so_far.5,
       omega (arith, size, longer, within, bound),
     )
@@ -42,18 +42,18 @@ returns-in-Err-StrangeReply g c =
       rest = c.split_at.result.1.now;
       whole = All-push IsWhole so_far.0 line so_far.1 (line_whole rest line c.in-Some.at c.in-Some.ensures c.split_at.ensures.front);
       is = joined_here so_far.0 line c.split_at.result.1.now rest c.args.session.now (c.in-Some.at + 1) c.split_at.ensures.front c.split_at.ensures.back so_far.2;
-      mid = (link (g.H.LineSource.coming c.loop-at.heard) (outgoing (g.W.Sink.contents c.loop-at.wire) (g.W.Sink.failures c.loop-at.wire)));
+      mid = link (g.H.LineSource.coming c.loop-at.heard) (g.W.Sink.draft c.loop-at.wire);
       taken = so_far.4;
-      fails = subst (TurnFails (Line line) (link (g.H.LineSource.coming c.loop-at.heard) (outgoing (g.W.Sink.contents c.loop-at.wire) (g.W.Sink.failures c.loop-at.wire))) (link (g.H.LineSource.coming c.ask_line.new.heard) (outgoing (g.W.Sink.contents c.ask_line.new.wire) (g.W.Sink.failures c.ask_line.new.wire)))) c.in-Err-StrangeReply.field-0-is c.in-Err-StrangeReply.ensures;
+      fails = subst (TurnFails (Line line) (link (g.H.LineSource.coming c.loop-at.heard) (g.W.Sink.draft c.loop-at.wire)) (link (g.H.LineSource.coming c.ask_line.new.heard) (g.W.Sink.draft c.ask_line.new.wire))) c.in-Err-StrangeReply.field-0-is c.in-Err-StrangeReply.ensures;
       count = ap (λ n. n + 1) so_far.5;
     }
 
 pub returns-in-Err : goal.returns-in-Err
 returns-in-Err g c =
     let taken = c.loop-at.invariant.4 in
-    let start = (link (g.H.LineSource.coming c.args.heard.now) (outgoing (g.W.Sink.contents c.args.wire.now) (g.W.Sink.failures c.args.wire.now))) in
-    let now = (link (g.H.LineSource.coming c.loop-at.heard) (outgoing (g.W.Sink.contents c.loop-at.wire) (g.W.Sink.failures c.loop-at.wire))) in
-    let new = (link (g.H.LineSource.coming c.ask_line.new.heard) (outgoing (g.W.Sink.contents c.ask_line.new.wire) (g.W.Sink.failures c.ask_line.new.wire))) in
+    let start = link (g.H.LineSource.coming c.args.heard.now) (g.W.Sink.draft c.args.wire.now) in
+    let now = link (g.H.LineSource.coming c.loop-at.heard) (g.W.Sink.draft c.loop-at.wire) in
+    let new = link (g.H.LineSource.coming c.ask_line.new.heard) (g.W.Sink.draft c.ask_line.new.wire) in
     takes_stop c.args.session.now start new c.in-Err.fault
     (stops_later start now new taken.turns c.in-Err.fault taken.talk (stops_now now new (Line c.split_at.result.0.now) c.in-Err.fault c.in-Err.ensures))
 

@@ -1,7 +1,7 @@
 use Rattle.std.proofs.Common.{◌≡◌, ◌+◌, ◌≤◌, ◌++◌, List, ℕ, length}
 use Rattle.std.specs.Prelude.{All}
 use Rattle.std.specs.List.{concat}
-use Rattle.ot_client_ask.specs.Streams.{IsWhole, link, outgoing}
+use Rattle.ot_client_ask.specs.Streams.{IsWhole, link}
 use Rattle.ot_client_keep.specs.Files.{AreLines}
 use Rattle.ot_client_keep.specs.Saving.{AreTaken}
 use Rattle.ot_client_keep.proofs.restoring.send_lines.Given as goal
@@ -13,8 +13,8 @@ invariant-loop-at g l =
     × All IsWhole lines
     × (concat lines ++ l.rest ≡ l.session)
     × AreLines l.rest
-    × AreTaken lines (link (g.H.LineSource.coming l.fn.heard) (outgoing (g.W.Sink.contents l.fn.wire) (g.W.Sink.failures l.fn.wire)))
-    (link (g.H.LineSource.coming l.heard) (outgoing (g.W.Sink.contents l.wire) (g.W.Sink.failures l.wire)))
+    × AreTaken lines (link (g.H.LineSource.coming l.fn.heard) (g.W.Sink.draft l.fn.wire))
+    (link (g.H.LineSource.coming l.heard) (g.W.Sink.draft l.wire))
     × (l.taken ≡ length lines)
     × (length lines + length l.rest ≤ length l.session)
 

@@ -1,5 +1,5 @@
 use Rattle.std.proofs.Common.{[], ◌∷◌, ◌+◌, ◌++◌, ap, map}
-use Rattle.ot_client_ask.specs.Streams.{link, outgoing}
+use Rattle.ot_client_ask.specs.Streams.{link}
 use Rattle.ot_client_keep.specs.Arrays.{named_by}
 use Rattle.ot_client_keep.specs.Questions.{Question, Checkpoint, Units, arrays_turns}
 use Rattle.ot_client_keep.specs.Files.{Reply, Taken, Used}
@@ -7,33 +7,33 @@ use Rattle.ot_client_keep.proofs.KeepLemmas.{stops_later, stops_now, talks_appen
 use Rattle.ot_client_keep.proofs.saving.read_tenant.Goals as goal
 
 pub returns-in-Err : goal.returns-in-Err
-returns-in-Err g c = stops_now (link (g.H.LineSource.coming c.args.heard.now) (outgoing (g.W.Sink.contents c.args.wire.now) (g.W.Sink.failures c.args.wire.now))) (link (g.H.LineSource.coming c.ask_checkpoint.new.heard) (outgoing (g.W.Sink.contents c.ask_checkpoint.new.wire) (g.W.Sink.failures c.ask_checkpoint.new.wire))) Checkpoint c.in-Err.fault c.in-Err.ensures
+returns-in-Err g c = stops_now (link (g.H.LineSource.coming c.args.heard.now) (g.W.Sink.draft c.args.wire.now)) (link (g.H.LineSource.coming c.ask_checkpoint.new.heard) (g.W.Sink.draft c.ask_checkpoint.new.wire)) Checkpoint c.in-Err.fault c.in-Err.ensures
 
 pub returns-in-Err-ask_units : goal.returns-in-Err-ask_units
 returns-in-Err-ask_units g c =
-    let start = (link (g.H.LineSource.coming c.args.heard.now) (outgoing (g.W.Sink.contents c.args.wire.now) (g.W.Sink.failures c.args.wire.now))) in
-    let first = (link (g.H.LineSource.coming c.ask_checkpoint.new.heard) (outgoing (g.W.Sink.contents c.ask_checkpoint.new.wire) (g.W.Sink.failures c.ask_checkpoint.new.wire))) in
-    let new = (link (g.H.LineSource.coming c.ask_units.new.heard) (outgoing (g.W.Sink.contents c.ask_units.new.wire) (g.W.Sink.failures c.ask_units.new.wire))) in
+    let start = link (g.H.LineSource.coming c.args.heard.now) (g.W.Sink.draft c.args.wire.now) in
+    let first = link (g.H.LineSource.coming c.ask_checkpoint.new.heard) (g.W.Sink.draft c.ask_checkpoint.new.wire) in
+    let new = link (g.H.LineSource.coming c.ask_units.new.heard) (g.W.Sink.draft c.ask_units.new.wire) in
     let turn : Question × Reply = (Checkpoint, Taken c.in_default.field-0) in
     stops_later start first new (turn ∷ []) c.in-Err-ask_units.fault (talks_one start first turn c.in_default.ensures) (stops_now first new Units c.in-Err-ask_units.fault c.in-Err-ask_units.ensures)
 
 pub returns-in-Err-read_arrays : goal.returns-in-Err-read_arrays
 returns-in-Err-read_arrays g c =
-    let start = (link (g.H.LineSource.coming c.args.heard.now) (outgoing (g.W.Sink.contents c.args.wire.now) (g.W.Sink.failures c.args.wire.now))) in
-    let first = (link (g.H.LineSource.coming c.ask_checkpoint.new.heard) (outgoing (g.W.Sink.contents c.ask_checkpoint.new.wire) (g.W.Sink.failures c.ask_checkpoint.new.wire))) in
-    let second = (link (g.H.LineSource.coming c.ask_units.new.heard) (outgoing (g.W.Sink.contents c.ask_units.new.wire) (g.W.Sink.failures c.ask_units.new.wire))) in
-    let new = (link (g.H.LineSource.coming c.read_arrays.new.heard) (outgoing (g.W.Sink.contents c.read_arrays.new.wire) (g.W.Sink.failures c.read_arrays.new.wire))) in
+    let start = link (g.H.LineSource.coming c.args.heard.now) (g.W.Sink.draft c.args.wire.now) in
+    let first = link (g.H.LineSource.coming c.ask_checkpoint.new.heard) (g.W.Sink.draft c.ask_checkpoint.new.wire) in
+    let second = link (g.H.LineSource.coming c.ask_units.new.heard) (g.W.Sink.draft c.ask_units.new.wire) in
+    let new = link (g.H.LineSource.coming c.read_arrays.new.heard) (g.W.Sink.draft c.read_arrays.new.wire) in
     let turn : Question × Reply = (Checkpoint, Taken c.in_default.field-0) in
     let units : Question × Reply = (Units, Used c.in-Ok.used) in
     stops_later start second new (turn ∷ units ∷ []) c.in-Err-read_arrays.fault (talks_two start first second turn units c.in_default.ensures c.in-Ok.ensures) c.in-Err-read_arrays.ensures
 
 pub returns-in-Err-ask_checkpoint : goal.returns-in-Err-ask_checkpoint
 returns-in-Err-ask_checkpoint g c =
-    let start = (link (g.H.LineSource.coming c.args.heard.now) (outgoing (g.W.Sink.contents c.args.wire.now) (g.W.Sink.failures c.args.wire.now))) in
-    let first = (link (g.H.LineSource.coming c.ask_checkpoint.new.heard) (outgoing (g.W.Sink.contents c.ask_checkpoint.new.wire) (g.W.Sink.failures c.ask_checkpoint.new.wire))) in
-    let second = (link (g.H.LineSource.coming c.ask_units.new.heard) (outgoing (g.W.Sink.contents c.ask_units.new.wire) (g.W.Sink.failures c.ask_units.new.wire))) in
-    let third = (link (g.H.LineSource.coming c.read_arrays.new.heard) (outgoing (g.W.Sink.contents c.read_arrays.new.wire) (g.W.Sink.failures c.read_arrays.new.wire))) in
-    let new = (link (g.H.LineSource.coming c.ask_checkpoint-2.new.heard) (outgoing (g.W.Sink.contents c.ask_checkpoint-2.new.wire) (g.W.Sink.failures c.ask_checkpoint-2.new.wire))) in
+    let start = link (g.H.LineSource.coming c.args.heard.now) (g.W.Sink.draft c.args.wire.now) in
+    let first = link (g.H.LineSource.coming c.ask_checkpoint.new.heard) (g.W.Sink.draft c.ask_checkpoint.new.wire) in
+    let second = link (g.H.LineSource.coming c.ask_units.new.heard) (g.W.Sink.draft c.ask_units.new.wire) in
+    let third = link (g.H.LineSource.coming c.read_arrays.new.heard) (g.W.Sink.draft c.read_arrays.new.wire) in
+    let new = link (g.H.LineSource.coming c.ask_checkpoint-2.new.heard) (g.W.Sink.draft c.ask_checkpoint-2.new.wire) in
     let turn : Question × Reply = (Checkpoint, Taken c.in_default.field-0) in
     let units : Question × Reply = (Units, Used c.in-Ok.used) in
     let arrays = arrays_turns (map named_by c.in-Ok-read_arrays.arrays.items) in
@@ -43,10 +43,10 @@ returns-in-Err-ask_checkpoint g c =
 
 pub returns-in-Ok-ask_checkpoint : goal.returns-in-Ok-ask_checkpoint
 returns-in-Ok-ask_checkpoint g c =
-    let first = (link (g.H.LineSource.coming c.ask_checkpoint.new.heard) (outgoing (g.W.Sink.contents c.ask_checkpoint.new.wire) (g.W.Sink.failures c.ask_checkpoint.new.wire))) in
-    let second = (link (g.H.LineSource.coming c.ask_units.new.heard) (outgoing (g.W.Sink.contents c.ask_units.new.wire) (g.W.Sink.failures c.ask_units.new.wire))) in
-    let third = (link (g.H.LineSource.coming c.read_arrays.new.heard) (outgoing (g.W.Sink.contents c.read_arrays.new.wire) (g.W.Sink.failures c.read_arrays.new.wire))) in
-    let new = (link (g.H.LineSource.coming c.ask_checkpoint-2.new.heard) (outgoing (g.W.Sink.contents c.ask_checkpoint-2.new.wire) (g.W.Sink.failures c.ask_checkpoint-2.new.wire))) in
+    let first = link (g.H.LineSource.coming c.ask_checkpoint.new.heard) (g.W.Sink.draft c.ask_checkpoint.new.wire) in
+    let second = link (g.H.LineSource.coming c.ask_units.new.heard) (g.W.Sink.draft c.ask_units.new.wire) in
+    let third = link (g.H.LineSource.coming c.read_arrays.new.heard) (g.W.Sink.draft c.read_arrays.new.wire) in
+    let new = link (g.H.LineSource.coming c.ask_checkpoint-2.new.heard) (g.W.Sink.draft c.ask_checkpoint-2.new.wire) in
     let last : Question × Reply = (Checkpoint, Taken c.in-Ok-ask_checkpoint.last) in
     record {
       first = c.in_default.field-0;

@@ -1,7 +1,6 @@
 use Rattle.std.proofs.Common.{◌∙◌, ap, map, subst}
-use Rattle.std.specs.Io.KnownBytes.{Appends}
-use Rattle.ot_session.specs.Serving.{AppendsFront}
-use Rattle.ot_client_ask.specs.Streams.{link, outgoing}
+use Rattle.ot_session.specs.Serving.{Writes, BreaksOffIn}
+use Rattle.ot_client_ask.specs.Streams.{link}
 use Rattle.ot_client_keep.specs.Arrays.{named_by}
 use Rattle.ot_client_keep.specs.Files.{Makes, file_text}
 use Rattle.ot_client_keep.specs.Saving.{IsText}
@@ -11,8 +10,8 @@ pub returns-in-Err-write_whole : goal.returns-in-Err-write_whole
 returns-in-Err-write_whole g c =
     let session = c.in-Ok-session_text.session.items in
     let text = c.in-Ok-file_text.text.items in
-    let tells : IsText c.args.name.now (link (g.H.LineSource.coming c.args.heard.now) (outgoing (g.W.Sink.contents c.args.wire.now) (g.W.Sink.failures c.args.wire.now))) (link (g.H.LineSource.coming c.read_tenant.new.heard) (outgoing (g.W.Sink.contents c.read_tenant.new.wire) (g.W.Sink.failures c.read_tenant.new.wire))) c.in-Ok.tenant.next c.in-Ok.tenant.used text = record {
-      greeted = (link (g.H.LineSource.coming c.greet.new.heard) (outgoing (g.W.Sink.contents c.greet.new.wire) (g.W.Sink.failures c.greet.new.wire)));
+    let tells : IsText c.args.name.now (link (g.H.LineSource.coming c.args.heard.now) (g.W.Sink.draft c.args.wire.now)) (link (g.H.LineSource.coming c.read_tenant.new.heard) (g.W.Sink.draft c.read_tenant.new.wire)) c.in-Ok.tenant.next c.in-Ok.tenant.used text = record {
+      greeted = link (g.H.LineSource.coming c.greet.new.heard) (g.W.Sink.draft c.greet.new.wire);
       arrays = map named_by c.in-Ok.tenant.arrays.items;
       session = session;
       greets = c.in_default.ensures;
@@ -24,18 +23,15 @@ returns-in-Err-write_whole g c =
       c.in-Ok.tenant.used,
       text,
       tells,
-      record {
-        front = subst (AppendsFront (g.O.Sink.contents c.args.out.now) (g.O.Sink.contents c.write_whole.new.sink)) c.as_slice-3.ensures.value c.in-Err-write_whole.ensures.err;
-        failed = c.in-Err-write_whole.ensures.failed;
-      },
+      subst (BreaksOffIn (g.O.Sink.draft c.args.out.now) (g.O.Sink.draft c.write_whole.new.sink)) c.as_slice-3.ensures.value c.in-Err-write_whole.ensures.err,
     )
 
 pub returns : goal.returns
 returns g c =
     let session = c.in-Ok-session_text.session.items in
     let text = c.in-Ok-file_text.text.items in
-    let tells : IsText c.args.name.now (link (g.H.LineSource.coming c.args.heard.now) (outgoing (g.W.Sink.contents c.args.wire.now) (g.W.Sink.failures c.args.wire.now))) (link (g.H.LineSource.coming c.read_tenant.new.heard) (outgoing (g.W.Sink.contents c.read_tenant.new.wire) (g.W.Sink.failures c.read_tenant.new.wire))) c.in-Ok.tenant.next c.in-Ok.tenant.used text = record {
-      greeted = (link (g.H.LineSource.coming c.greet.new.heard) (outgoing (g.W.Sink.contents c.greet.new.wire) (g.W.Sink.failures c.greet.new.wire)));
+    let tells : IsText c.args.name.now (link (g.H.LineSource.coming c.args.heard.now) (g.W.Sink.draft c.args.wire.now)) (link (g.H.LineSource.coming c.read_tenant.new.heard) (g.W.Sink.draft c.read_tenant.new.wire)) c.in-Ok.tenant.next c.in-Ok.tenant.used text = record {
+      greeted = link (g.H.LineSource.coming c.greet.new.heard) (g.W.Sink.draft c.greet.new.wire);
       arrays = map named_by c.in-Ok.tenant.arrays.items;
       session = session;
       greets = c.in_default.ensures;
@@ -43,12 +39,9 @@ returns g c =
       makes = subst (λ l. Makes (map named_by l) session) c.as_slice.ensures.value c.in-Ok-session_text.ensures;
       is = c.in-Ok-file_text.ensures ∙ ap (λ l. file_text l c.in-Ok.tenant.next c.in-Ok.tenant.used) c.as_slice-2.ensures.value;
     } in (
-      (link (g.H.LineSource.coming c.read_tenant.new.heard) (outgoing (g.W.Sink.contents c.read_tenant.new.wire) (g.W.Sink.failures c.read_tenant.new.wire))),
+      link (g.H.LineSource.coming c.read_tenant.new.heard) (g.W.Sink.draft c.read_tenant.new.wire),
       text,
       tells,
-      record {
-        bytes_out = subst (Appends (g.O.Sink.contents c.args.out.now) (g.O.Sink.contents c.write_whole.new.sink)) c.as_slice-3.ensures.value c.in-Ok-write_whole.ensures.ok;
-        worked = c.in-Ok-write_whole.ensures.worked;
-      },
+      subst (Writes (g.O.Sink.draft c.args.out.now) (g.O.Sink.draft c.write_whole.new.sink)) c.as_slice-3.ensures.value c.in-Ok-write_whole.ensures.ok,
       c.say_bye.ensures,
     )

@@ -11,8 +11,8 @@ abbrev pub invariant-loop-tenant : goal.invariant-loop-tenant
 invariant-loop-tenant g l =
     ((old : Scene) → l.given ≡ counts_at old (length l.names) →
     (text : List ℕ)
-    × Appends (g.W.Sink.contents l.initial.sink) (g.W.Sink.contents l.sink) text
+    × Appends (g.W.Sink.draft l.initial.sink).held (g.W.Sink.draft l.sink).held text
     × (text ++ news (drop l.tenant (map string_bytes l.name-items)) l.tenant old l.world ≡ news l.names 0 old l.world))
-    × (g.W.Sink.failures l.sink ≡ g.W.Sink.failures l.initial.sink)
+    × ((g.W.Sink.draft l.sink).failures ≡ (g.W.Sink.draft l.initial.sink).failures)
     × (length l.name-items ≤ 64)
     × (length l.name-items ≡ length l.given)

@@ -7,6 +7,6 @@ use Rattle.ot_sim.proofs.play.tell_replies.Given as goal
 abbrev pub invariant-loop-reply : goal.invariant-loop-reply
 invariant-loop-reply g l =
     (text : List ℕ)
-    × Appends (g.W.Sink.contents l.initial.sink) (g.W.Sink.contents l.sink) text
+    × Appends (g.W.Sink.draft l.initial.sink).held (g.W.Sink.draft l.sink).held text
     × (text ++ reply_lines l.name l.reply-iterator ≡ reply_lines l.name l.initial.reply-iterator)
-    × (g.W.Sink.failures l.sink ≡ g.W.Sink.failures l.initial.sink)
+    × ((g.W.Sink.draft l.sink).failures ≡ (g.W.Sink.draft l.initial.sink).failures)

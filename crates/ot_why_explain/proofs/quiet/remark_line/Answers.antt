@@ -11,7 +11,7 @@ pub returns-in-Err-clause-goes : goal.returns-in-Err-clause-goes
 returns-in-Err-clause-goes g c = λ first start bytes closed clean short h.
     let line = c.args.line.now in
     let book = c.args.talk.now.book in
-    hushed_stop first bytes book start line c.take_line.new.book (g.W.Sink.contents c.args.sink.now) c.args.talk.now.said c.in-Err.stop c.result.result c.result.ensures clean
+    hushed_stop first bytes book start line c.take_line.new.book (g.W.Sink.draft c.args.sink.now).held c.args.talk.now.said c.in-Err.stop c.result.result c.result.ensures clean
     (c.in-Err.ensures.goes first None (bytes ++ line) closed (hushed_begun line h clean short))
     (c.in-Err.ensures.goes book None line (hushed_closed closed h) (begun_line book None line clean short))
 
@@ -20,7 +20,7 @@ pub returns-then-refused-clause-goes : goal.returns-then-refused-clause-goes
 returns-then-refused-clause-goes g c = λ first start bytes closed clean short h.
     let line = c.args.line.now in
     let book = c.args.talk.now.book in
-    hushed_on line c.take_line.new.book (g.W.Sink.contents c.tell_last.new.sink) SomeRefused h clean
+    hushed_on line c.take_line.new.book (g.W.Sink.draft c.tell_last.new.sink).held SomeRefused h clean
     (c.in_default.ensures.goes first None (bytes ++ line) closed (hushed_begun line h clean short))
     (c.in_default.ensures.goes book None line (hushed_closed closed h) (begun_line book None line clean short))
     c.in-Ok.ensures.told (ap (said_on c.args.talk.now.said) (sym c.if-refused.true ∙ c.in-Ok.ensures.refused))
@@ -29,7 +29,7 @@ pub returns-else-refused-clause-goes : goal.returns-else-refused-clause-goes
 returns-else-refused-clause-goes g c = λ first start bytes closed clean short h.
     let line = c.args.line.now in
     let book = c.args.talk.now.book in
-    hushed_on line c.take_line.new.book (g.W.Sink.contents c.tell_last.new.sink) c.args.talk.now.said h clean
+    hushed_on line c.take_line.new.book (g.W.Sink.draft c.tell_last.new.sink).held c.args.talk.now.said h clean
     (c.in_default.ensures.goes first None (bytes ++ line) closed (hushed_begun line h clean short))
     (c.in_default.ensures.goes book None line (hushed_closed closed h) (begun_line book None line clean short))
     c.in-Ok.ensures.told (ap (said_on c.args.talk.now.said) (sym c.if-refused.false ∙ c.in-Ok.ensures.refused))

@@ -9,7 +9,7 @@ returns-clause-cut g c =
     let known = subst (λ r. MatchOption r (last_code c.args.book.now ≡ None)
     (λ text. (code : ℕ) × (last_code c.args.book.now ≡ Some code) × (first : List ℕ) × (string_bytes text ≡ with_code code first))) c.in-Some.is c.in-Ok.ensures in
     let opened = c.in-Ok-remarked.ensures known.0 known.2 (c.as_bytes.ensures.value ∙ known.3) in
-    let front = c.in-Err.ensures.err in (
+    let front = c.in-Err.ensures.err.front in (
       take front.0 c.as_slice.result.now,
       subst (λ text. without_remarks (take front.0 text) ≡ []) (sym c.as_slice.ensures.value) (on-hidden (Some known.0) c.in-Ok-remarked.text.items opened front.0),
       front.2,
