@@ -1,4 +1,3 @@
-pub mod Asked
-pub mod Grammar
+pub mod Files
 pub mod Faults
 pub mod Judged

@@ -1,9 +1,8 @@
 //! Files that are judged, or written as lines.
 ghost use Rattle.std.specs.Prelude.{◌≡◌};
 ghost use Rattle.omptask.specs.Faults.{ended_by, weight_of, worse_of};
-ghost use Rattle.omptask.specs.Asked.{format_of, is_c, is_cpp, kind_by_name};
+ghost use Rattle.omptask.specs.Files.{format_of, is_c, is_cpp, kind_by_name};
 
-use crate::asked::{Check, Kind};
 use crate::ended::Ended;
 use crate::fault::{Fault, want_for, want_text};
 use crate::folder::{files_below, is_folder};
@@ -16,6 +15,7 @@ use ot_c_text::{Session, session_of};
 use ot_file_diagnosis::{Format, Outcome, Paint, Source, put_diagnosis, put_results};
 use ot_model::ArrayShape;
 use ot_session::Writing;
+use ot_subcommands::Check;
 use serde_json::Value;
 use std::alloc::{AllocError, Global};
 use std::fs::File;
@@ -25,6 +25,17 @@ use std::rt::Files;
 
 /// What is told of standard input in the place of a file's name.
 const STDIN_NAME: &str = "<stdin>";
+
+/// What a file has, by its name.
+#[derive(Clone, Copy, Debug, PartialEq, Eq)]
+pub enum Kind {
+    /// A text in C.
+    InC,
+    /// A text in C++.
+    InCpp,
+    /// Requests.
+    Requests,
+}
 
 /// What is asked for of each file.
 #[derive(Drop)]

@@ -4,13 +4,10 @@
 ghost use Rattle.std.specs.Prelude.{◌≡◌, ◌≢◌, [], option_map, slice_get, string_bytes, unwrap_or};
 ghost use Rattle.std.specs.Process.{exit_status};
 ghost use Rattle.clap.specs.Words.{kind_of};
-ghost use Rattle.omptask.specs.Asked.{socket_of, word_of};
+ghost use Rattle.omptask.specs.Files.{socket_of, word_of};
 ghost use Rattle.omptask.specs.Faults.{ended_of, status_of, status_of_fault};
 
-pub mod asked;
 mod checking;
-pub mod command_line;
-mod commands;
 pub mod ended;
 mod explaining;
 pub mod fault;
@@ -21,10 +18,9 @@ mod judging;
 mod prompt;
 pub mod reaching;
 
-pub use asked::{Ask, Check, Kind, Manner, Words};
+pub use checking::Kind;
 use checking::check_files;
 use clap::error::ErrorKind;
-pub use command_line::words;
 pub use ended::Ended;
 use explaining::ask_explained;
 pub use fault::{Fault, Want, fault_line, want_text};
@@ -36,6 +32,7 @@ use ot_commands::hold_standard;
 use ot_file_diagnosis::Paint;
 use ot_session::{Reading, Sink, Writing, write_whole};
 use ot_show_last::{Untaken, last_run};
+use ot_subcommands::{Ask, Manner, Words, words};
 use ot_why_explain::{Explained, explain, explain_quietly};
 use ot_why_reason::code_page;
 use prompt::Prompted;

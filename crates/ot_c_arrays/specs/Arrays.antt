@@ -1,9 +1,11 @@
 -- What a file declares: `T a[N]` is an array, `T x` an array of one cell. Numbers below zero stand modulo 2^64.
-use Rattle.std.specs.Prelude.{ℕ, ◌-◌, ◌%◌, ◌^◌, ◌==◌, nat_lt, Bool, false, ◌&&◌, ◌||◌, List, [], ◌∷◌, ◌++◌, length as count_in, map, replicate, slice_get, slice_set, Option, Some, None, Result, Ok, Err, String, string_bytes, if◌then◌else◌}
+use Rattle.std.specs.Prelude.{ℕ, ◌-◌, ◌%◌, ◌^◌, ◌==◌, nat_lt, Bool, false, ◌&&◌, ◌||◌, List, [], ◌∷◌, ◌++◌, length as count_in, map, slice_get, slice_set, Option, Some, None, Result, Ok, Err, String, string_bytes, if◌then◌else◌}
 use Rattle.std.specs.List.{list_any}
 use Rattle.std.specs.Str.{bytes_eq}
 use Rattle.std.specs.declared.alloc.Global.{Global}
+use Rattle.ot_c_names.specs.Arrays.{initial_cells, with_zeros}
 use Rattle.ot_c_names.specs.Names.{is_taken, own_name}
+use Rattle.ot_c_names.specs.declared.array.CArray.{CArray}
 use Rattle.ot_c_words.specs.declared.word.IntegerType.{IntegerType}
 use Rattle.ot_c_words.specs.declared.word.Name.{Name}
 use Rattle.ot_c_words.specs.declared.word.Name.TheVariants as n
@@ -18,7 +20,6 @@ use Rattle.ot_c_scope.specs.Constants.{Typed, constant}
 use Rattle.ot_c_scope.specs.Kinds.{holds, holds_below, is_signed}
 use Rattle.ot_c_scope.specs.Results.{Refusal, ◌>>=◌}
 use Rattle.ot_c_scope.specs.Scopes.{Around}
-use Rattle.ot_c_arrays.specs.declared.arrays.CArray.{CArray}
 use Rattle.ot_c_arrays.specs.declared.arrays.Declared.{Declared}
 use Rattle.ot_c_arrays.specs.Each.{each_or_refused}
 
@@ -27,12 +28,8 @@ pub record Arr : Type 0 where
   pub name : List ℕ
   pub cells : List ℕ
 
--- cells, and so many zeros behind them
-abbrev pub with_zeros : List ℕ → ℕ → List ℕ
-with_zeros cells n = cells ++ replicate n 0
-
 abbrev pub c_array : CArray → Arr
-c_array a = record { name = string_bytes a.name; cells = with_zeros a.cells.items a.zeros }
+c_array a = record { name = string_bytes a.name; cells = initial_cells a }
 
 -- what names mean, and the arrays in their order
 pub record D : Type 0 where

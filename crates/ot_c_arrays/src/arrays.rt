@@ -4,14 +4,15 @@ ghost use Rattle.ot_c_expressions.specs.Tree.{expr_of};
 ghost use Rattle.ot_c_statements.specs.Tree.{exprs_of, index_of};
 ghost use Rattle.ot_c_files.specs.Program.{initial_of, variable_of, variables_of, declaration_of};
 ghost use Rattle.ot_c_scope.specs.Results.{GivesAs};
-ghost use Rattle.ot_c_arrays.specs.Arrays.{c_array, declared_view, with_zeros};
+ghost use Rattle.ot_c_names.specs.Arrays.{with_zeros};
+ghost use Rattle.ot_c_arrays.specs.Arrays.{c_array, declared_view};
 ghost use Rattle.ot_c_arrays.specs.Arrays as meant;
 ghost use Rattle.ot_c_arrays.specs.Each.{each_or_refused};
 
 use indexmap::IndexSet;
 use ot_c_expressions::{Expr, Unary, left_of};
 use ot_c_files::{Declaration, Initial, Variable};
-use ot_c_names::{is_taken, own_name};
+use ot_c_names::{CArray, is_taken, own_name};
 use ot_c_scope::kind::{holds, holds_below, is_signed};
 use ot_c_scope::{CFault, Meaning, Reason, Scope, constant};
 use ot_c_words::{IntegerType, Name};
@@ -19,32 +20,6 @@ use ot_program::is_name;
 use std::alloc::{AllocError, Global};
 
 const MAX_CELLS: u64 = 65_536;
-
-/// An array of the program, with its cells as it begins: those that the text gives numbers to, and so many zeros behind
-/// them. Numbers below zero stand modulo 2^64.
-#[derive(Debug, Drop)]
-pub struct CArray {
-    pub name: String,
-    pub cells: Vec<u64>,
-    pub zeros: u32,
-}
-
-/// How many cells an array has.
-pub fn cell_count(array: &CArray) -> usize
-    ensures { result ≡ length (c_array array.now).cells }
-{
-    array.cells.len() + array.zeros as usize
-}
-
-/// All cells of an array as it begins.
-pub fn all_cells(alloc: Global, array: &CArray) -> Result<Vec<u64>, AllocError>
-    ensures { IfOk result (λ cells. cells.items ≡ (c_array array.now).cells) }
-{
-    let mut cells = array.cells.clone()?;
-    let zeros = vec![in alloc; 0u64; array.zeros as usize]?;
-    cells.extend_from_slice(&zeros)?;
-    Ok(cells)
-}
 
 /// What a file has declared so far: what its names mean, and its arrays in their order.
 #[derive(Debug, Drop)]

@@ -5,6 +5,7 @@ mod arrays;
 mod place;
 mod pointer;
 
-pub use arrays::{CArray, Declared, all_cells, cell_count, declaration, named, number_of};
+pub use arrays::{Declared, declaration, named, number_of};
+pub use ot_c_names::{CArray, all_cells, cell_count};
 pub use place::byte_of;
 pub use pointer::pointers;

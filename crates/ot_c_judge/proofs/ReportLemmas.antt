@@ -8,11 +8,12 @@ use Rattle.ot_check.specs.declared.fault.Offence.{Offence}
 use Rattle.ot_check.specs.declared.fault.Offence.TheVariants.{NotDeclared, ChildBeyond, ReductionMisuse, ConflictsWithChild, EndsWithChildren}
 use Rattle.ot_race_order.specs.declared.order.Order.{Order}
 use Rattle.ot_program.specs.declared.fault.Refusal.{Refusal}
-use Rattle.ot_c_judge.specs.Start.{numbers_of, shape_of, starting_cells}
+use Rattle.ot_c_judge.specs.Start.{shape_of, starting_cells}
 use Rattle.ot_c_judge.specs.Sites.{Source}
 use Rattle.ot_c_judge.specs.Lacks.{lacks_by}
 use Rattle.ot_c_judge.specs.Reports.{ReportsRead, Told}
-use Rattle.ot_c_judge.specs.declared.lowered.CArray.{CArray}
+use Rattle.ot_c_names.specs.Arrays.{initial_cells}
+use Rattle.ot_c_names.specs.declared.array.CArray.{CArray}
 
 pub if_both : {A E : Type 0} (r : Result A E) (P Q R : A → Type 0) → ((x : A) → P x → Q x → R x) → IfOk r P → IfOk r Q → IfOk r R
 if_both (Ok x) P Q R f h k = f x h k
@@ -20,7 +21,7 @@ if_both (Err e) P Q R f h k = h
 
 pub same_lengths : (arrays : List CArray) → lengths (starting_cells arrays) ≡ array_lengths (shape_of arrays)
 same_lengths [] = refl
-same_lengths (a ∷ others) = ap (λ ls. length (numbers_of a) ∷ ls) (same_lengths others)
+same_lengths (a ∷ others) = ap (λ ls. length (initial_cells a) ∷ ls) (same_lengths others)
 
 pub none_lacks : (offence : Offence) → lacks_by offence None ≡ None
 none_lacks NotDeclared = refl

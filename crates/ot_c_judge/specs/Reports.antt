@@ -37,7 +37,7 @@ use Rattle.ot_c_judge.specs.Lacks.{lacks}
 use Rattle.ot_c_judge.specs.Findings.{Finds}
 use Rattle.ot_c_judge.specs.declared.finding.Finding.{Finding}
 use Rattle.ot_c_judge.specs.declared.finding.Finding.TheVariants.{InRun, OnWay, Nowhere, OnlyRun}
-use Rattle.ot_c_judge.specs.declared.lowered.Lowered.{Lowered}
+use Rattle.ot_c_judge.specs.declared.c_program.CProgram.{CProgram}
 use Rattle.ot_c_judge.specs.declared.report.Report.{Report}
 use Rattle.ot_c_judge.specs.declared.report.Verdict.{Verdict}
 use Rattle.ot_c_judge.specs.declared.report.Verdict.TheVariants as v
@@ -206,11 +206,11 @@ abbrev pub ReportsRead : Source → List (List ℕ) → Result Expanded Refusal 
 ReportsRead s cells (Ok program) told = ReportsProgram s cells program.body told
 ReportsRead s cells (Err refusal) told = told ≡ None
 
-abbrev pub source_of : List ℕ → List ℕ → Lowered → Source
+abbrev pub source_of : List ℕ → List ℕ → CProgram → Source
 source_of name text lowered =
     record { name = name; text = text; request = run_of (view lowered.program); arrays = array_names_of lowered.arrays.items; bytes = lowered.places.items; order = lowered.order }
 
 -- of what stands for a C text
-abbrev pub Reports : List ℕ → List ℕ → Lowered → Told → Type 0
+abbrev pub Reports : List ℕ → List ℕ → CProgram → Told → Type 0
 Reports name text lowered told =
     ReportsRead (source_of name text lowered) (starting_cells lowered.arrays.items) (program_of (shape_of lowered.arrays.items) (view lowered.program)) told

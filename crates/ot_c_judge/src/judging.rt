@@ -15,16 +15,17 @@ ghost use Rattle.ot_c_judge.specs.Lacks.{lacks};
 ghost use Rattle.ot_c_judge.specs.Reports.{Reports, ReportsRead, ReportsProgram, ReportsRun, ReportsFinding, has_red_items, run_of, told_by};
 ghost use Rattle.ot_c_judge.specs.Reports as meant;
 
+use crate::c_program::CProgram;
 use crate::doing::done_at;
 use crate::finding::{Finding, find};
 use crate::found::find_in;
 use crate::lacks::lacks_by;
 use crate::line::cell_text;
-use crate::lowered::{CArray, Lowered};
 use crate::report::{Report, Verdict};
 use crate::source::{Site, Source};
 use crate::start::{cells_of, shape_of};
 use crate::telling::{advice, here_told, more_races, only_run, other_told, refused};
+use ot_c_names::CArray;
 use ot_c_overlap::first_overlap;
 use ot_check::{Offence, first_offence};
 use ot_file_diagnosis::{Code, Diagnosis, Remark, Severity};
@@ -42,11 +43,11 @@ pub fn report_c(
     alloc: Global,
     name: &str,
     text: &[u8],
-    lowered: Lowered,
+    lowered: CProgram,
 ) -> Result<Option<Report>, AllocError>
     ensures { IfOk result (λ told. Reports name.now text.now lowered (told_by told)) }
 {
-    let Lowered {
+    let CProgram {
         arrays,
         program,
         places,

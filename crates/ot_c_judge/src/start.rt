@@ -1,20 +1,14 @@
 //! What a C program begins with.
-ghost use Rattle.std.specs.Prelude.{◌≡◌, length, IfOk};
-ghost use Rattle.ot_c_judge.specs.Start.{starting_cells, numbers_of, shape_of};
+ghost use Rattle.std.specs.Prelude.{◌≡◌, IfOk};
+ghost use Rattle.ot_c_names.specs.Arrays.{initial_cells};
+ghost use Rattle.ot_c_judge.specs.Start.{starting_cells, shape_of};
 
-use crate::lowered::CArray;
+use ot_c_names::{CArray, cell_count};
 use ot_model::{ArrayShape, Cells, Shape};
 use std::alloc::{AllocError, Global};
 
 /// How many task statements a program may have: no fewer than statements.
 pub(crate) const MAX_TASKS: u32 = 20_000;
-
-/// How many numbers an array has.
-fn number_count(array: &CArray) -> usize
-    ensures { result ≡ length (numbers_of array.now) }
-{
-    array.cells.len() + array.zeros as usize
-}
 
 /// Names and lengths of arrays, fewer than 2^32 and each shorter.
 pub(crate) fn shape_of(alloc: Global, arrays: &[CArray]) -> Result<Shape, AllocError>
@@ -22,7 +16,7 @@ pub(crate) fn shape_of(alloc: Global, arrays: &[CArray]) -> Result<Shape, AllocE
 {
     let mut named = Vec::new(alloc);
     for array in arrays {
-        let Ok(len) = u32::try_from(number_count(array)) else {
+        let Ok(len) = u32::try_from(cell_count(array)) else {
             return Err(AllocError);
         };
         let name = String::from_str(alloc, array.name.as_str())?;
@@ -36,7 +30,7 @@ pub(crate) fn shape_of(alloc: Global, arrays: &[CArray]) -> Result<Shape, AllocE
 
 /// All numbers of an array at the start, of which none is copied.
 fn all_numbers(alloc: Global, array: CArray) -> Result<Vec<u64>, AllocError>
-    ensures { IfOk result (λ numbers. numbers.items ≡ numbers_of array) }
+    ensures { IfOk result (λ numbers. numbers.items ≡ initial_cells array) }
 {
     let mut numbers = array.cells;
     let zeros = vec![in alloc; 0u64; array.zeros as usize]?;

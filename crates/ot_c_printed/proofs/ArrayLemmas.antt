@@ -3,7 +3,7 @@ use Rattle.std.proofs.Common.{◌≡◌, ◌∙◌, List, [], ◌∷◌, ◌==�
 use Rattle.std.proofs.lemmas.Bool.Decides.{nat_tests}
 use Rattle.std.specs.Prelude.{◌↔◌, IsTrue}
 use Rattle.ot_c_arrays.specs.Arrays.{Arr, c_array}
-use Rattle.ot_c_arrays.specs.declared.arrays.CArray.{CArray}
+use Rattle.ot_c_names.specs.declared.array.CArray.{CArray}
 
 is_empty : List Arr → Bool
 is_empty [] = true

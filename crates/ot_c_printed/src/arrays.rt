@@ -3,7 +3,8 @@ ghost use Rattle.std.specs.Prelude.{◌≡◌, ◌<◌, ◌^◌, ◌↔◌, IfOk
 ghost use Rattle.ot_model.specs.Programs.{arrays_of, expanded_of};
 ghost use Rattle.ot_show_c.specs.Programs.{c_declared, lists_of};
 ghost use Rattle.ot_show_c.specs.Programs as written;
-ghost use Rattle.ot_c_arrays.specs.Arrays.{c_array, with_zeros};
+ghost use Rattle.ot_c_names.specs.Arrays.{with_zeros};
+ghost use Rattle.ot_c_arrays.specs.Arrays.{c_array};
 ghost use Rattle.ot_c_printed.specs.Printed.{starting_array, named_arrays, arrays_shape};
 
 use ot_c_program::CArray;

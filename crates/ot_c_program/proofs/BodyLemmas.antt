@@ -7,7 +7,7 @@ use Rattle.ot_c_scope.specs.declared.fault.CFault.{CFault}
 use Rattle.ot_c_scope.specs.declared.fault.CFault.TheVariants as errors
 use Rattle.ot_c_scope.specs.Results.{Refusal, FailsAs}
 use Rattle.ot_c_scope.specs.Scopes.{Around}
-use Rattle.ot_c_program.specs.Lines.{L, Lowered}
+use Rattle.ot_c_lines.specs.Lines.{L, Lowered}
 use Rattle.ot_c_program.specs.Statements.{Origin, lines_behind, lowered_statement, body_from}
 use Rattle.ot_c_arrays.proofs.EachLemmas.{front}
 

@@ -11,7 +11,7 @@ use Rattle.ot_c_scope.specs.Results.{Refusal, FailsAs}
 use Rattle.ot_c_scope.specs.Scopes.{Around, text_of, with_turn}
 use Rattle.ot_c_arrays.specs.Each.{each_or_refused}
 use Rattle.ot_c_arrays.proofs.EachLemmas.{front}
-use Rattle.ot_c_program.specs.Lines.{L, Lowered, none}
+use Rattle.ot_c_lines.specs.Lines.{L, Lowered, none}
 use Rattle.ot_c_program.specs.Statements.{Origin, LoopRange, lines_behind, bounds, loop_turn}
 use Rattle.ot_c_program.specs.Turns.{has_branch, has_branch_one, turn_step, turned_lines, turned_from, turns_of}
 

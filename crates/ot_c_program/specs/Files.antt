@@ -24,7 +24,7 @@ use Rattle.ot_c_clauses.specs.declared.own.Taking.{Taking}
 use Rattle.ot_c_clauses.specs.declared.own.Taking.TheVariants.{ByName, ByPointer}
 use Rattle.ot_c_arrays.specs.Arrays.{D, declared_view, Arr, c_array, with_meaning, name_number, outside, declare_all}
 use Rattle.ot_c_arrays.specs.Each.{each_or_refused}
-use Rattle.ot_c_program.specs.Lines.{L, Took, lines_of, none, both_lines}
+use Rattle.ot_c_lines.specs.Lines.{L, Took, lines_of, none, both_lines}
 use Rattle.ot_c_program.specs.declared.statements.Loops.{Loops}
 use Rattle.ot_c_program.specs.declared.statements.Loops.TheVariants.{AsTheyStand, ByTurns}
 use Rattle.ot_c_program.specs.Statements.{Twice, called_of, Origin}

@@ -1,6 +1,3 @@
-pub mod Lines
-pub mod Assignments
-pub mod Extremes
 pub mod Statements
 pub mod Turns
 pub mod Regions

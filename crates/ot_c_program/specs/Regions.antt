@@ -17,7 +17,7 @@ use Rattle.ot_c_scope.specs.declared.scope.Meaning.TheVariants as m
 use Rattle.ot_c_scope.specs.Results.{◌>>=◌}
 use Rattle.ot_c_clauses.specs.Clauses.{heading}
 use Rattle.ot_c_arrays.specs.Arrays.{outside}
-use Rattle.ot_c_program.specs.Lines.{L, Lowered}
+use Rattle.ot_c_lines.specs.Lines.{L, Lowered}
 use Rattle.ot_c_program.specs.Statements.{Origin, directive_name_at, group}
 use Rattle.ot_c_program.specs.Turns.{written_body}
 

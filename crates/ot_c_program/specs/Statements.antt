@@ -26,12 +26,12 @@ use Rattle.ot_c_program.specs.declared.statements.Became.TheVariants as got
 use Rattle.ot_c_program.specs.declared.statements.Called.{Called}
 use Rattle.ot_c_program.specs.declared.statements.Loops.{Loops}
 use Rattle.ot_c_program.specs.declared.statements.Source.{Source}
-use Rattle.ot_c_program.specs.Assignments.{assignment}
-use Rattle.ot_c_program.specs.Extremes.{Extremum, kept_if, extreme_folded}
+use Rattle.ot_c_lines.specs.Assignments.{assignment}
+use Rattle.ot_c_lines.specs.Extremes.{Extremum, kept_if, extreme_folded}
 use Rattle.ot_c_clauses.specs.Clauses.{Head, heading, group_operation}
 use Rattle.ot_c_clauses.specs.declared.own.Taking.{Taking}
 use Rattle.ot_c_arrays.specs.Each.{each_or_refused}
-use Rattle.ot_c_program.specs.Lines.{L, Lowered, lines_of, none, one_statement, one_with, both_lines}
+use Rattle.ot_c_lines.specs.Lines.{L, Lowered, lines_of, none, one_statement, one_with, both_lines}
 use Rattle.ot_c_clauses.specs.Operations.{operation_word}
 
 abbrev pub became_of : Became → Lowered

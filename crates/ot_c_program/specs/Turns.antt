@@ -17,8 +17,8 @@ use Rattle.ot_c_meaning.specs.Values.{value}
 use Rattle.ot_c_arrays.specs.Each.{each_or_refused}
 use Rattle.ot_c_program.specs.declared.statements.Loops.{Loops}
 use Rattle.ot_c_program.specs.declared.statements.Loops.TheVariants.{AsTheyStand, ByTurns}
-use Rattle.ot_c_program.specs.Extremes.{Extremum, kept_if}
-use Rattle.ot_c_program.specs.Lines.{L, Lowered, none, first_place, both_lines}
+use Rattle.ot_c_lines.specs.Extremes.{Extremum, kept_if}
+use Rattle.ot_c_lines.specs.Lines.{L, Lowered, none, first_place, both_lines}
 use Rattle.ot_c_program.specs.Statements.{Origin, LoopRange, lines_behind, bounds, branch, loop_lines, loop_turn, task_head, task, group_head, group, extreme_kept, lowered_statement, body_from, body}
 
 -- ---- numbers that are known

@@ -1,10 +1,7 @@
 //! Files of C with OpenMP become programs of the language.
 #![tactic(auto)]
 
-mod assignment;
-mod extreme;
 mod known;
-mod lines;
 mod lowered;
 mod region;
 mod statements;

@@ -8,12 +8,11 @@ ghost use Rattle.ot_c_scope.specs.Results.{GivesAs};
 ghost use Rattle.ot_c_scope.specs.Constants as constants;
 ghost use Rattle.ot_c_arrays.specs.Arrays.{declared_view, c_array, outside};
 ghost use Rattle.ot_c_arrays.specs.Places as sites;
-ghost use Rattle.ot_c_program.specs.Lines.{lines_of};
+ghost use Rattle.ot_c_lines.specs.Lines.{lines_of};
 ghost use Rattle.ot_c_program.specs.Statements.{became_of, called_of, source_of};
 ghost use Rattle.ot_c_program.specs.Files.{before_of, progress_of, lowered_of};
 ghost use Rattle.ot_c_program.specs.Files as meant;
 
-use crate::lines::{Lines, joined, no_lines};
 use crate::region::{ended, region};
 use crate::statements::{Became, Called, Loops, Source};
 use crate::turns::{written, written_body};
@@ -21,6 +20,7 @@ use ot_c_arrays::{CArray, Declared, byte_of, cell_count, declaration, named, num
 use ot_c_clauses::Taking;
 use ot_c_expressions::{Expr, left_of};
 use ot_c_files::{File, Step, Top};
+use ot_c_lines::{Lines, both_lines, no_lines};
 use ot_c_scope::{CFault, Meaning, Reason, Scope, constant, json};
 use ot_c_statements::Stmt;
 use ot_c_words::{IntegerType, Name, Words};
@@ -250,7 +250,7 @@ fn behind(declared: Declared, lines: Lines, more: Lines) -> Result<Progress, CFa
 {
     Ok(Progress {
         declared,
-        lines: joined(lines, more)?,
+        lines: both_lines(lines, more)?,
     })
 }
 

@@ -4,15 +4,15 @@ ghost use Rattle.std.specs.List.{list_any};
 ghost use Rattle.ot_c_expressions.specs.Tree.{items_of, clause_of, clauses_of};
 ghost use Rattle.ot_c_statements.specs.Tree.{stmt_of, list_of, body_of};
 ghost use Rattle.ot_c_scope.specs.Results.{GivesAs};
-ghost use Rattle.ot_c_program.specs.Lines.{lines_of};
+ghost use Rattle.ot_c_lines.specs.Lines.{lines_of};
 ghost use Rattle.ot_c_program.specs.Statements.{source_of};
 ghost use Rattle.ot_c_program.specs.Regions as meant;
 
-use crate::lines::Lines;
 use crate::statements::{Source, group, name_at};
 use crate::turns::written_body;
 use ot_c_clauses::headed;
 use ot_c_expressions::{Clause, Item, Operation, Role};
+use ot_c_lines::Lines;
 use ot_c_scope::{CFault, Meaning, Reason, Scope};
 use ot_c_statements::Stmt;
 use ot_c_words::{Name, Words};

@@ -5,16 +5,17 @@ ghost use Rattle.ot_c_expressions.specs.Tree.{expr_of, clauses_of};
 ghost use Rattle.ot_c_statements.specs.Tree.{aim_of, course_of, exprs_of, site_of, stmt_of, list_of, body_of};
 ghost use Rattle.ot_c_scope.specs.Results.{GivesAs};
 ghost use Rattle.ot_c_clauses.specs.Clauses.{head_of};
-ghost use Rattle.ot_c_program.specs.Extremes.{kept_of};
-ghost use Rattle.ot_c_program.specs.Lines.{lines_of};
+ghost use Rattle.ot_c_lines.specs.Extremes.{kept_of};
+ghost use Rattle.ot_c_lines.specs.Lines.{lines_of};
 ghost use Rattle.ot_c_program.specs.Statements.{bounds_of, called_of, source_of};
 ghost use Rattle.ot_c_program.specs.Statements as meant;
 
-use crate::assignment::assignment;
-use crate::extreme::{Extreme, folded, kept_if};
-use crate::lines::{Lines, copy, joined, no_lines, one_line, one_line_with};
 use ot_c_clauses::{Heading, Taking, group_operation, headed, no_cells, operation_word};
 use ot_c_expressions::{Clause, Expr, Operation, Sign, left_of};
+use ot_c_lines::{
+    Extreme, Lines, assignment, both_lines, extreme_folded, kept_if, lines_copy, no_lines,
+    one_line, one_line_with,
+};
 use ot_c_meaning::value;
 use ot_c_scope::kind::is_word;
 use ot_c_scope::{CFault, Reason, Scope, Sense, Turn, json, size};
@@ -77,7 +78,7 @@ fn read_step(
     ensures { GivesAs lines_of result (meant.read_step scope.now left (lines_of lines) (expr_of expr.now)) }
 {
     let more = read(alloc, scope, left, expr)?;
-    joined(lines, more)
+    both_lines(lines, more)
 }
 
 /// Values that are printed are read.
@@ -365,7 +366,7 @@ fn once_more(alloc: Global, became: &Became) -> Result<Lines, CFault>
     ensures { GivesAs lines_of result (meant.became_of became.now) }
 {
     match became {
-        Became::Lines(lines) => Ok(copy(alloc, lines)?),
+        Became::Lines(lines) => Ok(lines_copy(alloc, lines)?),
         Became::Outside(left, reason) => Err(CFault::Outside(*left, *reason)),
     }
 }
@@ -444,7 +445,7 @@ pub(crate) fn kept(
 ) -> Result<Lines, CFault>
     ensures { GivesAs lines_of result (meant.extreme_kept scope.now left (kept_of extreme.now)) }
 {
-    let statement = folded(alloc, scope, extreme)?;
+    let statement = extreme_folded(alloc, scope, extreme)?;
     Ok(one_line(alloc, left, statement, Vec::new(alloc))?)
 }
 
@@ -511,7 +512,7 @@ fn body_step<'a>(
     ensures { GivesAs lines_of result (meant.lines_behind (lines_of lines) (meant.lowered_statement (source_of source.now) scope.now (stmt_of stmt.now))) }
 {
     let more = statement(alloc, source, scope, stmt)?;
-    joined(lines, more)
+    both_lines(lines, more)
 }
 
 /// Statements.

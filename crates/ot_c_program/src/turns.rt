@@ -5,17 +5,16 @@ ghost use Rattle.ot_c_statements.specs.Tree.{stmt_of, list_of, body_of};
 ghost use Rattle.ot_c_scope.specs.Results.{GivesAs};
 ghost use Rattle.ot_c_arrays.specs.Each.{each_or_refused};
 ghost use Rattle.ot_why_place.specs.Spots.{trail_bindings};
-ghost use Rattle.ot_c_program.specs.Lines.{lines_of, none};
+ghost use Rattle.ot_c_lines.specs.Lines.{lines_of, none};
 ghost use Rattle.ot_c_program.specs.Statements.{bounds_of, source_of, lines_behind};
 ghost use Rattle.ot_c_program.specs.Turns as meant;
 
-use crate::extreme::kept_if;
 use crate::known::known;
-use crate::lines::{Lines, first_place, joined, no_lines};
 use crate::statements::{
     Bounds, Loops, Source, body, bounded, branch, group, group_heading, kept, repeated, statement,
     task, task_heading, turn_of,
 };
+use ot_c_lines::{Lines, both_lines, first_place, kept_if, no_lines};
 use ot_c_meaning::value;
 use ot_c_scope::{CFault, Reason, Scope};
 use ot_c_statements::Stmt;
@@ -97,7 +96,7 @@ fn within_words(words: usize, one: Lines, two: Lines) -> Result<Lines, CFault>
     if one.places.len() + two.places.len() > MAX_WORDS / words.max(1) {
         return Err(CFault::Outside(first_place(&two), Reason::TooMany));
     }
-    joined(one, two)
+    both_lines(one, two)
 }
 
 /// One turn of a loop.
@@ -279,7 +278,7 @@ fn turned_step<'a>(
     ensures { GivesAs lines_of result (lines_behind (lines_of lines) (meant.turned_lines (source_of course.now.source) (trail_bindings course.now.numbers) scope.now (stmt_of stmt.now))) }
 {
     let more = turned(alloc, course, scope, stmt)?;
-    joined(lines, more)
+    both_lines(lines, more)
 }
 
 /// Statements.

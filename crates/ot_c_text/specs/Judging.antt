@@ -1,30 +1,25 @@
 -- What is told of a text in C.
-use Rattle.std.specs.Prelude.{◌≡◌, ℕ, List, map, None, Ok, Err, string_bytes}
+use Rattle.std.specs.Prelude.{◌≡◌, ℕ, List, map, None, Ok, Err}
 use Rattle.serde_json.specs.View.{view}
 use Rattle.ot_race_order.specs.declared.order.Order.{Order}
 use Rattle.ot_race_order.specs.declared.order.Order.TheVariants.{OfC, OfCByPointers}
 use Rattle.ot_c_judge.specs.Reports.{Reports, Told}
-use Rattle.ot_c_judge.specs.Start.{numbers_of}
-use Rattle.ot_c_judge.specs.declared.lowered.CArray.{CArray}
-use Rattle.ot_c_judge.specs.declared.lowered.Lowered.{Lowered}
-use Rattle.ot_c_arrays.specs.Arrays.{Arr}
+use Rattle.ot_c_judge.specs.declared.c_program.CProgram.{CProgram}
+use Rattle.ot_c_arrays.specs.Arrays.{c_array}
 use Rattle.ot_c_program.specs.Files.{Program}
 use Rattle.ot_c_program.specs.declared.lowered.Reductions.{Reductions}
 use Rattle.ot_c_program.specs.declared.lowered.Reductions.TheVariants as r
 use Rattle.ot_c_text.specs.Reading.{Meant, Means}
 
-abbrev pub judged_array : CArray → Arr
-judged_array a = record { name = string_bytes a.name; cells = numbers_of a }
-
 -- this program is judged, where this orders its tasks
-pub record IsJudged (by : Order) (p : Program) (l : Lowered) : Type 0 where
-  pub arrays : map judged_array l.arrays.items ≡ p.arrays
+pub record IsJudged (by : Order) (p : Program) (l : CProgram) : Type 0 where
+  pub arrays : map c_array l.arrays.items ≡ p.arrays
   pub program : view l.program ≡ p.program
   pub places : l.places.items ≡ p.places
   pub order : l.order ≡ by
 
 abbrev pub JudgesBy : Order → List ℕ → List ℕ → Program → Told → Type 0
-JudgesBy order name text program told = (l : Lowered) × IsJudged order program l × Reports name text l told
+JudgesBy order name text program told = (l : CProgram) × IsJudged order program l × Reports name text l told
 
 -- Of a program whose tasks take part in reductions so. By names that makes no dependence in C, where `red` makes one in the language.
 -- By pointers there is the one of `depend(in: ..)`, which `red` stands for. By both a fold is into the task's copy. Where some do so and

@@ -1,13 +1,12 @@
 //! A text, judged.
-ghost use Rattle.std.specs.Prelude.{◌≡◌, map, IfOk};
+ghost use Rattle.std.specs.Prelude.{IfOk};
 ghost use Rattle.ot_c_program.specs.Files.{lowered_of};
 ghost use Rattle.ot_c_judge.specs.Reports.{told_by};
-ghost use Rattle.ot_c_arrays.specs.Arrays.{c_array};
-ghost use Rattle.ot_c_text.specs.Judging.{Judges, JudgesProgram, JudgesBy, IsJudged, judged_array};
+ghost use Rattle.ot_c_text.specs.Judging.{Judges, JudgesProgram, JudgesBy, IsJudged};
 
 use crate::reading::{Meaning, meaning_of};
-use ot_c_judge::{Order, Report, report_c};
-use ot_c_program::Reductions;
+use ot_c_judge::{CProgram, Order, Report, report_c};
+use ot_c_program::{Lowered, Reductions};
 use std::alloc::{AllocError, Global};
 
 /// Judges a text of this name, and tells what is found. Nothing is told where it means no program that can be judged.
@@ -26,7 +25,7 @@ fn judge_program(
     alloc: Global,
     name: &str,
     text: &[u8],
-    lowered: ot_c_program::Lowered,
+    lowered: Lowered,
 ) -> Result<Option<Report>, AllocError>
     ensures { IfOk result (λ told. JudgesProgram name.now text.now (lowered_of lowered) lowered.reductions (told_by told)) }
 {
@@ -42,51 +41,21 @@ fn judge_by(
     name: &str,
     text: &[u8],
     order: Order,
-    lowered: ot_c_program::Lowered,
+    lowered: Lowered,
 ) -> Result<Option<Report>, AllocError>
     ensures { IfOk result (λ told. JudgesBy order name.now text.now (lowered_of lowered) (told_by told)) }
 {
-    let judged = judged(alloc, order, lowered)?;
-    report_c(alloc, name, text, judged)
+    report_c(alloc, name, text, judged(order, lowered))
 }
 
-/// A program as it is judged, where this orders its tasks.
-fn judged(
-    alloc: Global,
-    order: Order,
-    lowered: ot_c_program::Lowered,
-) -> Result<ot_c_judge::Lowered, AllocError>
-    ensures { IfOk result (IsJudged order (lowered_of lowered)) }
+/// A program as it is judged, where this orders its tasks. None of its cells is copied.
+fn judged(order: Order, lowered: Lowered) -> CProgram
+    ensures { IsJudged order (lowered_of lowered) result }
 {
-    let arrays = judged_arrays(alloc, lowered.arrays)?;
-    Ok(ot_c_judge::Lowered {
-        arrays,
+    CProgram {
+        arrays: lowered.arrays,
         program: lowered.program,
         places: lowered.places,
         order,
-    })
-}
-
-/// The arrays with their cells, of which none is copied.
-fn judged_arrays(
-    alloc: Global,
-    arrays: Vec<ot_c_program::CArray>,
-) -> Result<Vec<ot_c_judge::CArray>, AllocError>
-    ensures { IfOk result (λ judged. map judged_array judged.items ≡ map c_array arrays.items) }
-{
-    let mut judged = Vec::new(alloc);
-    for array in arrays {
-        judged.push(judged_array(array))?;
-    }
-    Ok(judged)
-}
-
-fn judged_array(array: ot_c_program::CArray) -> ot_c_judge::CArray
-    ensures { judged_array result ≡ c_array array }
-{
-    ot_c_judge::CArray {
-        name: array.name,
-        cells: array.cells,
-        zeros: array.zeros,
     }
 }

@@ -1,13 +1,13 @@
 //! A text, executed and judged.
 use crate::drawing::drawn;
 use crate::placing::origin_of;
-use crate::reading::{Given, Placed, Read, Reading, byte_of, reading_of};
 use crate::reason::of_run;
 use crate::telling::{
     Source, more_races, of_file, outside, put_note, race_found, with_assumed, wrong,
 };
 use ot_exec_code::Form;
 use ot_exec_machine::{Fault, Limits, Reason, Run, run_code};
+use ot_exec_reading::{Given, Placed, Read, Reading, byte_of, reading_of};
 use ot_exec_tokens::Whole;
 use ot_exec_verdict::{Bounds, Finding, finding_of};
 use ot_file_diagnosis::{Code, Diagnosis, Severity};

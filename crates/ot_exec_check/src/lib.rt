@@ -1,14 +1,11 @@
 //! A text of C with OpenMP, executed and judged.
 #![tactic(auto)]
 
-mod beyond;
-mod cast;
 mod drawing;
 mod judging;
 mod label;
 mod naming;
 mod placing;
-mod reading;
 mod reason;
 mod telling;
 

@@ -1,8 +1,8 @@
 //! How cells are called.
 use crate::placing::line_text;
-use crate::reading::{Reading, byte_of};
 use ot_exec_layout::{Sort, is_uneven};
 use ot_exec_machine::Run;
+use ot_exec_reading::{Reading, byte_of};
 use ot_exec_tokens::Whole;
 use ot_exec_tree::{Type, Unit};
 use ot_model::Cell;

@@ -2,9 +2,9 @@
 use crate::judging::{Judged, Verdict};
 use crate::naming::cell_name;
 use crate::placing::{origin_of, place_text, remark_at};
-use crate::reading::{Reading, byte_of};
 use ot_exec_machine::{Context, Entered, Run};
 use ot_exec_outline::Noted;
+use ot_exec_reading::{Reading, byte_of};
 use ot_exec_tokens::{Kind, Mark, Whole};
 use ot_file_diagnosis::{Code, Diagnosis, Remark, Severity, Turn};
 use ot_model::{Cell, Mode};

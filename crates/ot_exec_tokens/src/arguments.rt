@@ -1,8 +1,6 @@
 //! The arguments of a macro.
-use crate::fault::{ReadError, Why};
 use crate::macros::Macro;
-use crate::mark::Mark;
-use crate::raw::{Raw, RawKind};
+use ot_exec_lexemes::{Mark, Raw, RawKind, ReadError, Why};
 use std::alloc::Global;
 
 /// How many tokens arguments have at most.

@@ -1,11 +1,8 @@
 //! The tests of `#if` (ISO C11, section 6.10.1), on 64 bits. A name that is no macro is 0.
-use crate::mark::Mark;
-use crate::names::Names;
-use crate::number::{is_unsigned, letter_of, number_of};
-use crate::raw::{Raw, RawKind};
-use crate::spelling::spelling;
-use crate::token::Kind;
 use crate::value::{Value, joined, signed};
+use ot_exec_lexemes::{
+    Kind, Mark, Names, Raw, RawKind, character_of, is_unsigned, number_of, spelling,
+};
 
 /// A test, and how its tokens are spelled.
 #[derive(Clone, Copy)]
@@ -132,7 +129,7 @@ impl Test<'_> {
         let text = spelling(raw, self.names, self.spelled);
         let is_letter = matches!(raw.kind, RawKind::Letter);
         let kind = if is_letter {
-            letter_of(text)?
+            character_of(text)?
         } else {
             number_of(text)?
         };

@@ -1,14 +1,9 @@
 //! Lines and directives (ISO C11, section 6.10).
 use crate::condition::Test;
 use crate::expand::MAX_DEPTH;
-use crate::fault::{ReadError, Why};
 use crate::macros::Macro;
-use crate::mark::Mark;
-use crate::raw::{Raw, RawKind};
 use crate::reader::Reader;
-use crate::spelling::{part, spelling, unquoted};
-use crate::token::Kind;
-use crate::word;
+use ot_exec_lexemes::{Kind, Mark, Raw, RawKind, ReadError, Why, part, spelling, unquoted, word};
 use std::alloc::{AllocError, Global};
 
 /// An `#if` that is open.

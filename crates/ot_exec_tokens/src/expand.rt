@@ -1,11 +1,8 @@
 //! Macros, replaced (ISO C11, sections 6.10.3.1 and 6.10.3.4).
 use crate::arguments::arguments;
-use crate::fault::{ReadError, Why};
 use crate::macros::Macro;
-use crate::mark::Mark;
-use crate::raw::{Raw, RawKind};
 use crate::reader::Reader;
-use crate::token::Origin;
+use ot_exec_lexemes::{Mark, Origin, Raw, RawKind, ReadError, Why};
 
 /// How deep macros stand in arguments of macros.
 pub(crate) const MAX_DEPTH: u32 = 60;

@@ -1,5 +1,5 @@
 //! Macros (ISO C11, section 6.10.3).
-use crate::raw::Raw;
+use ot_exec_lexemes::Raw;
 use std::alloc::{AllocError, Global};
 
 /// What a name stands for.

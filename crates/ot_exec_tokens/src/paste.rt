@@ -1,9 +1,8 @@
 //! Tokens that become one, or a string.
-use crate::fault::ReadError;
-use crate::mark::{Mark, mark_of};
-use crate::raw::{Raw, RawKind, is_name_start, name_of};
 use crate::reader::Reader;
-use crate::spelling::{quoted, spelling};
+use ot_exec_lexemes::{
+    Mark, Raw, RawKind, ReadError, is_name_start, mark_of, name_of, quoted, spelling,
+};
 use std::alloc::AllocError;
 
 fn is_paste(raw: Option<&Raw>) -> bool {

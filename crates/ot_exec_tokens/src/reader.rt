@@ -1,13 +1,10 @@
 //! A text, preprocessed.
-use crate::fault::{Fault, ReadError, Why};
-use crate::letter::letters_of;
 use crate::macros::{Hidden, Macro};
-use crate::names::Names;
-use crate::number::{letter_of, number_of};
-use crate::raw::{Raw, RawKind, raws_of};
-use crate::spelling::{spelling, text_len};
-use crate::token::{Kind, Token};
 use crate::whole::Whole;
+use ot_exec_lexemes::{
+    Fault, Kind, Names, Raw, RawKind, ReadError, Token, Why, character_of, letters_of, number_of,
+    raws_of, spelling, text_len,
+};
 use std::alloc::{AllocError, Global};
 use std::collections::BTreeMap;
 
@@ -89,7 +86,7 @@ impl<'a> Reader<'a> {
             RawKind::Name(name) => Some(Kind::Name(name)),
             RawKind::Mark(mark) => Some(Kind::Mark(mark)),
             RawKind::Text => Some(Kind::Text(text_len(text))),
-            RawKind::Letter => letter_of(text),
+            RawKind::Letter => character_of(text),
             RawKind::Number => number_of(text),
             RawKind::Other => return Err(ReadError::new(raw.at, Why::NoToken)),
         };

@@ -1,7 +1,7 @@
 //! Values in tests of `#if`: each has 64 bits, and a sign or none (ISO C11, section 6.10.1).
 ghost use Rattle.std.specs.Prelude.{◌≡◌, ◌<◌, ◌||◌, ◌↔◌, IsTrue, false};
 
-use crate::mark::Mark;
+use ot_exec_lexemes::Mark;
 
 #[derive(Clone, Copy)]
 pub(crate) struct Value {

@@ -1,5 +1,5 @@
 //! A text with those of the files that it includes.
-use crate::spelling::part;
+use ot_exec_lexemes::part;
 use std::alloc::{AllocError, Global};
 
 /// A file of a whole.

@@ -1,6 +1,6 @@
 use Rattle.std.proofs.lemmas.Result.{err_from_is_err_and}
 use Rattle.ot_c_statements.specs.Tree.{body_of, list_of}
-use Rattle.ot_c_program.specs.Lines.{lines_of}
+use Rattle.ot_c_lines.specs.Lines.{lines_of}
 use Rattle.ot_c_program.specs.Statements.{source_of, body}
 use Rattle.ot_c_program.proofs.BodyLemmas.{body_more, body_fails, body_last}
 use Rattle.ot_c_program.proofs.statements.+statement.Goals as goal

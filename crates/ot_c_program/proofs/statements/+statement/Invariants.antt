@@ -1,6 +1,6 @@
 use Rattle.std.proofs.Common.{◌≡◌, drop}
 use Rattle.ot_c_statements.specs.Tree.{body_of, list_of}
-use Rattle.ot_c_program.specs.Lines.{lines_of}
+use Rattle.ot_c_lines.specs.Lines.{lines_of}
 use Rattle.ot_c_program.specs.Statements.{source_of, body_from, body}
 use Rattle.ot_c_program.proofs.statements.+statement.Given as goal
 

@@ -1,7 +1,7 @@
 use Rattle.std.proofs.lemmas.Result.{err_from_is_err_and}
 use Rattle.ot_c_expressions.specs.Tree.{expr_of}
 use Rattle.ot_c_statements.specs.Tree.{exprs_of}
-use Rattle.ot_c_program.specs.Lines.{lines_of}
+use Rattle.ot_c_lines.specs.Lines.{lines_of}
 use Rattle.ot_c_program.specs.Statements.{read_step, print}
 use Rattle.ot_c_arrays.proofs.EachLemmas.{each_more, each_fails, each_last}
 use Rattle.ot_c_program.proofs.statements.print.Goals as goal

@@ -1,7 +1,7 @@
 use Rattle.std.proofs.Common.{◌≡◌, drop}
 use Rattle.ot_c_statements.specs.Tree.{exprs_of}
 use Rattle.ot_c_arrays.specs.Each.{each_or_refused}
-use Rattle.ot_c_program.specs.Lines.{lines_of}
+use Rattle.ot_c_lines.specs.Lines.{lines_of}
 use Rattle.ot_c_program.specs.Statements.{read_step, print}
 use Rattle.ot_c_program.proofs.statements.print.Given as goal
 

@@ -7,7 +7,7 @@ use Rattle.ot_c_scope.specs.Results.{GivesAs}
 use Rattle.ot_c_scope.specs.Scopes.{with_turn}
 use Rattle.ot_why_place.specs.Spots.{trail_bindings}
 use Rattle.ot_c_arrays.specs.Each.{each_or_refused}
-use Rattle.ot_c_program.specs.Lines.{lines_of, none}
+use Rattle.ot_c_lines.specs.Lines.{lines_of, none}
 use Rattle.ot_c_program.specs.Statements.{bounds_of, source_of, loop_turn}
 use Rattle.ot_c_program.specs.Turns.{has_branch, turn_step, turned_from, turns_of}
 use Rattle.ot_c_program.proofs.TurnLemmas.{body_more, body_fails, body_last, for_turns, turn_more, turn_fails, turn_last}

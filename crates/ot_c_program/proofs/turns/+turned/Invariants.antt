@@ -3,7 +3,7 @@ use Rattle.std.specs.List.{range_with_len}
 use Rattle.ot_c_statements.specs.Tree.{body_of, list_of}
 use Rattle.ot_why_place.specs.Spots.{trail_bindings}
 use Rattle.ot_c_arrays.specs.Each.{each_or_refused}
-use Rattle.ot_c_program.specs.Lines.{lines_of, none}
+use Rattle.ot_c_lines.specs.Lines.{lines_of, none}
 use Rattle.ot_c_program.specs.Statements.{bounds_of, source_of}
 use Rattle.ot_c_program.specs.Turns.{turn_step, turned_from}
 use Rattle.ot_c_program.proofs.turns.+turned.Given as goal

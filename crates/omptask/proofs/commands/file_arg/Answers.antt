@@ -1,7 +1,0 @@
-use Rattle.std.proofs.Common.{rules}
-use Rattle.omptask.specs.Grammar.{file_rule}
-use Rattle.omptask.proofs.commands.file_arg.Goals as goal
-
-pub returns-clause-rule : goal.returns-clause-rule
-unfolding file_rule
-returns-clause-rule c = search rules
